@@ -1,0 +1,5 @@
+pub mod Text
+pub mod TextMap
+pub mod Dimensions
+pub mod Facts
+pub mod Reports

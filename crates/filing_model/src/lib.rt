@@ -1,0 +1,12 @@
+//! What the repository of filing reports is, as plain data and functions.
+//!
+//! `specs/` has the definitions on which every contract above rests. This crate's Rust is the vocabulary that definitions and code share: enums without texts, with derives alone. It knows nothing of how anything is stored, shared, locked or read from a device.
+#![tactic(auto)]
+
+mod duplicates;
+mod faults;
+mod kind;
+
+pub use duplicates::{Allowed, Class, Pair};
+pub use faults::{DimFault, FactFault, NumberFault, TableFault, Trouble};
+pub use kind::Kind;
