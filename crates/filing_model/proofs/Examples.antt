@@ -1,0 +1,2 @@
+-- Worked examples: the definitions compute to what the standards and the project's own rules say of them.
+pub mod Numerals
