@@ -1,2 +1,4 @@
 -- Worked examples: the definitions compute to what the standards and the project's own rules say of them.
 pub mod Numerals
+pub mod Setting
+pub mod Histories

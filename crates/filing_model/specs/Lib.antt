@@ -6,3 +6,13 @@ pub mod Intervals
 pub mod Facts
 pub mod Duplicates
 pub mod Reports
+pub mod Repository
+pub mod Queries
+pub mod Calls
+pub mod Things
+pub mod Replies
+pub mod Sessions
+pub mod History
+pub mod Touches
+pub mod Lawful
+pub mod Versions
