@@ -123,5 +123,5 @@ end_result kind base copy Unended = base
 abbrev pub solo : Kind → Repository → List Call → Ending → SoloRun
 solo kind base calls ending = record {
   replies = reply.Opened ∷ solo_replies kind base calls ++ end_replies kind base (solo_copy kind base calls) ending;
-  result = end_result kind base (solo_copy kind base calls) ending
+  result = end_result kind base (solo_copy kind base calls) ending;
 }

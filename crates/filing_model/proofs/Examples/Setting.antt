@@ -36,6 +36,13 @@ raw value = raw_of (codes "ex:Name") value
 abbrev pub fact : Text → Fact
 fact value = fact_of (codes "ex:Name") value
 
+abbrev pub facts_from : List (Text × Fact) → TextMap Fact
+facts_from [] = empty
+facts_from (e ∷ es) = insert (facts_from es) e.0 e.1
+
+abbrev pub holding : Allowed → List (Text × Fact) → Report
+holding allowed facts = report_with allowed (facts_from facts)
+
 -- ---- steps, each with the session that takes it
 
 abbrev pub Line : Type 0
@@ -83,3 +90,8 @@ played lines = played_on [] lines
 -- the replies in order
 abbrev pub told : List Line → List Reply
 told lines = reverse (map (λ e. e.reply) (played lines))
+
+-- the history with another reply to its newest step
+abbrev pub with_last_reply : Reply → History → History
+with_last_reply r [] = []
+with_last_reply r (e ∷ older) = record e { reply = r } ∷ older
