@@ -1,0 +1,2 @@
+-- Worked examples of the definitions, which compute.
+pub mod Dimensions
