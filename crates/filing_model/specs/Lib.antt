@@ -1,6 +1,11 @@
 pub mod Text
 pub mod TextMap
+pub mod Try
 pub mod Dimensions
 pub mod Facts
 pub mod Prefixes
+pub mod Tables
 pub mod Reports
+pub mod JsonText
+pub mod ReadFact
+pub mod Writing
