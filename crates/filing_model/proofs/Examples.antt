@@ -1,2 +1,5 @@
--- Worked examples of the definitions, which compute.
+-- Worked examples: the definitions compute to what the standards and the project's own rules say of them.
+pub mod Numerals
 pub mod Dimensions
+pub mod Tables
+pub mod Facts

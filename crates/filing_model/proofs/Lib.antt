@@ -1,1 +1,2 @@
+pub mod OnLiterals
 pub mod Examples

@@ -1,9 +1,10 @@
 -- Dimension sets (xBRL-JSON 1.0, the `dimensions` object of a fact). The order and the limit on lengths are the project's own.
 use Rattle.std.specs.Prelude.{Bool, not, ◌&&◌, ◌||◌, nat_lt, if◌then◌else◌, List, [], ◌∷◌, length, map, codes, Option, None, Some, is_none, Result, Ok, Err}
-use Rattle.std.specs.List.{list_any}
 use Rattle.std.specs.declared.cmp.Ordering.{Ordering}
 use Rattle.std.specs.Ordering.{on, then_cmp, eq_by_cmp}
-use Rattle.std.specs.Option.{option_cmp}
+use Rattle.std.specs.FinMap.Entries.{find}
+use Rattle.std.specs.List.{list_any}
+use Rattle.std.specs.Option.{option_cmp, option_flatten}
 use Rattle.std.specs.Cmp.Lexicographic.{slice_cmp}
 use Rattle.filing_model.specs.Text.{Text, text_cmp, text_eq, has_repeats}
 use Rattle.filing_model.specs.TextMap.{from_entries}
@@ -27,6 +28,19 @@ core_names = codes "concept" ∷ codes "entity" ∷ codes "period" ∷ codes "un
 
 abbrev pub is_core : Text → Bool
 is_core name = list_any (text_eq name) core_names
+
+-- the value at a core dimension's name
+abbrev pub core_value : Text → Dims → Option Text
+core_value name dims = option_flatten (find text_cmp name dims)
+
+abbrev pub concept_of : Dims → Option Text
+concept_of dims = core_value (codes "concept") dims
+
+abbrev pub period_of : Dims → Option Text
+period_of dims = core_value (codes "period") dims
+
+abbrev pub unit_of : Dims → Option Text
+unit_of dims = core_value (codes "unit") dims
 
 -- whether the text has more than 4,096 bytes
 abbrev pub is_too_long : Text → Bool

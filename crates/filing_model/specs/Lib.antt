@@ -2,10 +2,15 @@ pub mod Text
 pub mod TextMap
 pub mod Try
 pub mod Dimensions
+pub mod Numerals
+pub mod Intervals
 pub mod Facts
+pub mod Duplicates
 pub mod Prefixes
 pub mod Tables
 pub mod Reports
 pub mod JsonText
 pub mod ReadFact
+pub mod ReadReport
+pub mod Fitted
 pub mod Writing

@@ -1,0 +1,58 @@
+-- Worked examples of numbers, which computing alone proves.
+use Rattle.std.specs.Prelude.{◌≡◌, ◌^◌, ◌-◌, pos, neg_ℤ, Ok, Err, codes, refl}
+use Rattle.filing_model.specs.Numerals.{number_of}
+use Rattle.filing_model.specs.declared.faults.NumberFault.TheVariants.{NotANumber, TooLarge}
+
+pub the_greatest_number : number_of (codes "99999999999999999999.999999999999") ≡ Ok (pos (10 ^ 32 - 1))
+the_greatest_number = refl
+
+pub a_whole_digit_too_many : number_of (codes "100000000000000000000") ≡ Err TooLarge
+a_whole_digit_too_many = refl
+
+pub outer_zeros_do_not_count : number_of (codes "0001.5000000000000") ≡ Ok (pos 1500000000000)
+outer_zeros_do_not_count = refl
+
+pub a_fraction_digit_too_many : number_of (codes "0.0000000000001") ≡ Err TooLarge
+a_fraction_digit_too_many = refl
+
+pub a_plus_and_no_whole_digit : number_of (codes "+.5") ≡ Ok (pos 500000000000)
+a_plus_and_no_whole_digit = refl
+
+pub a_point_and_no_fraction_digit : number_of (codes "5.") ≡ Ok (pos 5000000000000)
+a_point_and_no_fraction_digit = refl
+
+pub minus_zero_is_zero : number_of (codes "-0.0") ≡ number_of (codes "0")
+minus_zero_is_zero = refl
+
+pub a_negative_number : number_of (codes "-12.5") ≡ Ok (neg_ℤ (pos 12500000000000))
+a_negative_number = refl
+
+pub a_point_alone : number_of (codes ".") ≡ Err NotANumber
+a_point_alone = refl
+
+pub a_sign_alone : number_of (codes "+") ≡ Err NotANumber
+a_sign_alone = refl
+
+pub an_exponent : number_of (codes "1E3") ≡ Err NotANumber
+an_exponent = refl
+
+pub the_empty_text : number_of (codes "") ≡ Err NotANumber
+the_empty_text = refl
+
+pub blanks_alone : number_of (codes " \t") ≡ Err NotANumber
+blanks_alone = refl
+
+pub outer_blanks_are_dropped : number_of (codes " \t-1.5\r\n") ≡ Ok (neg_ℤ (pos 1500000000000))
+outer_blanks_are_dropped = refl
+
+pub an_inner_blank : number_of (codes "1 5") ≡ Err NotANumber
+an_inner_blank = refl
+
+pub a_blank_behind_the_sign : number_of (codes "- 1") ≡ Err NotANumber
+a_blank_behind_the_sign = refl
+
+pub two_signs : number_of (codes "+-1") ≡ Err NotANumber
+two_signs = refl
+
+pub two_points : number_of (codes "1.2.3") ≡ Err NotANumber
+two_points = refl
