@@ -3,3 +3,4 @@ pub mod Numerals
 pub mod Dimensions
 pub mod Tables
 pub mod Facts
+pub mod Reports
