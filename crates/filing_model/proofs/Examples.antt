@@ -2,3 +2,7 @@
 pub mod Numerals
 pub mod Setting
 pub mod Histories
+pub mod Dimensions
+pub mod Tables
+pub mod Facts
+pub mod Reports

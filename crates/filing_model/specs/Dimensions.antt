@@ -1,12 +1,15 @@
 -- Dimension sets (xBRL-JSON 1.0, the `dimensions` object of a fact). The order and the limit on lengths are the project's own.
-use Rattle.std.specs.Prelude.{Bool, List, [], ◌∷◌, Option, codes}
+use Rattle.std.specs.Prelude.{Bool, not, ◌&&◌, ◌||◌, nat_lt, if◌then◌else◌, List, [], ◌∷◌, length, map, codes, Option, None, Some, is_none, Result, Ok, Err}
 use Rattle.std.specs.declared.cmp.Ordering.{Ordering}
 use Rattle.std.specs.Ordering.{on, then_cmp, eq_by_cmp}
 use Rattle.std.specs.FinMap.Entries.{find}
 use Rattle.std.specs.List.{list_any}
 use Rattle.std.specs.Option.{option_cmp, option_flatten}
 use Rattle.std.specs.Cmp.Lexicographic.{slice_cmp}
-use Rattle.filing_model.specs.Text.{Text, text_cmp, text_eq}
+use Rattle.filing_model.specs.Text.{Text, text_cmp, text_eq, has_repeats}
+use Rattle.filing_model.specs.TextMap.{from_entries}
+use Rattle.filing_model.specs.declared.faults.DimFault.{DimFault}
+use Rattle.filing_model.specs.declared.faults.DimFault.TheVariants.{NameTwice, NullCore, NoConcept, TooLong}
 
 -- names with their values in byte order of the names, none twice. A taxonomy dimension may be null
 abbrev pub Dims : Type 0
@@ -19,7 +22,7 @@ dims_cmp = slice_cmp (then_cmp (on (λ p. p.0) text_cmp) (on (λ p. p.1) (option
 abbrev pub dims_eq : Dims → Dims → Bool
 dims_eq = eq_by_cmp dims_cmp
 
--- the names that xBRL-JSON defines; a colon stands in every other, and only those may be null
+-- the dimensions that Open Information Model 1.0 defines itself. All other names are names of a taxonomy
 abbrev pub core_names : List Text
 core_names = codes "concept" ∷ codes "entity" ∷ codes "period" ∷ codes "unit" ∷ codes "language" ∷ codes "noteId" ∷ []
 
@@ -38,3 +41,21 @@ period_of dims = core_value (codes "period") dims
 
 abbrev pub unit_of : Dims → Option Text
 unit_of dims = core_value (codes "unit") dims
+
+-- whether the text has more than 4,096 bytes
+abbrev pub is_too_long : Text → Bool
+is_too_long text = nat_lt 4096 (length text)
+
+-- the same of either part of a dimension
+abbrev pub is_long_dim : Text × Option Text → Bool
+is_long_dim (name, None) = is_too_long name
+is_long_dim (name, Some text) = is_too_long name || is_too_long text
+
+-- the dimension set of names with their values, or the first fault
+abbrev pub dims_of : List (Text × Option Text) → Result Dims DimFault
+dims_of named =
+    if has_repeats (map (λ p. p.0) named) then Err NameTwice
+    else if list_any (λ p. is_core p.0 && is_none p.1) named then Err NullCore
+    else if not (list_any (λ p. text_eq p.0 (codes "concept")) named) then Err NoConcept
+    else if list_any is_long_dim named then Err TooLong
+    else Ok (from_entries named).entries

@@ -1,10 +1,13 @@
 pub mod Text
 pub mod TextMap
+pub mod Try
 pub mod Dimensions
 pub mod Numerals
 pub mod Intervals
 pub mod Facts
 pub mod Duplicates
+pub mod Prefixes
+pub mod Tables
 pub mod Reports
 pub mod Repository
 pub mod Queries
@@ -16,3 +19,8 @@ pub mod History
 pub mod Touches
 pub mod Lawful
 pub mod Versions
+pub mod JsonText
+pub mod ReadFact
+pub mod ReadReport
+pub mod Fitted
+pub mod Writing

@@ -1,6 +1,7 @@
 -- Texts, which compare by their bytes.
-use Rattle.std.specs.Prelude.{ℕ, Bool, List}
+use Rattle.std.specs.Prelude.{ℕ, Bool, nat_lt, List, count_by}
 use Rattle.std.specs.declared.cmp.Ordering.{Ordering}
+use Rattle.std.specs.List.{list_any}
 use Rattle.std.specs.Ordering.{nat_cmp, eq_by_cmp}
 use Rattle.std.specs.Cmp.Lexicographic.{slice_cmp}
 
@@ -14,3 +15,7 @@ text_cmp = slice_cmp nat_cmp
 
 abbrev pub text_eq : Text → Text → Bool
 text_eq = eq_by_cmp text_cmp
+
+-- whether some text stands in the list more than once
+abbrev pub has_repeats : List Text → Bool
+has_repeats texts = list_any (λ t. nat_lt 1 (count_by (text_eq t) texts)) texts

@@ -1,5 +1,5 @@
 -- Finite maps from texts, which compute. The project's own.
-use Rattle.std.specs.Prelude.{not, T, List, [], map, Option}
+use Rattle.std.specs.Prelude.{not, T, List, [], ◌∷◌, map, Option}
 use Rattle.std.specs.Cmp.Lexicographic.{nat_list_cmp_total}
 use Rattle.std.specs.FinMap.Entries.{find, put, where_key, is_sorted, is_sorted-put, is_sorted-where_key}
 use Rattle.filing_model.specs.Text.{Text, text_cmp, text_eq}
@@ -18,6 +18,11 @@ get m key = find text_cmp key m.entries
 -- the map with this value at the key
 abbrev pub insert : {X : Type 0} → TextMap X → Text → X → TextMap X
 insert m key x = record { entries = put text_cmp key x m.entries; sorted = is_sorted-put text_cmp nat_list_cmp_total key x m.entries m.sorted }
+
+-- the map of these entries. Of a key that stands twice the first value counts
+abbrev pub from_entries : {X : Type 0} → List (Text × X) → TextMap X
+from_entries [] = empty
+from_entries (e ∷ es) = insert (from_entries es) e.0 e.1
 
 -- the map with nothing at the key
 abbrev pub remove : {X : Type 0} → TextMap X → Text → TextMap X

@@ -26,6 +26,17 @@ pub enum DimFault {
     NoMemory,
 }
 
+/// Why a list of prefixes and URIs is no report's.
+#[derive(Clone, Copy, Debug, PartialEq, Eq, Hash, Error)]
+pub enum NamesFault {
+    #[error("a prefix is named twice")]
+    NameTwice,
+    #[error("two prefixes have one URI")]
+    AliasTwice,
+    #[error("out of memory")]
+    NoMemory,
+}
+
 /// Why a fact does not fit the names of its report.
 #[derive(Clone, Copy, Debug, PartialEq, Eq, Hash, Error)]
 pub enum FactFault {

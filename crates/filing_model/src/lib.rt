@@ -8,5 +8,5 @@ mod faults;
 mod kind;
 
 pub use duplicates::{Allowed, Class, Pair};
-pub use faults::{DimFault, FactFault, NumberFault, TableFault, Trouble};
+pub use faults::{DimFault, FactFault, NamesFault, NumberFault, TableFault, Trouble};
 pub use kind::Kind;
