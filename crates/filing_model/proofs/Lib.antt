@@ -1,3 +1,4 @@
 pub mod Examples
 pub mod NextReply
 pub mod OnLiterals
+pub mod TextMaps
