@@ -1,0 +1,5 @@
+pub mod Keyed
+pub mod Dims
+pub mod Facts
+pub mod Laid
+pub mod Staged

@@ -1,0 +1,72 @@
+ghost use Rattle.std.specs.Prelude.{◌≡◌, Option, option_map, string_bytes, IfOk, OnOk, OnErr};
+ghost use Rattle.std.specs.Arc.{arc_value};
+ghost use Rattle.filing_model.specs.TextMap.{empty, get, insert};
+ghost use Rattle.filing_core.specs.Laid.{laid};
+
+use crate::fact::Fact;
+use std::alloc::{AllocError, Global};
+use std::collections::BTreeMap;
+use std::marker::Model;
+use std::sync::Arc;
+
+/// Facts under their identifiers, in byte order of these.
+#[derive(Drop)]
+pub struct FactMap {
+    facts: BTreeMap<String, Arc<Fact>>,
+}
+
+impl Model for FactMap {
+    ghost use Rattle.std.specs.Arc.{arc_value};
+    ghost use Rattle.filing_model.specs.TextMap.{TextMap};
+    ghost use Rattle.filing_model.specs.Facts.{Fact as PlainFact};
+    ghost use Rattle.filing_core.specs.Keyed.{keyed_map};
+
+    ghost Value = { TextMap PlainFact };
+
+    ghost view = { λ m. keyed_map arc_value m.facts.entries };
+}
+
+#[tactic(auto, using(crate::proofs::Keyed::get_keyed_map, crate::proofs::Keyed::keyed_map_insert_entry))]
+impl FactMap {
+    pub fn new(alloc: Global) -> FactMap
+        ensures { result ≡ empty }
+    {
+        FactMap {
+            facts: BTreeMap::new(alloc),
+        }
+    }
+
+    pub fn get(&self, id: &str) -> Option<&Arc<Fact>>
+        ensures { option_map (λ f. arc_value f.now) result ≡ get self.now id.now }
+    {
+        self.facts.get(id)
+    }
+
+    pub fn insert(&mut self, id: String, fact: Arc<Fact>) -> Result<(), AllocError>
+        ensures ok { OnOk result (self.new ≡ insert self.old (string_bytes id) (arc_value fact)) }
+        ensures err { OnErr result (self.new ≡ self.old) }
+    {
+        self.facts.insert(id, fact)?;
+        Ok(())
+    }
+
+    /// A copy, which shares its facts with this one.
+    pub fn try_clone(&self) -> Result<FactMap, AllocError>
+        ensures { IfOk result (λ m. m ≡ self.now) }
+    {
+        Ok(FactMap {
+            facts: self.facts.clone()?,
+        })
+    }
+
+    /// These facts with the others laid over them.
+    pub fn with(&self, added: &FactMap) -> Result<FactMap, AllocError>
+        ensures { IfOk result (λ m. m ≡ laid added.now self.now) }
+    {
+        let mut all = self.try_clone()?;
+        for (id, fact) in &added.facts {
+            all.insert(id.clone()?, fact.clone()?)?;
+        }
+        Ok(all)
+    }
+}

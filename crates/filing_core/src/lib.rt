@@ -1,0 +1,13 @@
+//! The core of the repository: sessions step by step, their commits, and the history of every step with its reply.
+//!
+//! It knows nothing of JSON, of devices, of locks or of threads.
+#![tactic(auto)]
+
+mod dims;
+mod fact;
+mod fact_map;
+mod names;
+mod staged;
+
+pub use dims::DimSet;
+pub use fact::{Fact, FactValue, RawFact};
