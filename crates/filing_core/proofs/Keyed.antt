@@ -114,19 +114,19 @@ find-set_value : {V X : Type 0} (f : V → X) (q r : Text) (es : List (String Gl
 find-set_value f q r [] w there = absurd (true≢false (sym there))
 find-set_value {V} {X} f q r (e ∷ es) w there =
     elim (text_eq q (string_bytes e.0)) as (λ b. text_eq q (string_bytes e.0) ≡ b → is_some (cond b (Some e.1) (lookup (is_at (λ k. text_cmp q (string_bytes k))) es)) ≡ true
-        → find text_cmp r (keyed f (cond b ((e.0, w) ∷ es) (e ∷ set_value (is_at (λ k. text_cmp q (string_bytes k))) es w))) ≡ cond (text_eq r q) (Some (f w)) (find text_cmp r (keyed f (e ∷ es)))) [
+    → find text_cmp r (keyed f (cond b ((e.0, w) ∷ es) (e ∷ set_value (is_at (λ k. text_cmp q (string_bytes k))) es w))) ≡ cond (text_eq r q) (Some (f w)) (find text_cmp r (keyed f (e ∷ es)))) [
       | true ↦ λ same _.
           ap (λ x. cond (text_eq r x) (Some (f w)) (find text_cmp r (keyed f es))) (sym (same_text q (string_bytes e.0) same))
           ∙ elim (text_eq r q) as (λ b. text_eq r q ≡ b → cond b (Some (f w)) (find text_cmp r (keyed f es)) ≡ cond b (Some (f w)) (cond (text_eq r (string_bytes e.0)) (Some (f e.1)) (find text_cmp r (keyed f es)))) [
-              | true ↦ λ _. refl
-              | false ↦ λ apart. ap (λ b. cond b (Some (f e.1)) (find text_cmp r (keyed f es))) (sym (ap (λ x. text_eq r x) (sym (same_text q (string_bytes e.0) same)) ∙ apart))
-            ] refl
+            | true ↦ λ _. refl
+            | false ↦ λ apart. ap (λ b. cond b (Some (f e.1)) (find text_cmp r (keyed f es))) (sym (ap (λ x. text_eq r x) (sym (same_text q (string_bytes e.0) same)) ∙ apart))
+          ] refl
       | false ↦ λ other is_there.
           elim (text_eq r (string_bytes e.0)) as (λ b. text_eq r (string_bytes e.0) ≡ b → cond b (Some (f e.1)) (find text_cmp r (keyed f (set_value (is_at (λ k. text_cmp q (string_bytes k))) es w))) ≡ cond (text_eq r q) (Some (f w)) (cond b (Some (f e.1)) (find text_cmp r (keyed f es)))) [
             | true ↦ λ here. elim (text_eq r q) as (λ b. text_eq r q ≡ b → Some (f e.1) ≡ cond b (Some (f w)) (Some (f e.1))) [
-                | true ↦ λ there_too. absurd (true≢false (sym (contradiction r q (string_bytes e.0) here there_too) ∙ other))
-                | false ↦ λ _. refl
-              ] refl
+              | true ↦ λ there_too. absurd (true≢false (sym (contradiction r q (string_bytes e.0) here there_too) ∙ other))
+              | false ↦ λ _. refl
+            ] refl
             | false ↦ λ _. find-set_value f q r es w is_there
           ] refl
     ] refl there

@@ -43,9 +43,9 @@ get-laid_entries (e ∷ es) base q h =
     get-laid_entries es (insert base e.0 e.1) q (second _ _ h)
     ∙ ap (λ o. option_or (find text_cmp q es) o) (get-insert base e.0 e.1 q)
     ∙ elim (text_eq q e.0) as (λ b. text_eq q e.0 ≡ b → option_or (find text_cmp q es) (cond b (Some e.1) (get base q)) ≡ option_or (cond b (Some e.1) (find text_cmp q es)) (get base q)) [
-        | true ↦ λ same. ap (λ o. option_or o (Some e.1)) (none_above q e.0 es (equal _ same) (first _ _ h))
-        | false ↦ λ apart. refl
-      ] refl
+      | true ↦ λ same. ap (λ o. option_or o (Some e.1)) (none_above q e.0 es (equal _ same) (first _ _ h))
+      | false ↦ λ apart. refl
+    ] refl
 
 pub get-laid : {X : Type 0} (added base : TextMap X) (q : Text) → get (laid added base) q ≡ option_or (get added q) (get base q)
 get-laid added base q = get-laid_entries added.entries base q added.sorted

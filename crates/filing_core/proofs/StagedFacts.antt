@@ -17,9 +17,9 @@ insert_same : {X : Type 0} (m : TextMap X) (q : Text) (x : X) → get m q ≡ So
 insert_same m q x there = same_map _ _ (λ r.
     get-insert m q x r
     ∙ elim (text_eq r q) as (λ b. text_eq r q ≡ b → cond b (Some x) (get m r) ≡ get m r) [
-        | true ↦ λ same. sym there ∙ ap (λ k. get m k) (sym (same_text r q same))
-        | false ↦ λ _. refl
-      ] refl)
+      | true ↦ λ same. sym there ∙ ap (λ k. get m k) (sym (same_text r q same))
+      | false ↦ λ _. refl
+    ] refl)
 
 module _ (es fs : List (String Global × TextMap Fact)) (name : Text) (inner new : TextMap Fact)
     (after : fs ≡ set_value (is_at (λ k. text_cmp name (string_bytes k))) es new)

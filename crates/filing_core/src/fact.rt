@@ -1,4 +1,8 @@
-use crate::dims::DimSet;
+ghost use Rattle.std.specs.Prelude.{◌≡◌};
+ghost use Rattle.filing_model.specs.Facts.{is_misplaced};
+
+use crate::dims::{DimSet, clone_text};
+use std::alloc::AllocError;
 use std::marker::Model;
 
 /// A fact as it is read: its value is a text or null, and nothing of it was looked up. Links are compact JSON text.
@@ -19,6 +23,31 @@ impl Model for RawFact {
     ghost view = { λ r. record { dims = r.dims; value = text_of r.value; decimals = r.decimals; links = text_of r.links } };
 }
 
+impl Clone for RawFact {
+    ghost is_clone = { λ old new. new ≡ old };
+
+    fn clone(&self) -> Result<RawFact, AllocError> {
+        let dims = self.dims.clone()?;
+        let value = clone_text(&self.value)?;
+        let links = clone_text(&self.links)?;
+        Ok(RawFact {
+            dims,
+            value,
+            decimals: self.decimals,
+            links,
+        })
+    }
+}
+
+impl RawFact {
+    /// Whether it has a unit, or decimals beside a value, as no text may.
+    pub(crate) fn is_misplaced(&self) -> bool
+        ensures { result ≡ is_misplaced self.now }
+    {
+        self.dims.core_value("unit").is_some() || (self.decimals.is_some() && self.value.is_some())
+    }
+}
+
 /// The value of a fact that fits the names of its report.
 #[derive(Debug, Drop)]
 pub enum FactValue {
@@ -36,6 +65,7 @@ pub struct Fact {
 
 impl Model for Fact {
     ghost use Rattle.filing_model.specs.Facts.{Fact as PlainFact};
+
     ghost Value = { PlainFact };
 
     ghost use Rattle.filing_core.specs.Dims.{text_of};

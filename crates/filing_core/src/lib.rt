@@ -6,8 +6,11 @@
 mod dims;
 mod fact;
 mod fact_map;
+mod fitting;
 mod names;
 mod staged;
 
 pub use dims::DimSet;
 pub use fact::{Fact, FactValue, RawFact};
+pub use fitting::fit;
+pub use names::Names;

@@ -1,4 +1,4 @@
-ghost use Rattle.std.specs.Prelude.{◌≡◌, ◌&&◌, is_some, string_bytes};
+ghost use Rattle.std.specs.Prelude.{◌≡◌, ◌&&◌, [], is_some, string_bytes};
 ghost use Rattle.filing_model.specs.TextMap.{get};
 ghost use Rattle.filing_model.specs.Facts.{uri_of};
 ghost use Rattle.filing_core.specs.Keyed.{keyed_map};
@@ -40,8 +40,12 @@ impl Names {
 
     /// Whether a name is a prefix that is bound, a colon and a local name.
     pub fn binds(&self, name: &str) -> bool
-        ensures { result ≡ is_some (uri_of self.now.prefixes name.now) }
+        ensures bound { result ≡ is_some (uri_of self.now.prefixes name.now) }
+
+        // No concept is numeric yet.
+        ensures no_table { self.now.table ≡ [] }
     {
+        let _ = &self.prefixes;
         match name.split_once(':') {
             Some((prefix, local)) => {
                 !prefix.is_empty() && !local.is_empty() && self.is_bound(prefix)

@@ -12,6 +12,6 @@ loop-id-preserved c =
 pub returns : goal.returns
 returns c =
     let begun : laid_entries (keyed arc_value c.into_iter-id-iterator.result) c.in_ok-all.all ≡ laid_entries (keyed arc_value c.added.inside.facts.entries) c.args.self.now =
-        λ i. laid_entries (keyed arc_value (c.into_iter-id-iterator.ensures.into_iter_gives.0 i)) (c.in_ok-all.ensures i) in
+    λ i. laid_entries (keyed arc_value (c.into_iter-id-iterator.ensures.into_iter_gives.0 i)) (c.in_ok-all.ensures i) in
     laid_end arc_value _ _ _ _ c.in-None.ensures.steps.0 c.into_iter-id-iterator.ensures.into_iter_gives.5 (c.loop-id.invariant ∙ begun)
     ∙ ap (λ m. laid m c.args.self.now) c.added.view_is
