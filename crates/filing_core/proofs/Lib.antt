@@ -1,3 +1,4 @@
 pub mod Keyed
 pub mod Laid
 pub mod StagedFacts
+pub mod NextVersions

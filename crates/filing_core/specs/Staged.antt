@@ -1,5 +1,5 @@
 -- The facts that a session has staged, by report and identifier, and what a report is with them laid over it.
-use Rattle.std.specs.Prelude.{ℕ, Option, Some, None, option_and_then, option_map, unwrap_or, ◌≡◌}
+use Rattle.std.specs.Prelude.{ℕ, ◌+◌, Option, Some, None, option_and_then, option_map, unwrap_or, ◌≡◌}
 use Rattle.filing_model.specs.Text.{Text}
 use Rattle.filing_model.specs.TextMap.{TextMap, empty, get, insert}
 use Rattle.filing_model.specs.Facts.{Fact}
@@ -23,7 +23,11 @@ staged_with staged name id fact = insert staged name (insert (staged_in staged n
 abbrev pub with_facts : TextMap Fact → Report → Report
 with_facts facts r = record r { facts = laid facts r.facts }
 
--- the copy is the base with the staged facts laid over its reports
-pub record IsLaidOver (base copy : Repository) (staged : StagedFacts) : Type 0 where
-  pub count : copy.count ≡ base.count
-  pub reports : (name : Text) → report_at copy name ≡ option_map (with_facts (staged_in staged name)) (report_at base name)
+-- the reports of the copy are those of the base, with the staged facts laid over them
+abbrev pub IsLaidOver : Repository → Repository → StagedFacts → Type 0
+IsLaidOver base copy staged = (name : Text) → report_at copy name ≡ option_map (with_facts (staged_in staged name)) (report_at base name)
+
+-- the same, and it counts one more
+pub record IsNextVersion (base next : Repository) (staged : StagedFacts) : Type 0 where
+  pub count : next.count ≡ base.count + 1
+  pub laid : IsLaidOver base next staged

@@ -8,9 +8,14 @@ mod fact;
 mod fact_map;
 mod fitting;
 mod names;
+mod plain;
+mod report;
 mod staged;
 
 pub use dims::DimSet;
+pub use fact_map::FactMap;
 pub use fact::{Fact, FactValue, RawFact};
 pub use fitting::fit;
 pub use names::Names;
+pub use plain::Plain;
+pub use report::Report;
