@@ -1,0 +1,3 @@
+pub mod Fresh
+pub mod OwnReplies
+pub mod Next

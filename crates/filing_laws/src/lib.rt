@@ -1,0 +1,4 @@
+//! The laws of the plain repository and its histories: what follows from the definitions alone.
+//!
+//! Each public function has no parameters and an empty body, and carries one law as its contract. The lemmas in `proofs/` are what the proofs of other crates cite. It knows nothing of code: nothing here is stored, shared, locked or read.
+#![tactic(auto)]
