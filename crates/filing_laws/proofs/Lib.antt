@@ -11,3 +11,4 @@ pub mod Runs
 pub mod Changes
 pub mod Cases
 pub mod Known
+pub mod Serial
