@@ -1,0 +1,53 @@
+-- What holds of each element of a list, and of what an option holds.
+use Rattle.std.proofs.Common.{◌≡◌, refl, Bool, true, false, ◌||◌, List, [], ◌∷◌, ◌++◌, Option, Some, None, flat_map}
+use Rattle.std.specs.List.{list_any, cons_option}
+
+abbrev pub Each : {A : Type 0} → (A → Type 0) → List A → Type 0
+Each P [] = Unit {0}
+Each P (x ∷ xs) = P x × Each P xs
+
+abbrev pub OnEach : {A : Type 0} → (A → Type 0) → Option A → Type 0
+OnEach P None = Unit {0}
+OnEach P (Some x) = P x
+
+pub each_mapped : {A : Type 0} (P Q : A → Type 0) → ((x : A) → P x → Q x) → (xs : List A) → Each P xs → Each Q xs
+each_mapped P Q f [] h = tt
+each_mapped P Q f (x ∷ xs) h = (f x h.0, each_mapped P Q f xs h.1)
+
+-- of what may stand before a list, and of the list
+pub each_parts : {A : Type 0} (P : A → Type 0) (o : Option A) (xs : List A) → Each P (cons_option o xs) → OnEach P o × Each P xs
+each_parts P None xs h = (tt, h)
+each_parts P (Some x) xs h = h
+
+pub each_joined : {A : Type 0} (P : A → Type 0) (o : Option A) (xs : List A) → OnEach P o → Each P xs → Each P (cons_option o xs)
+each_joined P None xs h hs = hs
+each_joined P (Some x) xs h hs = (h, hs)
+
+pub each_appended : {A : Type 0} (P : A → Type 0) (xs ys : List A) → Each P xs → Each P ys → Each P (xs ++ ys)
+each_appended P [] ys h hs = hs
+each_appended P (x ∷ xs) ys h hs = (h.0, each_appended P xs ys h.1 hs)
+
+-- no element passes a test
+abbrev pub IsNever : {A : Type 0} → (A → Bool) → List A → Type 0
+IsNever test xs = list_any test xs ≡ false
+
+neither : (a b : Bool) → (a || b) ≡ false → (a ≡ false) × (b ≡ false)
+neither true b e = cc
+neither false b e = (refl, e)
+
+pub never_parts : {A : Type 0} (test : A → Bool) (x : A) (xs : List A) → IsNever test (x ∷ xs) → (test x ≡ false) × IsNever test xs
+never_parts test x xs h = neither (test x) (list_any test xs) h
+
+pub never_appended : {A : Type 0} (test : A → Bool) (xs ys : List A) → IsNever test (xs ++ ys) → IsNever test xs × IsNever test ys
+never_appended test [] ys h = (refl, h)
+never_appended test (x ∷ xs) ys h =
+    let parts = never_parts test x (xs ++ ys) h in
+    let more = never_appended test xs ys parts.1 in
+    ((λ i. parts.0 i || more.0 i), more.1)
+
+-- nor of what is made of each element
+pub never_flat : {A B : Type 0} (test : B → Bool) (f : A → List B) (xs : List A) → IsNever test (flat_map f xs) → Each (λ x. IsNever test (f x)) xs
+never_flat test f [] h = tt
+never_flat test f (x ∷ xs) h =
+    let parts = never_appended test (f x) (flat_map f xs) h in
+    (parts.0, never_flat test f xs parts.1)

@@ -1,0 +1,14 @@
+pub mod Fresh
+pub mod OwnReplies
+pub mod Next
+pub mod Equal
+pub mod Look
+pub mod Those
+pub mod Each
+pub mod Agree
+pub mod Alike
+pub mod Runs
+pub mod Changes
+pub mod Cases
+pub mod Known
+pub mod Serial

@@ -1,0 +1,15 @@
+//! Of sessions that read nothing that was touched since their opening.
+
+ghost use Rattle.filing_laws.specs.Untouched.{EachSessionRepliesAsAtItsOpening, EachUntouchedSessionRepliesAsNow};
+
+/// In a lawful history an open session's replies are those of its solo run at the repository of its opening.
+#[tactic(auto, using(crate::proofs::OwnReplies::own_replies))]
+pub fn each_session_replies_as_at_its_opening()
+    ensures { EachSessionRepliesAsAtItsOpening }
+{}
+
+/// Where nothing that it has read was touched since, they are also those of its solo run at the repository of the history.
+#[tactic(auto, using(crate::proofs::Serial::serial))]
+pub fn each_untouched_session_replies_as_now()
+    ensures { EachUntouchedSessionRepliesAsNow }
+{}
