@@ -1,2 +1,4 @@
 pub mod OnLiterals
+pub mod Texts
+pub mod TextMaps
 pub mod Examples
