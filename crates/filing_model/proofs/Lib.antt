@@ -1,4 +1,5 @@
 pub mod OnLiterals
 pub mod Texts
 pub mod TextMaps
+pub mod DimensionSets
 pub mod Examples

@@ -15,9 +15,13 @@ use Rattle.filing_model.specs.declared.faults.DimFault.TheVariants.{NameTwice, N
 abbrev pub Dims : Type 0
 Dims = List (Text × Option Text)
 
--- item by item: names by bytes, then null before any text, then values by bytes
+-- names by bytes, then null before any text, then values by bytes
+abbrev pub dim_cmp : Text × Option Text → Text × Option Text → Ordering
+dim_cmp = then_cmp (on (λ p. p.0) text_cmp) (on (λ p. p.1) (option_cmp text_cmp))
+
+-- dimension by dimension; a set that begins another is less
 abbrev pub dims_cmp : Dims → Dims → Ordering
-dims_cmp = slice_cmp (then_cmp (on (λ p. p.0) text_cmp) (on (λ p. p.1) (option_cmp text_cmp)))
+dims_cmp = slice_cmp dim_cmp
 
 abbrev pub dims_eq : Dims → Dims → Bool
 dims_eq = eq_by_cmp dims_cmp
