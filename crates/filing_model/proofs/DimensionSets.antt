@@ -1,14 +1,20 @@
 -- Lemmas on dimension sets and prefixes that are made of lists: they may be sorted first.
-use Rattle.std.proofs.Common.{◌≡◌, Bool, true, false, cond, not, ◌&&◌, List, map, Option, is_none, codes, Result, Ok, Err, IsPermutation, ap, ◌∙◌, refl}
+use Rattle.std.proofs.Common.{◌≡◌, Bool, true, false, cond, not, ◌&&◌, T, List, map, Option, is_none, is_ok, codes, Result, Ok, Err, IsPermutation, IsSorted, Ordering, Less, Equal, Greater, is_lt, ap, sym, subst, ◌∙◌, refl, true≢false}
+use Rattle.std.specs.Ordering.{ordering_then}
+use Rattle.std.specs.Result.{result_unwrap_or}
+use Rattle.std.specs.FinMap.Entries.{is_sorted}
 use Rattle.std.specs.List.{list_any}
 use Rattle.std.proofs.lemmas.List.Sorted.{IsPermutation-map, list_any-IsPermutation}
-use Rattle.filing_model.specs.Text.{Text, text_eq, has_repeats}
-use Rattle.filing_model.specs.TextMap.{from_entries}
-use Rattle.filing_model.specs.Dimensions.{Dims, dims_of, is_core, is_long_dim}
+use Rattle.filing_model.specs.Text.{Text, text_cmp, text_eq, has_repeats}
+use Rattle.filing_model.specs.TextMap.{TextMap, from_entries}
+use Rattle.filing_model.specs.Prefixes.{prefixes_of}
+use Rattle.filing_model.specs.Dimensions.{Dims, dims_of, dim_cmp, is_core, is_long_dim}
 use Rattle.filing_model.specs.declared.faults.DimFault.{DimFault}
+use Rattle.filing_model.specs.declared.faults.NamesFault.{NamesFault}
+use Rattle.filing_model.specs.declared.faults.NamesFault.TheVariants as names_fault
 use Rattle.filing_model.specs.declared.faults.DimFault.TheVariants.{NameTwice, NullCore, NoConcept, TooLong}
 use Rattle.filing_model.proofs.Texts.{has_repeats-IsPermutation}
-use Rattle.filing_model.proofs.TextMaps.{from_entries-IsPermutation}
+use Rattle.filing_model.proofs.TextMaps.{from_entries-IsPermutation, from_entries-sorted, IsPermutation-from_entries, same_text_maps, no_repeats_from_sorted, rises_from_sorted_by, sorted_from_rises}
 
 abbrev names : {X : Type 0} → List (Text × X) → List Text
 names es = map (λ e. e.0) es
@@ -35,3 +41,75 @@ dims_of-IsPermutation ds es p =
     (cond (not (list_any-IsPermutation (λ p. text_eq p.0 (codes "concept")) ds es p i)) (Err NoConcept)
     (cond (list_any-IsPermutation is_long_dim ds es p i) (Err TooLong) (Ok (from_entries-IsPermutation ds es p n i)))))
     ∙ ap (λ b. cond b (Err NameTwice) (judged es (from_entries es).entries)) (same_repeats ds es p)
+
+first_not_less : (o p : Ordering) → is_lt (ordering_then o p) ≡ false → is_lt o ≡ false
+first_not_less Less p h = h
+first_not_less Equal p h = refl
+first_not_less Greater p h = refl
+
+-- ---- sorted dimensions
+
+pub sorted_dims : (ds : Dims) → IsSorted dim_cmp ds → has_repeats (names ds) ≡ false → T (is_sorted text_cmp ds)
+sorted_dims ds h n = sorted_from_rises ds (rises_from_sorted_by (λ x y. is_lt (dim_cmp x y)) (λ x y. first_not_less (text_cmp x.0 y.0) _) ds h) n
+
+-- of names that strictly rise the set is the list itself
+pub dims_of-sorted : (ds : Dims) → T (is_sorted text_cmp ds) → dims_of ds ≡ judged ds ds
+dims_of-sorted ds h =
+    ap (λ b. cond b (Err NameTwice) (judged ds (from_entries ds).entries)) (no_repeats_from_sorted ds h) ∙ ap (judged ds) (from_entries-sorted ds h)
+
+pub dims_of-repeats : (ds : List (Text × Option Text)) → has_repeats (names ds) ≡ true → dims_of ds ≡ Err NameTwice
+dims_of-repeats ds h = ap (λ b. cond b (Err NameTwice) (judged ds (from_entries ds).entries)) h
+
+-- ---- what a dimension set is
+
+-- a value that branches gave, where the first branch is a fault
+no_fault : {A E : Type 0} (b : Bool) (e : E) (r : Result A E) (x : A) → cond b (Err e) r ≡ Ok x → (b ≡ false) × (r ≡ Ok x)
+no_fault true e r x h = absurd (true≢false (sym (ap is_ok h)))
+no_fault false e r x h = (refl, h)
+
+same_Ok : {A E : Type 0} (x y : A) → ◌≡◌ {A = Result A E} (Ok x) (Ok y) → x ≡ y
+same_Ok x y h = ap (λ r. result_unwrap_or r x) h
+
+pub record AreDims (ds : Dims) : Type 0 where
+  pub rise : T (is_sorted text_cmp ds)
+  pub no_null : list_any (λ p. is_core p.0 && is_none p.1) ds ≡ false
+  pub concept : list_any (λ p. text_eq p.0 (codes "concept")) ds ≡ true
+  pub short : list_any is_long_dim ds ≡ false
+
+not_false : (b : Bool) → not b ≡ false → b ≡ true
+not_false true h = refl
+not_false false h = absurd (true≢false h)
+
+pub AreDims-from_Ok : (named : List (Text × Option Text)) (ds : Dims) → dims_of named ≡ Ok ds → AreDims ds
+AreDims-from_Ok named ds h =
+    let one = no_fault _ _ _ _ h in
+    let two = no_fault _ _ _ _ one.1 in
+    let three = no_fault _ _ _ _ two.1 in
+    let four = no_fault _ _ _ _ three.1 in
+    let is = same_Ok _ _ four.1 in
+    let move = IsPermutation-from_entries named one.0 in
+    subst AreDims is (record {
+      rise = (from_entries named).sorted;
+      no_null = sym (list_any-IsPermutation (λ p. is_core p.0 && is_none p.1) named _ move) ∙ two.0;
+      concept = sym (list_any-IsPermutation (λ p. text_eq p.0 (codes "concept")) named _ move) ∙ not_false _ three.0;
+      short = sym (list_any-IsPermutation is_long_dim named _ move) ∙ four.0;
+    })
+
+pub Ok-from_AreDims : (ds : Dims) → AreDims ds → dims_of ds ≡ Ok ds
+Ok-from_AreDims ds h = dims_of-sorted ds h.rise ∙ (λ i. cond (h.no_null i) (Err NullCore) (cond (not (h.concept i)) (Err NoConcept) (cond (h.short i) (Err TooLong) (Ok ds))))
+
+-- a dimension set is made of itself
+pub dims_of-again : (named : List (Text × Option Text)) (ds : Dims) → dims_of named ≡ Ok ds → dims_of ds ≡ Ok ds
+dims_of-again named ds h = Ok-from_AreDims ds (AreDims-from_Ok named ds h)
+
+-- ---- prefixes
+
+-- the fault or the map, for prefixes that are not repeated and that give this map
+abbrev judged_prefixes : List (Text × Text) → List (Text × Text) → Result (TextMap Text) NamesFault
+judged_prefixes bs cs = cond (has_repeats (map (λ e. e.1) bs)) (Err names_fault.AliasTwice) (Ok (from_entries cs))
+
+pub prefixes_of-IsPermutation : (bs cs : List (Text × Text)) → IsPermutation bs cs → prefixes_of bs ≡ prefixes_of cs
+prefixes_of-IsPermutation bs cs p =
+    at_false (has_repeats (names bs)) (Err names_fault.NameTwice) (judged_prefixes bs bs) (judged_prefixes bs cs) (λ n i.
+    cond (has_repeats (map (λ e. e.1) bs)) (Err names_fault.AliasTwice) (Ok (same_text_maps (from_entries bs) (from_entries cs) (from_entries-IsPermutation bs cs p n) i)))
+    ∙ (λ i. cond (same_repeats bs cs p i) (Err names_fault.NameTwice) (cond (has_repeats-IsPermutation _ _ (IsPermutation-map (λ e. e.1) bs cs p) i) (Err names_fault.AliasTwice) (Ok (from_entries cs))))

@@ -2,14 +2,14 @@
 use mathlib.Core.HLevel.{Σ_prop_path}
 use lib.Dec.{T_prop}
 use Rattle.std.proofs.Common.{◌≡◌, suc, ◌+◌, arith, Bool, true, false, cond, ◌&&◌, T, List, [], ◌∷◌, map, Option, Some, None, is_some, IsPermutation, IsSortedBy, Ordering, Less, Equal, Greater, is_eq, is_lt, ap, sym, subst, ◌∙◌, refl, true≢false}
-use Rattle.std.specs.FinMap.Entries.{below_all, find, is_sorted, find-put, same_entries, is_some-find}
+use Rattle.std.specs.FinMap.Entries.{by_order, below_all, put, find, is_sorted, find-put, same_entries, is_some-find}
 use Rattle.std.specs.Prelude.{⊤}
 use Rattle.std.specs.Ordering.{ordering_reverse}
 use Rattle.std.specs.List.{list_any, AllByRecursion}
 use Rattle.std.proofs.lemmas.Bool.{or_parts, or_from}
 use Rattle.std.proofs.lemmas.Cmp.{nat_list_cmp_total}
 use Rattle.std.proofs.lemmas.List.Elements.{All-from_recursion, recursion_from_All}
-use Rattle.std.proofs.lemmas.List.Sorted.{IsPermutation-map, All-permutation, list_any-IsPermutation}
+use Rattle.std.proofs.lemmas.List.Sorted.{IsPermutation-refl, IsPermutation-sym, IsPermutation-trans, IsPermutation-cons, IsPermutation-middle, IsPermutation-map, All-permutation, list_any-IsPermutation}
 use Rattle.filing_model.specs.Text.{Text, text_cmp, text_eq, has_repeats}
 use Rattle.filing_model.specs.TextMap.{TextMap, from_entries}
 use Rattle.filing_model.proofs.Texts.{text_cmp-Equal, text_eq-refl, text_eq-sym, text_decides}
@@ -132,3 +132,23 @@ module _ {X : Type 0} where
   rises_from_sorted_by lt first [] h = tt
   rises_from_sorted_by lt first (e ∷ []) h = tt
   rises_from_sorted_by lt first (e ∷ f ∷ es) h = (first f e (h 0 e (omega arith) (omega arith)), rises_from_sorted_by lt first (f ∷ es) (next_in_order lt e (f ∷ es) h))
+
+  -- ---- a map's entries are those of its list in another order
+
+  put_moves : (e : Text × X) (es : List (Text × X)) → list_any (text_eq e.0) (names es) ≡ false → IsPermutation (e ∷ es) (put text_cmp e.0 e.1 es)
+  put_moves e [] n = IsPermutation-refl _
+  put_moves e (f ∷ es) n =
+      let parts = or_parts (text_eq e.0 f.0) (list_any (text_eq e.0) (names es)) n in
+      elim (text_cmp e.0 f.0) as (λ o. is_eq o ≡ false → IsPermutation (e ∷ f ∷ es) (by_order o (e ∷ f ∷ es) ((f.0, e.1) ∷ es) (f ∷ put text_cmp e.0 e.1 es))) [
+        | Less ↦ λ _. IsPermutation-refl _
+        | Equal ↦ λ tie. absurd (true≢false tie)
+        | Greater ↦ λ _. IsPermutation-trans _ _ _ (IsPermutation-sym _ _ (IsPermutation-middle (f ∷ []) e es)) (IsPermutation-cons f _ _ (put_moves e es parts.1))
+      ] parts.0
+
+  pub IsPermutation-from_entries : (es : List (Text × X)) → has_repeats (names es) ≡ false → IsPermutation es (from_entries es).entries
+  IsPermutation-from_entries [] n = IsPermutation-refl _
+  IsPermutation-from_entries (e ∷ es) n =
+      let parts = or_parts (list_any (text_eq e.0) (names es)) (has_repeats (names es)) n in
+      let rest = IsPermutation-from_entries es parts.1 in
+      let apart = sym (list_any-IsPermutation (text_eq e.0) (names es) (names (from_entries es).entries) (IsPermutation-map (λ f. f.0) _ _ rest)) ∙ parts.0 in
+      IsPermutation-trans _ _ _ (IsPermutation-cons e _ _ rest) (put_moves e (from_entries es).entries apart)
