@@ -2,4 +2,5 @@ pub mod OnLiterals
 pub mod Texts
 pub mod TextMaps
 pub mod DimensionSets
+pub mod FitAgain
 pub mod Examples
