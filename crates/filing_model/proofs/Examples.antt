@@ -2,5 +2,6 @@
 pub mod Numerals
 pub mod Dimensions
 pub mod Tables
-pub mod Facts
-pub mod Reports
+pub mod ReadFact
+pub mod ReadReport
+pub mod Writing

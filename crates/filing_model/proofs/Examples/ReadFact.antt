@@ -1,11 +1,10 @@
--- Worked examples of fact objects: what is read of a JSON text, and what is written for facts.
-use Rattle.std.specs.Prelude.{◌≡◌, ℤ, pos, negsuc, [], ◌∷◌, codes, Option, None, Some, Result, Ok, Err, ok_or, refl}
+-- Worked examples of what is read of a fact object.
+use Rattle.std.specs.Prelude.{◌≡◌, ℤ, negsuc, [], ◌∷◌, codes, Option, None, Some, Result, Ok, Err, ok_or, refl}
 use Rattle.filing_model.specs.Text.{Text}
 use Rattle.filing_model.specs.Try.{◌>>=◌}
 use Rattle.filing_model.specs.JsonText.{json_of}
 use Rattle.filing_model.specs.ReadFact.{raw_fact_of}
-use Rattle.filing_model.specs.Writing.{raw_fact_text, fact_text}
-use Rattle.filing_model.specs.Facts.{RawFact, Nil, Written, Number}
+use Rattle.filing_model.specs.Facts.{RawFact}
 use Rattle.filing_model.specs.declared.faults.DimFault.TheVariants.{NullCore, NoConcept}
 use Rattle.filing_model.specs.declared.faults.Trouble.{Trouble}
 use Rattle.filing_model.specs.declared.faults.Trouble.TheVariants.{WrongShape, NotWhole, Dims}
@@ -18,10 +17,8 @@ read_raw text = do
   raw_fact_of d
 
 -- a fact of this concept with these decimals
-abbrev raw : Text → Option Text → Option ℤ → RawFact
+abbrev pub raw : Text → Option Text → Option ℤ → RawFact
 raw name value decimals = record { dims = (codes "concept", Some name) ∷ []; value = value; decimals = decimals; links = None }
-
--- ---- what is read
 
 pub all_members : read_raw (codes "{\"value\": \"1000\", \"links\": {\"b\": [], \"a\": 1}, \"decimals\": -3, \"dimensions\": {\"unit\": \"u\", \"concept\": \"ex:Assets\"}, \"x\": 1.5}")
     ≡ Ok (record { dims = (codes "concept", Some (codes "ex:Assets")) ∷ (codes "unit", Some (codes "u")) ∷ []; value = Some (codes "1000"); decimals = Some (negsuc 2); links = Some (codes "{\"a\":1,\"b\":[]}") })
@@ -84,30 +81,3 @@ no_concept = refl
 pub null_period : read_raw (codes "{\"value\":\"1\",\"dimensions\":{\"concept\":\"ex:Name\",\"period\":null}}") ≡ Err (Dims NullCore)
 unfolding filing_on_literals
 null_period = refl
-
--- ---- what is written
-
-pub thousands : fact_text (record { dims = (codes "concept", Some (codes "ex:Assets")) ∷ []; value = Number (codes "1000") (pos 1000000000000000) (Some (negsuc 2)); links = None })
-    ≡ codes "{\"decimals\":-3,\"dimensions\":{\"concept\":\"ex:Assets\"},\"value\":\"1000\"}"
-unfolding filing_on_literals
-thousands = refl
-
-pub exact_number_as_it_was_read : fact_text (record { dims = (codes "concept", Some (codes "ex:Assets")) ∷ []; value = Number (codes " +01.0 ") (pos 1000000000000) None; links = None })
-    ≡ codes "{\"dimensions\":{\"concept\":\"ex:Assets\"},\"value\":\" +01.0 \"}"
-unfolding filing_on_literals
-exact_number_as_it_was_read = refl
-
-pub null_and_links : fact_text (record { dims = (codes "concept", Some (codes "ex:Name")) ∷ (codes "ex:d", None) ∷ []; value = Nil; links = Some (codes "{\"a\":1}") })
-    ≡ codes "{\"dimensions\":{\"concept\":\"ex:Name\",\"ex:d\":null},\"links\":{\"a\":1},\"value\":null}"
-unfolding filing_on_literals
-null_and_links = refl
-
-pub escaped_text : fact_text (record { dims = (codes "concept", Some (codes "ex:Name")) ∷ []; value = Written (codes "a \"b\"\n"); links = None })
-    ≡ codes "{\"dimensions\":{\"concept\":\"ex:Name\"},\"value\":\"a \\\"b\\\"\\n\"}"
-unfolding filing_on_literals
-escaped_text = refl
-
--- a raw fact keeps decimals beside null
-pub raw_decimals_beside_null : raw_fact_text (raw (codes "ex:Name") None (Some (pos 0))) ≡ codes "{\"decimals\":0,\"dimensions\":{\"concept\":\"ex:Name\"},\"value\":null}"
-unfolding filing_on_literals
-raw_decimals_beside_null = refl
