@@ -5,4 +5,5 @@ pub mod Numerals
 pub mod Intervals
 pub mod Facts
 pub mod Duplicates
+pub mod ByPairs
 pub mod Reports
