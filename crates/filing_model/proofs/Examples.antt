@@ -1,6 +1,9 @@
 -- Worked examples: the definitions compute to what the standards and the project's own rules say of them.
 pub mod Numerals
+pub mod Intervals
 pub mod Dimensions
+pub mod Facts
+pub mod Duplicates
 pub mod Tables
 pub mod ReadFact
 pub mod ReadReport

@@ -4,3 +4,4 @@ pub mod TextMaps
 pub mod DimensionSets
 pub mod FitAgain
 pub mod Examples
+pub mod ByPairs

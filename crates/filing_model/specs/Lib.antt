@@ -6,6 +6,7 @@ pub mod Numerals
 pub mod Intervals
 pub mod Facts
 pub mod Duplicates
+pub mod ByPairs
 pub mod Prefixes
 pub mod Tables
 pub mod Reports
