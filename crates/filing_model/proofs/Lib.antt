@@ -3,5 +3,6 @@ pub mod Texts
 pub mod TextMaps
 pub mod DimensionSets
 pub mod FitAgain
+pub mod NumericTables
 pub mod Examples
 pub mod ByPairs
