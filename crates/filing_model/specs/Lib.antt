@@ -15,3 +15,4 @@ pub mod ReadFact
 pub mod ReadReport
 pub mod Fitted
 pub mod Writing
+pub mod Laws

@@ -7,8 +7,12 @@ mod by_pairs;
 mod duplicates;
 mod faults;
 mod kind;
+mod laws;
 
 pub use by_pairs::{PairedFact, allows, class_by_pairs, least_disallowed_by_pairs};
 pub use duplicates::{Allowed, Class, Pair};
 pub use faults::{DimFault, FactFault, NamesFault, NumberFault, TableFault, Trouble};
 pub use kind::Kind;
+pub use laws::{
+    dims_again, dims_in_any_order, facts_fit_again, prefixes_in_any_order, rows_are_kept,
+};
