@@ -18,7 +18,7 @@ use Rattle.filing_model.specs.declared.faults.NamesFault.{NamesFault}
 use Rattle.filing_model.specs.declared.faults.NamesFault.TheVariants as names_fault
 use Rattle.filing_model.specs.declared.faults.DimFault.TheVariants.{NameTwice, NullCore, NoConcept, TooLong}
 use Rattle.filing_model.proofs.Texts.{text_cmp-Equal, text_eq-sym, text_decides, has_repeats-IsPermutation}
-use Rattle.filing_model.proofs.TextMaps.{from_entries-IsPermutation, from_entries-sorted, IsPermutation-from_entries, same_text_maps, no_repeats_from_sorted, rises_from_sorted_by, sorted_from_rises}
+use Rattle.filing_model.proofs.MapsOfLists.{from_entries-IsPermutation, from_entries-sorted, IsPermutation-from_entries, same_text_maps, no_repeats_from_sorted, rises_from_sorted_by, sorted_from_rises}
 
 abbrev names : {X : Type 0} → List (Text × X) → List Text
 names es = map (λ e. e.0) es

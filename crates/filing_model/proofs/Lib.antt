@@ -1,6 +1,6 @@
 pub mod OnLiterals
 pub mod Texts
-pub mod TextMaps
+pub mod MapsOfLists
 pub mod DimensionSets
 pub mod FitAgain
 pub mod NumericTables
