@@ -18,7 +18,8 @@ use Rattle.filing_model.specs.declared.faults.NamesFault.{NamesFault}
 use Rattle.filing_model.specs.declared.faults.NamesFault.TheVariants as names_fault
 use Rattle.filing_model.specs.declared.faults.DimFault.TheVariants.{NameTwice, NullCore, NoConcept, TooLong}
 use Rattle.filing_model.proofs.Texts.{text_cmp-Equal, text_eq-sym, text_decides, has_repeats-IsPermutation}
-use Rattle.filing_model.proofs.MapsOfLists.{from_entries-IsPermutation, from_entries-sorted, IsPermutation-from_entries, same_text_maps, no_repeats_from_sorted, rises_from_sorted_by, sorted_from_rises}
+use Rattle.filing_model.proofs.TextMaps.{same_list}
+use Rattle.filing_model.proofs.MapsOfLists.{from_entries-IsPermutation, from_entries-sorted, IsPermutation-from_entries, no_repeats_from_sorted, rises_from_sorted_by, sorted_from_rises}
 
 abbrev names : {X : Type 0} → List (Text × X) → List Text
 names es = map (λ e. e.0) es
@@ -109,7 +110,7 @@ judged_prefixes bs cs = cond (has_repeats (map (λ e. e.1) bs)) (Err names_fault
 pub prefixes_of-IsPermutation : (bs cs : List (Text × Text)) → IsPermutation bs cs → prefixes_of bs ≡ prefixes_of cs
 prefixes_of-IsPermutation bs cs p =
     at_false (has_repeats (names bs)) (Err names_fault.NameTwice) (judged_prefixes bs bs) (judged_prefixes bs cs) (λ n i.
-    cond (has_repeats (map (λ e. e.1) bs)) (Err names_fault.AliasTwice) (Ok (same_text_maps (from_entries bs) (from_entries cs) (from_entries-IsPermutation bs cs p n) i)))
+    cond (has_repeats (map (λ e. e.1) bs)) (Err names_fault.AliasTwice) (Ok (same_list (from_entries bs) (from_entries cs) (from_entries-IsPermutation bs cs p n) i)))
     ∙ (λ i. cond (same_repeats bs cs p i) (Err names_fault.NameTwice) (cond (has_repeats-IsPermutation _ _ (IsPermutation-map (λ e. e.1) bs cs p) i) (Err names_fault.AliasTwice) (Ok (from_entries cs))))
 
 -- ---- the order of dimension sets

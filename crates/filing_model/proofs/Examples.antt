@@ -8,3 +8,5 @@ pub mod Tables
 pub mod ReadFact
 pub mod ReadReport
 pub mod Writing
+pub mod Setting
+pub mod Histories

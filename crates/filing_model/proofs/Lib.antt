@@ -1,8 +1,10 @@
-pub mod OnLiterals
 pub mod Texts
+pub mod TextMaps
 pub mod MapsOfLists
 pub mod DimensionSets
-pub mod FitAgain
 pub mod NumericTables
-pub mod Examples
+pub mod FitAgain
 pub mod ByPairs
+pub mod NextReply
+pub mod OnLiterals
+pub mod Examples

@@ -1,6 +1,4 @@
 -- Lemmas on finite maps from texts that are made of lists.
-use mathlib.Core.HLevel.{Σ_prop_path}
-use lib.Dec.{T_prop}
 use Rattle.std.proofs.Common.{◌≡◌, suc, ◌+◌, arith, Bool, true, false, cond, ◌&&◌, T, List, [], ◌∷◌, map, Option, Some, None, is_some, IsPermutation, IsSortedBy, Ordering, Less, Equal, Greater, is_eq, is_lt, ap, sym, subst, ◌∙◌, refl, true≢false}
 use Rattle.std.specs.FinMap.Entries.{by_order, below_all, put, find, is_sorted, find-put, same_entries, is_some-find}
 use Rattle.std.specs.Prelude.{⊤}
@@ -12,6 +10,7 @@ use Rattle.std.proofs.lemmas.List.Elements.{All-from_recursion, recursion_from_A
 use Rattle.std.proofs.lemmas.List.Sorted.{IsPermutation-refl, IsPermutation-sym, IsPermutation-trans, IsPermutation-cons, IsPermutation-middle, IsPermutation-map, All-permutation, list_any-IsPermutation}
 use Rattle.filing_model.specs.Text.{Text, text_cmp, text_eq, has_repeats}
 use Rattle.filing_model.specs.TextMap.{TextMap, from_entries}
+use Rattle.filing_model.proofs.TextMaps.{get-from_entries}
 use Rattle.filing_model.proofs.Texts.{text_cmp-Equal, text_eq-refl, text_eq-sym, text_decides}
 
 either : (a b : Bool) → T (a && b) → T a × T b
@@ -36,13 +35,9 @@ module _ {X : Type 0} where
   abbrev names : List (Text × X) → List Text
   names es = map (λ e. e.0) es
 
-  pub find-from_entries : (es : List (Text × X)) (q : Text) → find text_cmp q (from_entries es).entries ≡ find text_cmp q es
-  find-from_entries [] q = refl
-  find-from_entries (e ∷ es) q = find-put text_cmp nat_list_cmp_total q e.0 e.1 (from_entries es).entries ∙ ap (cond (text_eq q e.0) (Some e.1)) (find-from_entries es q)
-
   -- entries in order are the map's own
   pub from_entries-sorted : (es : List (Text × X)) → T (is_sorted text_cmp es) → (from_entries es).entries ≡ es
-  from_entries-sorted es h = same_entries text_cmp nat_list_cmp_total text_cmp-Equal _ es (from_entries es).sorted h (find-from_entries es)
+  from_entries-sorted es h = same_entries text_cmp nat_list_cmp_total text_cmp-Equal _ es (from_entries es).sorted h (get-from_entries es)
 
   -- ---- entries that change places
 
@@ -82,12 +77,7 @@ module _ {X : Type 0} where
 
   pub from_entries-IsPermutation : (es fs : List (Text × X)) → IsPermutation es fs → has_repeats (names es) ≡ false → (from_entries es).entries ≡ (from_entries fs).entries
   from_entries-IsPermutation es fs p n = same_entries text_cmp nat_list_cmp_total text_cmp-Equal _ _ (from_entries es).sorted (from_entries fs).sorted
-      (λ q. find-from_entries es q ∙ find-IsPermutation es fs p n q ∙ sym (find-from_entries fs q))
-
-  pub same_text_maps : (m n : TextMap X) → m.entries ≡ n.entries → m ≡ n
-  same_text_maps m n e =
-      let whole : ◌≡◌ {A = (es : List (Text × X)) × T (is_sorted text_cmp es)} (m.entries, m.sorted) (n.entries, n.sorted) = Σ_prop_path (λ es. T_prop _) e in
-      λ i. record { entries = (whole i).0; sorted = (whole i).1 }
+      (λ q. get-from_entries es q ∙ find-IsPermutation es fs p n q ∙ sym (get-from_entries fs q))
 
   -- ---- entries in order
 

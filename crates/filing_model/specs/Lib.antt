@@ -10,6 +10,16 @@ pub mod ByPairs
 pub mod Prefixes
 pub mod Tables
 pub mod Reports
+pub mod Repository
+pub mod Queries
+pub mod Calls
+pub mod Things
+pub mod Replies
+pub mod Sessions
+pub mod History
+pub mod Touches
+pub mod Lawful
+pub mod Versions
 pub mod JsonText
 pub mod ReadFact
 pub mod ReadReport
