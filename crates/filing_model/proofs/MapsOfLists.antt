@@ -1,6 +1,6 @@
 -- Lemmas on finite maps from texts that are made of lists.
 use Rattle.std.proofs.Common.{◌≡◌, suc, ◌+◌, arith, Bool, true, false, cond, ◌&&◌, T, List, [], ◌∷◌, map, Option, Some, None, is_some, IsPermutation, IsSortedBy, Ordering, Less, Equal, Greater, is_eq, is_lt, ap, sym, subst, ◌∙◌, refl, true≢false}
-use Rattle.std.specs.FinMap.Entries.{by_order, below_all, put, find, is_sorted, find-put, same_entries, is_some-find}
+use Rattle.std.specs.FinMap.Entries.{by_order, below_all, put, find, is_sorted, same_entries, is_some-find}
 use Rattle.std.specs.Prelude.{⊤}
 use Rattle.std.specs.Ordering.{ordering_reverse}
 use Rattle.std.specs.List.{list_any, AllByRecursion}
@@ -9,7 +9,7 @@ use Rattle.std.proofs.lemmas.Cmp.{nat_list_cmp_total}
 use Rattle.std.proofs.lemmas.List.Elements.{All-from_recursion, recursion_from_All}
 use Rattle.std.proofs.lemmas.List.Sorted.{IsPermutation-refl, IsPermutation-sym, IsPermutation-trans, IsPermutation-cons, IsPermutation-middle, IsPermutation-map, All-permutation, list_any-IsPermutation}
 use Rattle.filing_model.specs.Text.{Text, text_cmp, text_eq, has_repeats}
-use Rattle.filing_model.specs.TextMap.{TextMap, from_entries}
+use Rattle.filing_model.specs.TextMap.{from_entries}
 use Rattle.filing_model.proofs.TextMaps.{get-from_entries}
 use Rattle.filing_model.proofs.Texts.{text_cmp-Equal, text_eq-refl, text_eq-sym, text_decides}
 
