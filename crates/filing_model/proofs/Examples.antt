@@ -1,8 +1,12 @@
 -- Worked examples: the definitions compute to what the standards and the project's own rules say of them.
 pub mod Numerals
+pub mod Intervals
+pub mod Dimensions
+pub mod Facts
+pub mod Duplicates
+pub mod Tables
+pub mod ReadFact
+pub mod ReadReport
+pub mod Writing
 pub mod Setting
 pub mod Histories
-pub mod Dimensions
-pub mod Tables
-pub mod Facts
-pub mod Reports

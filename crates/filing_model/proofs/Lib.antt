@@ -1,4 +1,11 @@
-pub mod Examples
+pub mod Texts
+pub mod TextMaps
+pub mod MapsOfLists
+pub mod DimensionSets
+pub mod NumericTables
+pub mod FitAgain
+pub mod JsonTexts
+pub mod ByPairs
 pub mod NextReply
 pub mod OnLiterals
-pub mod TextMaps
+pub mod Examples

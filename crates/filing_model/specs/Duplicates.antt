@@ -1,6 +1,6 @@
 -- Duplicate facts (Open Information Model 1.0, `xbrl:allowedDuplicates`). Which pairs are complete, consistent or inconsistent is the project's own.
-use Rattle.std.specs.Prelude.{Bool, true, false, cond, not, ◌&&◌, ◌||◌, List, [], ◌∷◌, map, ℤ, Option}
-use Rattle.std.specs.List.{list_all, filter, reduce}
+use Rattle.std.specs.Prelude.{Bool, true, false, cond, not, ◌&&◌, ◌||◌, List, [], ◌∷◌, map, ℤ, Option, Some, None}
+use Rattle.std.specs.List.{list_all, filter, fold}
 use Rattle.std.specs.Option.{option_eq}
 use Rattle.std.specs.Ordering.{int_eq, ord_min}
 use Rattle.filing_model.specs.Text.{Text, text_eq}
@@ -111,8 +111,12 @@ is_disallowed a facts dims = not (allows a (class_of (filter (has_dims dims) fac
 abbrev pub disallowed_dims : Allowed → List Fact → List Dims
 disallowed_dims a facts = filter (is_disallowed a facts) (map (λ f. f.dims) facts)
 
+abbrev pub lesser_dims : Option Dims → Dims → Option Dims
+lesser_dims None dims = Some dims
+lesser_dims (Some least) dims = Some (ord_min dims_cmp least dims)
+
 abbrev pub least_dims : List Dims → Option Dims
-least_dims dims = reduce (ord_min dims_cmp) dims
+least_dims dims = fold lesser_dims None dims
 
 -- the least dimensions of a report's facts whose cell is not allowed
 abbrev pub least_disallowed : Allowed → List (Text × Fact) → Option Dims

@@ -6,6 +6,7 @@ pub mod Numerals
 pub mod Intervals
 pub mod Facts
 pub mod Duplicates
+pub mod ByPairs
 pub mod Prefixes
 pub mod Tables
 pub mod Reports
@@ -24,3 +25,4 @@ pub mod ReadFact
 pub mod ReadReport
 pub mod Fitted
 pub mod Writing
+pub mod Laws

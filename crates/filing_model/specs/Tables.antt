@@ -13,12 +13,12 @@ use Rattle.filing_model.specs.declared.faults.TableFault.{TableFault}
 use Rattle.filing_model.specs.declared.faults.TableFault.TheVariants.{BadLine}
 
 -- URIs by bytes, then local names by bytes
-abbrev pub concept_cmp : Text × Text → Text × Text → Ordering
-concept_cmp = then_cmp (on (λ p. p.0) text_cmp) (on (λ p. p.1) text_cmp)
+abbrev pub row_cmp : Text × Text → Text × Text → Ordering
+row_cmp = then_cmp (on (λ p. p.0) text_cmp) (on (λ p. p.1) text_cmp)
 
--- the table of these concepts. One that stands twice counts once
+-- the table of these rows. One that stands twice counts once
 abbrev pub table_of : List (Text × Text) → Table
-table_of concepts = fold (insert_key concept_cmp) [] concepts
+table_of rows = fold (insert_key row_cmp) [] rows
 
 abbrev pub is_space : ℕ → Bool
 is_space c = c == 32
@@ -28,12 +28,12 @@ abbrev pub split_at_space : Text → Text × Text
 split_at_space line = (before_first is_space line, after_first is_space line)
 
 -- neither part is empty, and the second has no space
-abbrev pub is_concept : Text × Text → Bool
-is_concept parts = nat_lt 0 (length parts.0) && nat_lt 0 (length parts.1) && list_all (λ c. not (is_space c)) parts.1
+abbrev pub is_row : Text × Text → Bool
+is_row parts = nat_lt 0 (length parts.0) && nat_lt 0 (length parts.1) && list_all (λ c. not (is_space c)) parts.1
 
--- the concept that a line is, which stands beside its number
-abbrev pub concept_at : ℕ × Text → Result (Text × Text) TableFault
-concept_at line = if is_concept (split_at_space line.1) then Ok (split_at_space line.1) else Err (BadLine line.0)
+-- the row that a line is, which stands beside its number
+abbrev pub row_at : ℕ × Text → Result (Text × Text) TableFault
+row_at line = if is_row (split_at_space line.1) then Ok (split_at_space line.1) else Err (BadLine line.0)
 
 -- the lines that are not empty with their numbers from 1. The last line too loses a CR at its end
 abbrev pub numbered_lines : Text → List (ℕ × Text)
@@ -42,5 +42,5 @@ numbered_lines text = filter (λ line. nat_lt 0 (length line.1)) (enumerate_from
 -- the table of a text, or its first bad line: each line that is not empty is a URI, one space and a local name
 abbrev pub read_table_of : Text → Result Table TableFault
 read_table_of text = do
-  concepts ← each concept_at (numbered_lines text)
-  Ok (table_of concepts)
+  rows ← each row_at (numbered_lines text)
+  Ok (table_of rows)

@@ -1,5 +1,5 @@
 -- Texts, which compare by their bytes.
-use Rattle.std.specs.Prelude.{ℕ, Bool, nat_lt, List, count_by}
+use Rattle.std.specs.Prelude.{ℕ, Bool, false, ◌||◌, List, [], ◌∷◌}
 use Rattle.std.specs.declared.cmp.Ordering.{Ordering}
 use Rattle.std.specs.List.{list_any}
 use Rattle.std.specs.Ordering.{nat_cmp, eq_by_cmp}
@@ -16,6 +16,7 @@ text_cmp = slice_cmp nat_cmp
 abbrev pub text_eq : Text → Text → Bool
 text_eq = eq_by_cmp text_cmp
 
--- whether some text stands in the list more than once
+-- whether some text stands in the list again, after itself
 abbrev pub has_repeats : List Text → Bool
-has_repeats texts = list_any (λ t. nat_lt 1 (count_by (text_eq t) texts)) texts
+has_repeats [] = false
+has_repeats (t ∷ ts) = list_any (text_eq t) ts || has_repeats ts

@@ -1,113 +1,90 @@
--- Worked examples of fact objects: what is read of a JSON text, and what is written for facts.
-use Rattle.std.specs.Prelude.{◌≡◌, ℤ, pos, negsuc, [], ◌∷◌, codes, Option, None, Some, Result, Ok, Err, ok_or, refl}
+-- Worked examples of raw facts fitted to the names of a report, which binds one prefix and has one numeric concept.
+use Rattle.std.specs.Prelude.{◌≡◌, ℤ, pos, neg_ℤ, [], ◌∷◌, Option, Some, None, Result, Ok, Err, codes, refl}
 use Rattle.filing_model.specs.Text.{Text}
-use Rattle.filing_model.specs.Try.{◌>>=◌}
-use Rattle.filing_model.specs.JsonText.{json_of}
-use Rattle.filing_model.specs.ReadFact.{raw_fact_of}
-use Rattle.filing_model.specs.Writing.{raw_fact_text, fact_text}
-use Rattle.filing_model.specs.Facts.{RawFact, Nil, Written, Number}
-use Rattle.filing_model.specs.declared.faults.DimFault.TheVariants.{NullCore, NoConcept}
-use Rattle.filing_model.specs.declared.faults.Trouble.{Trouble}
-use Rattle.filing_model.specs.declared.faults.Trouble.TheVariants.{WrongShape, NotWhole, Dims}
-use Rattle.filing_model.proofs.OnLiterals.{filing_on_literals}
+use Rattle.filing_model.specs.Dimensions.{Dims}
+use Rattle.filing_model.specs.Facts.{Fact, FactValue, Nil, Written, Number, Names, RawFact, fit_of}
+use Rattle.filing_model.specs.declared.faults.FactFault.{FactFault}
+use Rattle.filing_model.specs.declared.faults.FactFault.TheVariants.{UnboundPrefix, Misplaced, NotANumber, TooLarge, DecimalsOutOfRange}
 
--- the raw fact of a JSON text
-abbrev read_raw : Text → Result RawFact Trouble
-read_raw text = do
-  d ← ok_or (json_of text) WrongShape
-  raw_fact_of d
+abbrev names : Names
+names = record { prefixes = record { entries = (codes "ex", codes "http://e.org/t") ∷ []; sorted = tt }; table = (codes "http://e.org/t", codes "Assets") ∷ [] }
 
--- a fact of this concept with these decimals
-abbrev raw : Text → Option Text → Option ℤ → RawFact
-raw name value decimals = record { dims = (codes "concept", Some name) ∷ []; value = value; decimals = decimals; links = None }
+-- the dimensions of a fact of this concept alone
+abbrev of_concept : Text → Dims
+of_concept concept = (codes "concept", Some concept) ∷ []
 
--- ---- what is read
+abbrev raw : Dims → Option Text → Option ℤ → RawFact
+raw dims value decimals = record { dims = dims; value = value; decimals = decimals; links = None }
 
-pub all_members : read_raw (codes "{\"value\": \"1000\", \"links\": {\"b\": [], \"a\": 1}, \"decimals\": -3, \"dimensions\": {\"unit\": \"u\", \"concept\": \"ex:Assets\"}, \"x\": 1.5}")
-    ≡ Ok (record { dims = (codes "concept", Some (codes "ex:Assets")) ∷ (codes "unit", Some (codes "u")) ∷ []; value = Some (codes "1000"); decimals = Some (negsuc 2); links = Some (codes "{\"a\":1,\"b\":[]}") })
-unfolding filing_on_literals
-all_members = refl
+abbrev fact : Dims → FactValue → Fact
+fact dims value = record { dims = dims; value = value; links = None }
 
-pub null_decimals_are_none : read_raw (codes "{\"value\":null,\"decimals\":null,\"dimensions\":{\"concept\":\"ex:Name\"}}") ≡ Ok (raw (codes "ex:Name") None None)
-unfolding filing_on_literals
-null_decimals_are_none = refl
+-- what fitting a fact of this concept alone gives
+abbrev fitted : Text → Option Text → Option ℤ → Result Fact FactFault
+fitted concept value decimals = fit_of names (raw (of_concept concept) value decimals)
 
-pub least_decimals : read_raw (codes "{\"value\":null,\"decimals\":-9223372036854775808,\"dimensions\":{\"concept\":\"ex:Name\"}}") ≡ Ok (raw (codes "ex:Name") None (Some (negsuc 9223372036854775807)))
-unfolding filing_on_literals
-least_decimals = refl
+pub a_text : fitted (codes "ex:Name") (Some (codes "Acme")) None ≡ Ok (fact (of_concept (codes "ex:Name")) (Written (codes "Acme")))
+a_text = refl
 
-pub no_object : read_raw (codes "[]") ≡ Err WrongShape
-unfolding filing_on_literals
-no_object = refl
+pub a_number_keeps_its_text : fitted (codes "ex:Assets") (Some (codes " +1000.0")) (Some (neg_ℤ (pos 3))) ≡ Ok (fact (of_concept (codes "ex:Assets")) (Number (codes " +1000.0") (pos 1000000000000000) (Some (neg_ℤ (pos 3)))))
+a_number_keeps_its_text = refl
 
-pub no_dimensions : read_raw (codes "{\"value\":\"1\"}") ≡ Err WrongShape
-unfolding filing_on_literals
-no_dimensions = refl
+pub an_exact_number : fitted (codes "ex:Assets") (Some (codes "6")) None ≡ Ok (fact (of_concept (codes "ex:Assets")) (Number (codes "6") (pos 6000000000000) None))
+an_exact_number = refl
 
-pub dimension_of_another_kind : read_raw (codes "{\"value\":\"1\",\"dimensions\":{\"concept\":\"ex:A\",\"ex:d\":1}}") ≡ Err WrongShape
-unfolding filing_on_literals
-dimension_of_another_kind = refl
+pub null_drops_its_decimals : fitted (codes "ex:Assets") None (Some (pos 99)) ≡ Ok (fact (of_concept (codes "ex:Assets")) Nil)
+null_drops_its_decimals = refl
 
-pub no_value : read_raw (codes "{\"dimensions\":{\"concept\":\"ex:A\"}}") ≡ Err WrongShape
-unfolding filing_on_literals
-no_value = refl
+pub null_drops_its_decimals_where_the_concept_is_not_numeric : fitted (codes "ex:Name") None (Some (pos 0)) ≡ Ok (fact (of_concept (codes "ex:Name")) Nil)
+null_drops_its_decimals_where_the_concept_is_not_numeric = refl
 
-pub decimals_of_another_kind : read_raw (codes "{\"value\":\"1\",\"decimals\":\"0\",\"dimensions\":{\"concept\":\"ex:A\"}}") ≡ Err WrongShape
-unfolding filing_on_literals
-decimals_of_another_kind = refl
+pub links_are_kept : fit_of names (record { dims = of_concept (codes "ex:Name"); value = None; decimals = None; links = Some (codes "{}") }) ≡ Ok (record { dims = of_concept (codes "ex:Name"); value = Nil; links = Some (codes "{}") })
+links_are_kept = refl
 
-pub decimals_past_64_bits : read_raw (codes "{\"value\":\"1\",\"decimals\":9223372036854775808,\"dimensions\":{\"concept\":\"ex:A\"}}") ≡ Err NotWhole
-unfolding filing_on_literals
-decimals_past_64_bits = refl
+-- ---- refusals
 
-pub decimals_with_an_exponent : read_raw (codes "{\"value\":\"1\",\"decimals\":1e0,\"dimensions\":{\"concept\":\"ex:A\"}}") ≡ Err NotWhole
-unfolding filing_on_literals
-decimals_with_an_exponent = refl
+pub a_prefix_that_is_not_bound : fitted (codes "zz:Name") (Some (codes "1")) None ≡ Err UnboundPrefix
+a_prefix_that_is_not_bound = refl
 
--- the kind of `decimals` is looked at before `links`, and the dimensions last
-pub decimals_before_links : read_raw (codes "{\"value\":\"1\",\"decimals\":1.0,\"links\":null,\"dimensions\":{}}") ≡ Err NotWhole
-unfolding filing_on_literals
-decimals_before_links = refl
+pub a_name_without_a_colon : fitted (codes "Name") (Some (codes "1")) None ≡ Err UnboundPrefix
+a_name_without_a_colon = refl
 
-pub null_links : read_raw (codes "{\"value\":\"1\",\"links\":null,\"dimensions\":{}}") ≡ Err WrongShape
-unfolding filing_on_literals
-null_links = refl
+pub a_name_without_a_local_part : fitted (codes "ex:") (Some (codes "1")) None ≡ Err UnboundPrefix
+a_name_without_a_local_part = refl
 
-pub links_with_a_fraction : read_raw (codes "{\"value\":\"1\",\"links\":{\"a\":[0.5]},\"dimensions\":{}}") ≡ Err NotWhole
-unfolding filing_on_literals
-links_with_a_fraction = refl
+pub a_name_without_a_prefix : fitted (codes ":Name") (Some (codes "1")) None ≡ Err UnboundPrefix
+a_name_without_a_prefix = refl
 
-pub no_concept : read_raw (codes "{\"value\":\"1\",\"links\":{},\"dimensions\":{}}") ≡ Err (Dims NoConcept)
-unfolding filing_on_literals
-no_concept = refl
+pub a_name_is_split_at_its_first_colon : fitted (codes "ex::Name") None None ≡ Ok (fact (of_concept (codes "ex::Name")) Nil)
+a_name_is_split_at_its_first_colon = refl
 
-pub null_period : read_raw (codes "{\"value\":\"1\",\"dimensions\":{\"concept\":\"ex:Name\",\"period\":null}}") ≡ Err (Dims NullCore)
-unfolding filing_on_literals
-null_period = refl
+pub a_dimension_that_is_not_bound : fit_of names (raw ((codes "concept", Some (codes "ex:Name")) ∷ (codes "zz:axis", None) ∷ []) None None) ≡ Err UnboundPrefix
+a_dimension_that_is_not_bound = refl
 
--- ---- what is written
+pub a_dimension_that_is_bound : fit_of names (raw ((codes "concept", Some (codes "ex:Name")) ∷ (codes "ex:axis", None) ∷ []) None None) ≡ Ok (fact ((codes "concept", Some (codes "ex:Name")) ∷ (codes "ex:axis", None) ∷ []) Nil)
+a_dimension_that_is_bound = refl
 
-pub thousands : fact_text (record { dims = (codes "concept", Some (codes "ex:Assets")) ∷ []; value = Number (codes "1000") (pos 1000000000000000) (Some (negsuc 2)); links = None })
-    ≡ codes "{\"decimals\":-3,\"dimensions\":{\"concept\":\"ex:Assets\"},\"value\":\"1000\"}"
-unfolding filing_on_literals
-thousands = refl
+pub decimals_beside_a_text : fitted (codes "ex:Name") (Some (codes "1")) (Some (pos 0)) ≡ Err Misplaced
+decimals_beside_a_text = refl
 
-pub exact_number_as_it_was_read : fact_text (record { dims = (codes "concept", Some (codes "ex:Assets")) ∷ []; value = Number (codes " +01.0 ") (pos 1000000000000) None; links = None })
-    ≡ codes "{\"dimensions\":{\"concept\":\"ex:Assets\"},\"value\":\" +01.0 \"}"
-unfolding filing_on_literals
-exact_number_as_it_was_read = refl
+pub a_unit_beside_a_text : fit_of names (raw ((codes "concept", Some (codes "ex:Name")) ∷ (codes "unit", Some (codes "ex:EUR")) ∷ []) (Some (codes "1")) None) ≡ Err Misplaced
+a_unit_beside_a_text = refl
 
-pub null_and_links : fact_text (record { dims = (codes "concept", Some (codes "ex:Name")) ∷ (codes "ex:d", None) ∷ []; value = Nil; links = Some (codes "{\"a\":1}") })
-    ≡ codes "{\"dimensions\":{\"concept\":\"ex:Name\",\"ex:d\":null},\"links\":{\"a\":1},\"value\":null}"
-unfolding filing_on_literals
-null_and_links = refl
+pub a_unit_beside_null : fit_of names (raw ((codes "concept", Some (codes "ex:Name")) ∷ (codes "unit", Some (codes "ex:EUR")) ∷ []) None None) ≡ Err Misplaced
+a_unit_beside_null = refl
 
-pub escaped_text : fact_text (record { dims = (codes "concept", Some (codes "ex:Name")) ∷ []; value = Written (codes "a \"b\"\n"); links = None })
-    ≡ codes "{\"dimensions\":{\"concept\":\"ex:Name\"},\"value\":\"a \\\"b\\\"\\n\"}"
-unfolding filing_on_literals
-escaped_text = refl
+pub a_unit_beside_a_number : fit_of names (raw ((codes "concept", Some (codes "ex:Assets")) ∷ (codes "unit", Some (codes "ex:EUR")) ∷ []) (Some (codes "1")) None) ≡ Ok (fact ((codes "concept", Some (codes "ex:Assets")) ∷ (codes "unit", Some (codes "ex:EUR")) ∷ []) (Number (codes "1") (pos 1000000000000) None))
+a_unit_beside_a_number = refl
 
--- a raw fact keeps decimals beside null
-pub raw_decimals_beside_null : raw_fact_text (raw (codes "ex:Name") None (Some (pos 0))) ≡ codes "{\"decimals\":0,\"dimensions\":{\"concept\":\"ex:Name\"},\"value\":null}"
-unfolding filing_on_literals
-raw_decimals_beside_null = refl
+-- the concept's prefix is looked at before the other names, and all names before the rest
+pub the_prefixes_are_looked_at_first : fit_of names (raw ((codes "concept", Some (codes "ex:Name")) ∷ (codes "unit", Some (codes "ex:EUR")) ∷ (codes "zz:axis", None) ∷ []) (Some (codes "1")) (Some (pos 99))) ≡ Err UnboundPrefix
+the_prefixes_are_looked_at_first = refl
+
+pub no_number : fitted (codes "ex:Assets") (Some (codes "1E3")) (Some (pos 99)) ≡ Err NotANumber
+no_number = refl
+
+pub a_number_too_large : fitted (codes "ex:Assets") (Some (codes "100000000000000000000")) (Some (pos 99)) ≡ Err TooLarge
+a_number_too_large = refl
+
+pub decimals_out_of_range : fitted (codes "ex:Assets") (Some (codes "1")) (Some (pos 13)) ≡ Err DecimalsOutOfRange
+decimals_out_of_range = refl

@@ -1,11 +1,10 @@
--- Worked examples of whole reports: what is read of a JSON text, each fault, and what is written.
+-- Worked examples of what is read of a report's text, and of each fault.
 use Rattle.std.specs.Prelude.{◌≡◌, pos, negsuc, [], ◌∷◌, ◌++◌, codes, None, Some, Result, Ok, Err, refl}
 use Rattle.filing_model.specs.Text.{Text}
 use Rattle.filing_model.specs.TextMap.{empty, from_entries}
 use Rattle.filing_model.specs.Try.{◌>>=◌}
 use Rattle.filing_model.specs.JsonText.{byte_order_mark}
 use Rattle.filing_model.specs.ReadReport.{ReportFault, NotJson, WrongShape, WrongDocumentType, BadPolicy, AliasTwice, NotWhole, BadFact, read_report_of}
-use Rattle.filing_model.specs.Writing.{report_text}
 use Rattle.filing_model.specs.Facts.{Table, Written, Number, Nil}
 use Rattle.filing_model.specs.Reports.{Report}
 use Rattle.filing_model.specs.declared.duplicates.Allowed.{Allowed}
@@ -16,33 +15,27 @@ use Rattle.filing_model.specs.declared.faults.Trouble.TheVariants as trouble
 use Rattle.filing_model.proofs.OnLiterals.{filing_on_literals}
 
 -- `http://e.org/t Assets` alone is numeric
-abbrev table : Table
+abbrev pub table : Table
 table = (codes "http://e.org/t", codes "Assets") ∷ []
 
-abbrev read_literal : Text → Result Report ReportFault
+abbrev pub read_literal : Text → Result Report ReportFault
 read_literal = read_report_of table
 
 -- the document type with further members of `documentInfo`
-abbrev info_with : Text → Text
+abbrev pub info_with : Text → Text
 info_with members = codes "{\"documentType\":\"https://xbrl.org/2021/xbrl-json\"" ++ (members ++ codes "}")
 
 -- a report with these further members of `documentInfo` and these facts
-abbrev report_with : Text → Text → Text
+abbrev pub report_with : Text → Text → Text
 report_with members facts = codes "{\"documentInfo\":" ++ (info_with members ++ (codes ",\"facts\":" ++ (facts ++ codes "}")))
 
 -- the prefix ex is bound
-abbrev bound : Text
+abbrev pub bound : Text
 bound = codes ",\"namespaces\":{\"ex\":\"http://e.org/t\"}"
-
--- what is written of the report that a text is
-abbrev rewritten : Text → Result Text ReportFault
-rewritten text = do
-  report ← read_literal text
-  Ok (report_text report)
 
 -- ---- what is read
 
-abbrev basic : Text
+abbrev pub basic : Text
 basic = codes "{\"documentInfo\":" ++ (info_with bound ++ codes "}")
 
 pub no_facts : read_literal basic ≡ Ok (record { info = info_with bound; names = record { prefixes = from_entries ((codes "ex", codes "http://e.org/t") ∷ []); table = table }; allowed = All; facts = empty })
@@ -56,10 +49,6 @@ after_a_mark = refl
 pub after_two_marks : read_literal (byte_order_mark ++ (byte_order_mark ++ basic)) ≡ Err NotJson
 unfolding filing_on_literals
 after_two_marks = refl
-
-pub no_facts_are_written_as_none : rewritten basic ≡ Ok (report_with bound (codes "{}"))
-unfolding filing_on_literals
-no_facts_are_written_as_none = refl
 
 -- facts in byte order of their identifiers; Assets is numeric, Name is not
 pub facts_are_fitted : read_literal (report_with bound (codes "{\"b\":{\"value\":\"1000\",\"decimals\":-3,\"dimensions\":{\"concept\":\"ex:Assets\"}},\"a\":{\"value\":\"1000\",\"dimensions\":{\"concept\":\"ex:Name\"}},\"\":{\"value\":null,\"decimals\":7,\"dimensions\":{\"concept\":\"ex:Name\",\"ex:d\":null}}}"))
@@ -205,17 +194,3 @@ no_number = refl
 pub first_identifier : read_literal (report_with bound (codes "{\"b\":1,\"a\":{\"value\":\"1\",\"dimensions\":{}}}")) ≡ Err (BadFact (codes "a") (trouble.Dims NoConcept))
 unfolding filing_on_literals
 first_identifier = refl
-
--- ---- what is written
-
-pub largest_whole_number : rewritten (report_with (codes ",\"x\":18446744073709551615") (codes "{}")) ≡ Ok (report_with (codes ",\"x\":18446744073709551615") (codes "{}"))
-unfolding filing_on_literals
-largest_whole_number = refl
-
-pub members_in_byte_order : rewritten (report_with bound (codes "{\"b\":{\"value\":\"1000\",\"decimals\":-3,\"dimensions\":{\"concept\":\"ex:Assets\"}},\"a\":{\"value\":null,\"links\":{\"y\":1,\"x\":[]},\"dimensions\":{\"ex:d\":null,\"concept\":\"ex:Name\"}}}")) ≡ Ok (report_with bound (codes "{\"a\":{\"dimensions\":{\"concept\":\"ex:Name\",\"ex:d\":null},\"links\":{\"x\":[],\"y\":1},\"value\":null},\"b\":{\"decimals\":-3,\"dimensions\":{\"concept\":\"ex:Assets\"},\"value\":\"1000\"}}"))
-unfolding filing_on_literals
-members_in_byte_order = refl
-
-pub document_info_in_byte_order : rewritten (codes " { \"documentInfo\" : { \"x\" : 1 , \"namespaces\" : { } , \"documentType\":\"https://xbrl.org/2021/xbrl-json\" } , \"y\" : 0.5 } ") ≡ Ok (report_with (codes ",\"namespaces\":{},\"x\":1") (codes "{}"))
-unfolding filing_on_literals
-document_info_in_byte_order = refl

@@ -1,0 +1,5 @@
+use Rattle.filing_model.proofs.FitAgain.{fit_again}
+use Rattle.filing_model.proofs.laws.facts_fit_again.Goals as goal
+
+pub returns : goal.returns
+returns c = fit_again
