@@ -1,2 +1,5 @@
 pub mod Examples
 pub mod ByPairs
+pub mod Trimming
+pub mod Numerals
+pub mod Intervals

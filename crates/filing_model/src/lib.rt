@@ -1,14 +1,20 @@
 //! What the repository of filing reports is, as plain data and functions.
 //!
-//! `specs/` has the definitions on which every contract above rests. This crate's Rust is the vocabulary that definitions and code share: enums without texts, with derives alone. It knows nothing of how anything is stored, shared, locked or read from a device.
+//! `specs/` has the definitions on which every contract above rests. This crate's Rust is the vocabulary that definitions and code share (enums without texts, with derives alone), slow programs that follow the definitions pair by pair, and laws of the definitions. It knows nothing of how anything is stored, shared, locked or read from a device.
 #![tactic(auto)]
 
 mod by_pairs;
 mod duplicates;
 mod faults;
 mod kind;
+mod laws;
 
 pub use by_pairs::{PairedFact, allows, class_by_pairs, least_disallowed_by_pairs};
 pub use duplicates::{Allowed, Class, Pair};
 pub use faults::{DimFault, FactFault, NumberFault, TableFault, Trouble};
 pub use kind::Kind;
+pub use laws::{
+    intervals_hold_what_is_near, intervals_meet_where_a_number_is_shared,
+    long_spellings_are_too_large, numbers_have_their_interval, only_spellings_are_numbers,
+    short_spellings_have_their_number,
+};
