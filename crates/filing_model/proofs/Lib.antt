@@ -9,3 +9,6 @@ pub mod ByPairs
 pub mod NextReply
 pub mod OnLiterals
 pub mod Examples
+pub mod Trimming
+pub mod Numerals
+pub mod Intervals

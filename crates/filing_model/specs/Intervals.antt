@@ -1,5 +1,5 @@
 -- Intervals of rounded numbers: by `decimals` (XBRL 2.1) a number stands for all within half a unit of the last place that counts. The limits are the project's own.
-use Rattle.std.specs.Prelude.{ℕ, suc, ◌-◌, ◌+◌, ◌^◌, Bool, cond, ◌&&◌, ℤ, pos, negsuc, neg_ℤ, ◌+ℤ◌, ◌-ℤ◌, ◌*ℤ◌, ◌≤ℤ◌, int_le, Option, None, Some, Result, Ok, Err}
+use Rattle.std.specs.Prelude.{ℕ, suc, ◌-◌, ◌+◌, ◌^◌, Bool, cond, ◌&&◌, ℤ, pos, negsuc, neg_ℤ, ◌+ℤ◌, ◌-ℤ◌, ◌*ℤ◌, ◌≤ℤ◌, int_le, ◌≤◌, ◌↔◌, IsTrue, nat_abs, Option, None, Some, Result, Ok, Err}
 use Rattle.filing_model.specs.Numerals.{most_fraction_digits, most_whole_digits}
 use Rattle.filing_model.specs.declared.faults.NumberFault.{NumberFault}
 use Rattle.filing_model.specs.declared.faults.NumberFault.TheVariants.{DecimalsOutOfRange}
@@ -42,3 +42,16 @@ ShareANumber i j = (x : ℤ) × IsWithin i x × IsWithin j x
 -- the test for it: neither begins after the other ends
 abbrev pub meets : Interval → Interval → Bool
 meets i j = int_le i.low j.high && int_le j.low i.high
+
+-- ---- laws
+
+-- an interval holds what is no further from its middle than its half width
+abbrev pub HoldsWhatIsNear : Type 0
+HoldsWhatIsNear = (middle : ℤ) (half : ℕ) (x : ℤ) → IsWithin (around middle half) x ↔ (nat_abs (x -ℤ middle) ≤ half)
+
+-- the test is exact for intervals that are not empty, as each of a number is
+abbrev pub MeetsWhereANumberIsShared : Type 0
+MeetsWhereANumberIsShared = (i j : Interval) → i.low ≤ℤ i.high → j.low ≤ℤ j.high → IsTrue (meets i j) ↔ ShareANumber i j
+
+abbrev pub NumbersHaveTheirInterval : Type 0
+NumbersHaveTheirInterval = (n : ℤ) (decimals : Option ℤ) → (interval_of n decimals).low ≤ℤ (interval_of n decimals).high

@@ -1,5 +1,5 @@
 -- Numbers as texts (XML Schema 1.0 Part 2, decimal; no exponents). The limits on digits are the project's own.
-use Rattle.std.specs.Prelude.{◌≡◌, ℕ, ◌+◌, ◌-◌, ◌*◌, ◌^◌, ◌<◌, ◌≤◌, ◌==◌, nat_le, nat_lt, Bool, false, cond, ◌&&◌, ◌||◌, IsTrue, [], ◌∷◌, ◌++◌, length, take, drop, ℤ, pos, neg_ℤ, ◌*ℤ◌, Option, None, Some, Result, Ok, Err}
+use Rattle.std.specs.Prelude.{◌≡◌, ℕ, ◌+◌, ◌-◌, ◌*◌, ◌^◌, ◌<◌, ◌≤◌, ◌≢◌, ◌==◌, nat_le, nat_lt, Bool, false, cond, ◌&&◌, ◌||◌, IsTrue, [], ◌∷◌, ◌++◌, length, take, drop, ℤ, pos, neg_ℤ, ◌*ℤ◌, Option, None, Some, Result, Ok, Err}
 use Rattle.std.specs.Char.{is_ascii_digit}
 use Rattle.std.specs.List.{list_all, prefix_len, suffix_len, before_first, after_first}
 use Rattle.filing_model.specs.Text.{Text}
@@ -146,3 +146,14 @@ is_minus_sign Minus = Bool.true
 -- n units of 10^-12 are the signed digits, divided by 10 for each digit after the point
 abbrev pub IsNumberOf : Spelling → ℤ → Type 0
 IsNumberOf s n = n *ℤ pos (10 ^ length (fraction_digits s.fraction)) ≡ signed (is_minus_sign s.sign) (place_sum (digits_of s) * 10 ^ most_fraction_digits)
+
+-- ---- laws
+
+abbrev pub ShortSpellingsHaveTheirNumber : Type 0
+ShortSpellingsHaveTheirNumber = (s : Spelling) → IsSpelling s → IsShort s → (n : ℤ) × (number_of (spelled s) ≡ Ok n) × IsNumberOf s n
+
+abbrev pub LongSpellingsAreTooLarge : Type 0
+LongSpellingsAreTooLarge = (s : Spelling) → IsSpelling s → ¬ IsShort s → number_of (spelled s) ≡ Err TooLarge
+
+abbrev pub OnlySpellingsAreNumbers : Type 0
+OnlySpellingsAreNumbers = (text : Text) → number_of text ≢ Err NotANumber → (s : Spelling) × IsSpelling s × (spelled s ≡ text)

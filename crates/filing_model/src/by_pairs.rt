@@ -192,3 +192,6 @@ fn count_with<F: PairedFact>(one: Option<&F>, facts: &[F]) -> usize
 {
     facts.iter().filter(|fact| is_of(one, *fact)).count()
 }
+
+#[cfg(test)]
+mod tests;

@@ -1,18 +1,24 @@
 //! What the repository of filing reports is, as plain data and functions.
 //!
-//! `specs/` has the definitions on which every contract above rests. This crate's Rust is the vocabulary that definitions and code share: enums without texts, with derives alone. It knows nothing of how anything is stored, shared, locked or read from a device.
+//! `specs/` has the definitions on which every contract above rests. This crate's Rust is the vocabulary that definitions and code share (enums without texts, with derives alone), slow programs that follow the definitions pair by pair, and laws of the definitions. It knows nothing of how anything is stored, shared, locked or read from a device.
 #![tactic(auto)]
 
 mod by_pairs;
 mod duplicates;
+mod fact_laws;
 mod faults;
 mod kind;
-mod laws;
+mod number_laws;
 
 pub use by_pairs::{PairedFact, allows, class_by_pairs, least_disallowed_by_pairs};
 pub use duplicates::{Allowed, Class, Pair};
+pub use fact_laws::{
+    dims_again, dims_in_any_order, facts_fit_again, prefixes_in_any_order, rows_are_kept,
+};
 pub use faults::{DimFault, FactFault, NamesFault, NumberFault, TableFault, Trouble};
 pub use kind::Kind;
-pub use laws::{
-    dims_again, dims_in_any_order, facts_fit_again, prefixes_in_any_order, rows_are_kept,
+pub use number_laws::{
+    intervals_hold_what_is_near, intervals_meet_where_a_number_is_shared,
+    long_spellings_are_too_large, numbers_have_their_interval, only_spellings_are_numbers,
+    short_spellings_have_their_number,
 };

@@ -1,5 +1,5 @@
 use Rattle.filing_model.proofs.FitAgain.{fit_again}
-use Rattle.filing_model.proofs.laws.facts_fit_again.Goals as goal
+use Rattle.filing_model.proofs.fact_laws.facts_fit_again.Goals as goal
 
 pub returns : goal.returns
 returns c = fit_again

@@ -1,5 +1,5 @@
 use Rattle.filing_model.proofs.NumericTables.{is_numeric-table_of}
-use Rattle.filing_model.proofs.laws.rows_are_kept.Goals as goal
+use Rattle.filing_model.proofs.fact_laws.rows_are_kept.Goals as goal
 
 pub returns : goal.returns
 returns c = is_numeric-table_of

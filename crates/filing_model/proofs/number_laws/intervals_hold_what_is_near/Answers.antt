@@ -1,0 +1,5 @@
+use Rattle.filing_model.proofs.Intervals.{holds_what_is_near}
+use Rattle.filing_model.proofs.number_laws.intervals_hold_what_is_near.Goals as goal
+
+pub returns : goal.returns
+returns c = holds_what_is_near

@@ -1,0 +1,34 @@
+//! Laws over the definitions alone: each is the contract of a function that does nothing.
+
+ghost use Rattle.filing_model.specs.Intervals.{HoldsWhatIsNear, MeetsWhereANumberIsShared, NumbersHaveTheirInterval};
+ghost use Rattle.filing_model.specs.Numerals.{ShortSpellingsHaveTheirNumber, LongSpellingsAreTooLarge, OnlySpellingsAreNumbers};
+
+/// A spelling with few enough digits has the number of its signed digits.
+pub fn short_spellings_have_their_number()
+    ensures { ShortSpellingsHaveTheirNumber }
+{}
+
+/// A spelling with more digits is too large.
+pub fn long_spellings_are_too_large()
+    ensures { LongSpellingsAreTooLarge }
+{}
+
+/// What is not refused as no number is spelled as one.
+pub fn only_spellings_are_numbers()
+    ensures { OnlySpellingsAreNumbers }
+{}
+
+/// An interval holds what is no further from its middle than its half width.
+pub fn intervals_hold_what_is_near()
+    ensures { HoldsWhatIsNear }
+{}
+
+/// The interval of a number is not empty.
+pub fn numbers_have_their_interval()
+    ensures { NumbersHaveTheirInterval }
+{}
+
+/// Two intervals that are not empty meet exactly where some number is in both.
+pub fn intervals_meet_where_a_number_is_shared()
+    ensures { MeetsWhereANumberIsShared }
+{}
