@@ -4,18 +4,23 @@
 #![tactic(auto)]
 
 mod dims;
+mod engine;
 mod fact;
 mod fact_map;
 mod fitting;
 mod names;
 mod plain;
 mod report;
+mod session;
 mod staged;
+mod step;
 
 pub use dims::DimSet;
+pub use engine::Core;
 pub use fact_map::FactMap;
 pub use fact::{Fact, FactValue, RawFact};
 pub use fitting::fit;
 pub use names::Names;
 pub use plain::Plain;
 pub use report::Report;
+pub use step::{Entry, Kind, Reply, Step};

@@ -1,0 +1,8 @@
+use crate::staged::Staged;
+
+/// The open session: its number and what it has staged over the version of its opening, which is the current one for as long as nothing is accepted beside it.
+#[derive(Drop)]
+pub(crate) struct Session {
+    pub(crate) number: u64,
+    pub(crate) staged: Staged,
+}

@@ -1,0 +1,93 @@
+use crate::fact::{Fact, RawFact};
+use crate::report::Report;
+use filing_model::FactFault;
+use std::alloc::AllocError;
+use std::marker::Model;
+use std::sync::Arc;
+
+/// What a session may do.
+#[derive(Clone, Copy, Debug, PartialEq, Eq)]
+pub enum Kind {
+    /// It reads and adds facts, and is validated at its commit.
+    Amend,
+}
+
+/// One step that the core takes.
+#[derive(Drop)]
+pub enum Step {
+    /// A report goes in under its name.
+    Load(String, Report),
+    /// A session opens at the current version.
+    Open(Kind),
+    /// A session reads the fact of an identifier.
+    Get { report: String, id: String },
+    /// A session stages a fact under an identifier that is not there.
+    Add {
+        report: String,
+        id: String,
+        fact: RawFact,
+    },
+    /// A session ends, and its staged facts make the next version.
+    Commit,
+    /// A session ends and leaves nothing.
+    Close,
+}
+
+/// What a step is answered.
+#[derive(Drop)]
+pub enum Reply {
+    NoReport,
+    Absent,
+    Found(Arc<Fact>),
+    Taken,
+    BadFact(FactFault),
+    Staged,
+    /// The number of the version that the load made.
+    Loaded(u64),
+    NameTaken,
+    Opened,
+    Closed,
+    /// The number of the version that the commit made.
+    Committed(u64),
+}
+
+impl Clone for Reply {
+    ghost use Rattle.std.specs.Prelude.{◌≡◌};
+    ghost use Rattle.filing_core.specs.Steps.{reply_of};
+
+    ghost is_clone = { λ old new. reply_of new ≡ reply_of old };
+
+    fn clone(&self) -> Result<Reply, AllocError> {
+        match self {
+            Reply::NoReport => Ok(Reply::NoReport),
+            Reply::Absent => Ok(Reply::Absent),
+            Reply::Found(fact) => Ok(Reply::Found(fact.clone()?)),
+            Reply::Taken => Ok(Reply::Taken),
+            Reply::BadFact(fault) => Ok(Reply::BadFact(*fault)),
+            Reply::Staged => Ok(Reply::Staged),
+            Reply::Loaded(number) => Ok(Reply::Loaded(*number)),
+            Reply::NameTaken => Ok(Reply::NameTaken),
+            Reply::Opened => Ok(Reply::Opened),
+            Reply::Closed => Ok(Reply::Closed),
+            Reply::Committed(number) => Ok(Reply::Committed(*number)),
+        }
+    }
+}
+
+/// A step that was taken, with its session and its reply. A load has no session.
+#[derive(Drop)]
+pub struct Entry {
+    pub session: Option<u64>,
+    pub step: Step,
+    pub reply: Reply,
+}
+
+impl Model for Entry {
+    ghost use Rattle.filing_model.specs.History.{Entry as PlainEntry};
+
+    ghost Value = { PlainEntry };
+
+    ghost use Rattle.filing_core.specs.Steps.{step_of, reply_of};
+
+    ghost view = { λ e. record { session = e.session; step = step_of e.step; reply = reply_of e.reply } };
+}
