@@ -4,6 +4,7 @@ pub mod MapsOfLists
 pub mod DimensionSets
 pub mod NumericTables
 pub mod FitAgain
+pub mod Tries
 pub mod JsonTexts
 pub mod ByPairs
 pub mod NextReply

@@ -1,6 +1,7 @@
 pub mod Text
 pub mod TextMap
 pub mod Try
+pub mod Faults
 pub mod Dimensions
 pub mod Numerals
 pub mod Intervals
