@@ -12,16 +12,16 @@ use Rattle.filing_model.specs.TextMap.{TextMap, get, insert, from_entries}
 use Rattle.filing_model.proofs.TextMaps.{get-insert, same_list}
 use Rattle.filing_core.specs.Laid.{laid, laid_entries}
 
-first : (a b : Bool) → T (a && b) → T a
+pub first : (a b : Bool) → T (a && b) → T a
 first true b p = tt
 first false b p = p
 
-second : (a b : Bool) → T (a && b) → T b
+pub second : (a b : Bool) → T (a && b) → T b
 second true b p = p
 second false b p = absurd p
 
 -- a key that ties with one below all of a list is not found in the list
-none_above : {X : Type 0} (q k : Text) (es : List (Text × X)) → text_cmp q k ≡ Equal → T (below_all text_cmp k es) → find text_cmp q es ≡ None
+pub none_above : {X : Type 0} (q k : Text) (es : List (Text × X)) → text_cmp q k ≡ Equal → T (below_all text_cmp k es) → find text_cmp q es ≡ None
 none_above q k [] tied h = refl
 none_above q k (e ∷ es) tied h =
     ap (λ o. cond (is_eq o) (Some e.1) (find text_cmp q es)) (nat_list_cmp_total.congr q k e.0 tied ∙ less (text_cmp k e.0) (first _ _ h))
@@ -32,7 +32,7 @@ none_above q k (e ∷ es) tied h =
     less Equal p = absurd p
     less Greater p = absurd p
 
-equal : (o : Ordering) → is_eq o ≡ true → o ≡ Equal
+pub equal : (o : Ordering) → is_eq o ≡ true → o ≡ Equal
 equal Less p = absurd (subst T (sym p) tt)
 equal Equal p = refl
 equal Greater p = absurd (subst T (sym p) tt)

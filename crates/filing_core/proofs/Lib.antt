@@ -3,3 +3,5 @@ pub mod Laid
 pub mod StagedFacts
 pub mod NextVersions
 pub mod Keeping
+pub mod Laying
+pub mod Committing

@@ -5,3 +5,5 @@ pub mod Laid
 pub mod Staged
 pub mod Steps
 pub mod Kept
+pub mod Outcomes
+pub mod Answers
