@@ -2,4 +2,5 @@ pub mod Examples
 pub mod ByPairs
 pub mod Trimming
 pub mod Numerals
+pub mod Bounds
 pub mod Intervals

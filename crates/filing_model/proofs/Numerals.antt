@@ -175,10 +175,10 @@ signed_mul true (suc a) b = refl
 are_few_digits : (whole fraction : Text) → length whole ≤ most_whole_digits → length fraction ≤ most_fraction_digits → are_few whole fraction ≡ true
 are_few_digits whole fraction w f = grind (arith, nat_tests)
 
-few_whole_digits : (whole fraction : Text) → are_few whole fraction ≡ true → length whole ≤ most_whole_digits
+pub few_whole_digits : (whole fraction : Text) → are_few whole fraction ≡ true → length whole ≤ most_whole_digits
 few_whole_digits whole fraction e = grind (arith, nat_tests)
 
-few_fraction_digits : (whole fraction : Text) → are_few whole fraction ≡ true → length fraction ≤ most_fraction_digits
+pub few_fraction_digits : (whole fraction : Text) → are_few whole fraction ≡ true → length fraction ≤ most_fraction_digits
 few_fraction_digits whole fraction e = grind (arith, nat_tests)
 
 -- ---- the laws

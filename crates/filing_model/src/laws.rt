@@ -1,7 +1,7 @@
 //! Laws over the definitions alone: each is the contract of a function that does nothing.
 
 ghost use Rattle.filing_model.specs.Intervals.{HoldsWhatIsNear, MeetsWhereANumberIsShared, NumbersHaveTheirInterval};
-ghost use Rattle.filing_model.specs.Numerals.{ShortSpellingsHaveTheirNumber, LongSpellingsAreTooLarge, OnlySpellingsAreNumbers};
+ghost use Rattle.filing_model.specs.Numerals.{ShortSpellingsHaveTheirNumber, LongSpellingsAreTooLarge, OnlySpellingsAreNumbers, NumbersAreBounded};
 
 /// A spelling with few enough digits has the number of its signed digits.
 pub fn short_spellings_have_their_number()
@@ -16,6 +16,11 @@ pub fn long_spellings_are_too_large()
 /// What is not refused as no number is spelled as one.
 pub fn only_spellings_are_numbers()
     ensures { OnlySpellingsAreNumbers }
+{}
+
+/// A number has at most 20 digits before the point and 12 behind it.
+pub fn numbers_are_bounded()
+    ensures { NumbersAreBounded }
 {}
 
 /// An interval holds what is no further from its middle than its half width.

@@ -15,6 +15,6 @@ pub use faults::{DimFault, FactFault, NumberFault, TableFault, Trouble};
 pub use kind::Kind;
 pub use laws::{
     intervals_hold_what_is_near, intervals_meet_where_a_number_is_shared,
-    long_spellings_are_too_large, numbers_have_their_interval, only_spellings_are_numbers,
-    short_spellings_have_their_number,
+    long_spellings_are_too_large, numbers_are_bounded, numbers_have_their_interval,
+    only_spellings_are_numbers, short_spellings_have_their_number,
 };
