@@ -3,4 +3,5 @@ pub mod ByPairs
 pub mod Trimming
 pub mod Numerals
 pub mod Bounds
+pub mod DisallowedCells
 pub mod Intervals

@@ -1,5 +1,6 @@
 //! Laws over the definitions alone: each is the contract of a function that does nothing.
 
+ghost use Rattle.filing_model.specs.Duplicates.{ObeysWhereNoCellIsDisallowed};
 ghost use Rattle.filing_model.specs.Intervals.{HoldsWhatIsNear, MeetsWhereANumberIsShared, NumbersHaveTheirInterval};
 ghost use Rattle.filing_model.specs.Numerals.{ShortSpellingsHaveTheirNumber, LongSpellingsAreTooLarge, OnlySpellingsAreNumbers, NumbersAreBounded};
 
@@ -36,4 +37,9 @@ pub fn numbers_have_their_interval()
 /// Two intervals that are not empty meet exactly where some number is in both.
 pub fn intervals_meet_where_a_number_is_shared()
     ensures { MeetsWhereANumberIsShared }
+{}
+
+/// A report obeys its allowed duplicates, pair by pair, exactly where it has no cell that is not allowed.
+pub fn reports_obey_where_no_cell_is_disallowed()
+    ensures { ObeysWhereNoCellIsDisallowed }
 {}
