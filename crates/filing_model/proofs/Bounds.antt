@@ -10,7 +10,8 @@ use Rattle.filing_model.specs.Text.{Text}
 use Rattle.filing_model.specs.Numerals.{is_zero, is_point, without_front, without_end, without_blanks, without_sign, is_negative, are_digits, are_few, size_of_few, size_of, scaled, place_sum, signed, with_sign, most_fraction_digits, most_whole_digits, NumbersAreBounded}
 use Rattle.filing_model.specs.declared.faults.NumberFault.{NumberFault}
 use Rattle.filing_model.specs.declared.faults.NumberFault.TheVariants.{NotANumber, TooLarge}
-use Rattle.filing_model.proofs.Trimming.{both, end_parts}
+use Rattle.filing_model.proofs.Tests.{both}
+use Rattle.filing_model.proofs.Trimming.{end_parts}
 use Rattle.filing_model.proofs.Numerals.{few_whole_digits, few_fraction_digits}
 
 by_cond : (b : Bool) (r : Result ℕ NumberFault) (fault : NumberFault) (size : ℕ) → cond b r (Err fault) ≡ Ok size → (b ≡ true) × (r ≡ Ok size)

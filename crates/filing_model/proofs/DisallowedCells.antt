@@ -15,7 +15,7 @@ use Rattle.filing_model.specs.declared.duplicates.Class.{Class}
 use Rattle.filing_model.specs.declared.duplicates.Class.TheVariants as class
 use Rattle.filing_model.specs.declared.duplicates.Pair.{Pair}
 use Rattle.filing_model.specs.declared.duplicates.Pair.TheVariants as pair
-use Rattle.filing_model.proofs.Trimming.{both, all_hold}
+use Rattle.filing_model.proofs.Tests.{both, all_hold, is_false}
 
 -- ---- dimensions
 
@@ -203,14 +203,10 @@ unfolding together
 some_pair f g facts e =
     let first = both (list_all together_with_f (g ∷ facts)) (every_pair together (g ∷ facts)) e in
     let pair_e = both (together f g) (list_all together_with_f facts) first.0 in
-    ap (λ b. (b && list_all (λ h. is_apart (pair_of f h)) facts) && every_pair (λ f g. is_apart (pair_of f g)) (g ∷ facts)) (fails (is_apart (pair_of f g)) pair_e.0)
+    ap (λ b. (b && list_all (λ h. is_apart (pair_of f h)) facts) && every_pair (λ f g. is_apart (pair_of f g)) (g ∷ facts)) (is_false (is_apart (pair_of f g)) pair_e.0)
   where
     together_with_f : Fact → Bool
     together_with_f h = not (is_apart (pair_of f h))
-
-    fails : (b : Bool) → not b ≡ true → b ≡ false
-    fails true h = absurd (cc)
-    fails false h = refl
 
 cell_is_allowed : (a : Allowed) (cell : List Fact) → every_pair together cell ≡ true → allows a (class_of cell) ≡ every_pair (permitted a) cell
 unfolding together class_from permitted

@@ -1,4 +1,5 @@
 pub mod Examples
+pub mod Tests
 pub mod ByPairs
 pub mod Trimming
 pub mod Numerals

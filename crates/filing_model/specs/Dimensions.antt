@@ -19,7 +19,7 @@ dims_cmp = slice_cmp (then_cmp (on (λ p. p.0) text_cmp) (on (λ p. p.1) (option
 abbrev pub dims_eq : Dims → Dims → Bool
 dims_eq = eq_by_cmp dims_cmp
 
--- the names that xBRL-JSON defines; a colon stands in every other, and only those may be null
+-- the names of dimensions that xBRL-JSON itself defines; every other names a taxonomy's
 abbrev pub core_names : List Text
 core_names = codes "concept" ∷ codes "entity" ∷ codes "period" ∷ codes "unit" ∷ codes "language" ∷ codes "noteId" ∷ []
 
