@@ -1,21 +1,14 @@
 -- Proofs of the laws of intervals.
-use Rattle.std.proofs.Common.{◌≡◌, ℕ, ◌≤◌, Bool, true, false, ◌&&◌, T, ℤ, pos, ◌+ℤ◌, ◌-ℤ◌, ◌*ℤ◌, ◌≤ℤ◌, int_le, nat_abs, Some, None, refl, arith, IsTrue}
+use Rattle.std.proofs.Common.{◌≡◌, ℕ, ◌≤◌, Bool, true, false, T, ℤ, pos, ◌+ℤ◌, ◌-ℤ◌, ◌*ℤ◌, ◌≤ℤ◌, int_le, nat_abs, Some, None, refl, arith, IsTrue}
 use Rattle.std.proofs.lemmas.Int.{ints, by_lt_z}
 use Rattle.std.specs.Int.Signed.{le_z_yes}
 use Rattle.std.specs.Bool.{passes}
+use Rattle.filing_model.proofs.Tests.{both, all_hold}
 use Rattle.filing_model.specs.Intervals.{Interval, IsWithin, ShareANumber, around, meets, half_width, HoldsWhatIsNear, MeetsWhereANumberIsShared, NumbersHaveTheirInterval}
 
 holds : (b : Bool) → T b → b ≡ true
 holds true p = refl
 holds false p = absurd p
-
-both : (a b : Bool) → (a && b) ≡ true → (a ≡ true) × (b ≡ true)
-both true b e = (refl, e)
-both false b e = absurd (cc)
-
-all_hold : (a b : Bool) → a ≡ true → b ≡ true → (a && b) ≡ true
-all_hold true b p q = q
-all_hold false b p q = p
 
 shares : (i j : Interval) → i.low ≤ℤ i.high → j.low ≤ℤ j.high → IsTrue (meets i j) → ShareANumber i j
 shares i j first second m =

@@ -6,10 +6,13 @@ pub mod NumericTables
 pub mod FitAgain
 pub mod Tries
 pub mod JsonTexts
+pub mod Examples
+pub mod Tests
 pub mod ByPairs
 pub mod NextReply
 pub mod OnLiterals
-pub mod Examples
 pub mod Trimming
 pub mod Numerals
+pub mod Bounds
+pub mod DisallowedCells
 pub mod Intervals

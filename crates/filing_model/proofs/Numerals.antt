@@ -8,7 +8,8 @@ use Rattle.std.specs.List.{list_all, prefix_len, before_first, after_first}
 use Rattle.filing_model.specs.Text.{Text}
 use Rattle.filing_model.specs.Numerals.{is_blank, is_minus, is_sign, is_point, is_zero, without_front, without_end, without_blanks, is_negative, without_sign, Sign, Unsigned, Plus, Minus, sign_text, is_minus_sign, fraction_text, fraction_digits, Spelling, IsSpelling, IsShort, spelled, are_digits, are_few, size_of_few, size_of_parts, size_of, scaled, place_sum, signed, with_sign, number_of_body, number_of, most_fraction_digits, most_whole_digits, ShortSpellingsHaveTheirNumber, LongSpellingsAreTooLarge, OnlySpellingsAreNumbers}
 use Rattle.filing_model.specs.declared.faults.NumberFault.TheVariants.{NotANumber, TooLarge}
-use Rattle.filing_model.proofs.Trimming.{both, all_hold, front_skip, front_keep, end_skip, end_keep, end_parts, dropped, front_cons, before_cons, after_cons}
+use Rattle.filing_model.proofs.Tests.{both, all_hold}
+use Rattle.filing_model.proofs.Trimming.{front_skip, front_keep, end_skip, end_keep, end_parts, dropped, front_cons, before_cons, after_cons}
 
 -- ---- what digits are not
 
@@ -175,10 +176,10 @@ signed_mul true (suc a) b = refl
 are_few_digits : (whole fraction : Text) → length whole ≤ most_whole_digits → length fraction ≤ most_fraction_digits → are_few whole fraction ≡ true
 are_few_digits whole fraction w f = grind (arith, nat_tests)
 
-few_whole_digits : (whole fraction : Text) → are_few whole fraction ≡ true → length whole ≤ most_whole_digits
+pub few_whole_digits : (whole fraction : Text) → are_few whole fraction ≡ true → length whole ≤ most_whole_digits
 few_whole_digits whole fraction e = grind (arith, nat_tests)
 
-few_fraction_digits : (whole fraction : Text) → are_few whole fraction ≡ true → length fraction ≤ most_fraction_digits
+pub few_fraction_digits : (whole fraction : Text) → are_few whole fraction ≡ true → length fraction ≤ most_fraction_digits
 few_fraction_digits whole fraction e = grind (arith, nat_tests)
 
 -- ---- the laws

@@ -6,15 +6,8 @@ use Rattle.std.proofs.lemmas.List.Folds.{list_all-append}
 use Rattle.std.proofs.lemmas.List.Sums.{suffix_len-le-length}
 use Rattle.std.specs.List.{list_all, prefix_len, suffix_len, before_first, after_first, position_or_len}
 use Rattle.filing_model.specs.Text.{Text}
+use Rattle.filing_model.proofs.Tests.{both, all_hold, is_false}
 use Rattle.filing_model.specs.Numerals.{without_front, without_end}
-
-pub both : (a b : Bool) → (a && b) ≡ true → (a ≡ true) × (b ≡ true)
-both true b e = (refl, e)
-both false b e = absurd (cc)
-
-pub all_hold : (a b : Bool) → a ≡ true → b ≡ true → (a && b) ≡ true
-all_hold true b p q = q
-all_hold false b p q = p
 
 module _ (p : ℕ → Bool) where
   -- ---- the front
@@ -35,12 +28,8 @@ module _ (p : ℕ → Bool) where
   front_keep [] ys e some = absurd (omega arith)
   front_keep (x ∷ xs) ys e some =
       let t = both (not (p x)) (list_all (λ x. not (p x)) xs) e in
-      let none : p x ≡ false = fails (p x) t.0 in
+      let none : p x ≡ false = is_false (p x) t.0 in
       front_cons x (xs ++ ys) ∙ ap (λ b. cond b (without_front p (xs ++ ys)) (x ∷ (xs ++ ys))) none
-    where
-      fails : (b : Bool) → not b ≡ true → b ≡ false
-      fails true h = absurd (cc)
-      fails false h = refl
 
   -- what is dropped passes
   pub dropped : (xs : Text) → list_all p (take (prefix_len p xs) xs) ≡ true

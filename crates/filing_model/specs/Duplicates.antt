@@ -1,5 +1,5 @@
 -- Duplicate facts (Open Information Model 1.0, `xbrl:allowedDuplicates`). Which pairs are complete, consistent or inconsistent is the project's own.
-use Rattle.std.specs.Prelude.{Bool, true, false, cond, not, ◌&&◌, ◌||◌, List, [], ◌∷◌, map, ℤ, Option, Some, None}
+use Rattle.std.specs.Prelude.{◌≡◌, ◌↔◌, IsTrue, Bool, true, false, cond, not, ◌&&◌, ◌||◌, List, [], ◌∷◌, map, ℤ, Option, Some, None}
 use Rattle.std.specs.List.{list_all, filter, fold}
 use Rattle.std.specs.Option.{option_eq}
 use Rattle.std.specs.Ordering.{int_eq, ord_min}
@@ -121,3 +121,8 @@ least_dims dims = fold lesser_dims None dims
 -- the least dimensions of a report's facts whose cell is not allowed
 abbrev pub least_disallowed : Allowed → List (Text × Fact) → Option Dims
 least_disallowed a entries = least_dims (disallowed_dims a (facts_of entries))
+
+-- ---- laws
+
+abbrev pub ObeysWhereNoCellIsDisallowed : Type 0
+ObeysWhereNoCellIsDisallowed = (a : Allowed) (entries : List (Text × Fact)) → IsTrue (obeys a entries) ↔ (least_disallowed a entries ≡ None)

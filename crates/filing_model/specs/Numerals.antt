@@ -1,5 +1,5 @@
 -- Numbers as texts (XML Schema 1.0 Part 2, decimal; no exponents). The limits on digits are the project's own.
-use Rattle.std.specs.Prelude.{◌≡◌, ℕ, ◌+◌, ◌-◌, ◌*◌, ◌^◌, ◌<◌, ◌≤◌, ◌≢◌, ◌==◌, nat_le, nat_lt, Bool, false, cond, ◌&&◌, ◌||◌, IsTrue, [], ◌∷◌, ◌++◌, length, take, drop, ℤ, pos, neg_ℤ, ◌*ℤ◌, Option, None, Some, Result, Ok, Err}
+use Rattle.std.specs.Prelude.{◌≡◌, ℕ, ◌+◌, ◌-◌, ◌*◌, ◌^◌, ◌<◌, ◌≤◌, ◌≢◌, ◌==◌, nat_le, nat_lt, Bool, false, cond, ◌&&◌, ◌||◌, IsTrue, [], ◌∷◌, ◌++◌, length, take, drop, ℤ, pos, neg_ℤ, nat_abs, ◌*ℤ◌, Option, None, Some, Result, Ok, Err}
 use Rattle.std.specs.Char.{is_ascii_digit}
 use Rattle.std.specs.List.{list_all, prefix_len, suffix_len, before_first, after_first}
 use Rattle.filing_model.specs.Text.{Text}
@@ -157,3 +157,6 @@ LongSpellingsAreTooLarge = (s : Spelling) → IsSpelling s → ¬ IsShort s → 
 
 abbrev pub OnlySpellingsAreNumbers : Type 0
 OnlySpellingsAreNumbers = (text : Text) → number_of text ≢ Err NotANumber → (s : Spelling) × IsSpelling s × (spelled s ≡ text)
+
+abbrev pub NumbersAreBounded : Type 0
+NumbersAreBounded = (text : Text) (n : ℤ) → number_of text ≡ Ok n → nat_abs n < 10 ^ (most_whole_digits + most_fraction_digits)

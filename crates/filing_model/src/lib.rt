@@ -19,6 +19,7 @@ pub use faults::{DimFault, FactFault, NamesFault, NumberFault, TableFault, Troub
 pub use kind::Kind;
 pub use number_laws::{
     intervals_hold_what_is_near, intervals_meet_where_a_number_is_shared,
-    long_spellings_are_too_large, numbers_have_their_interval, only_spellings_are_numbers,
+    long_spellings_are_too_large, numbers_are_bounded, numbers_have_their_interval,
+    only_spellings_are_numbers, reports_obey_where_no_cell_is_disallowed,
     short_spellings_have_their_number,
 };

@@ -1,7 +1,8 @@
 //! Laws over the definitions alone: each is the contract of a function that does nothing.
 
+ghost use Rattle.filing_model.specs.Duplicates.{ObeysWhereNoCellIsDisallowed};
 ghost use Rattle.filing_model.specs.Intervals.{HoldsWhatIsNear, MeetsWhereANumberIsShared, NumbersHaveTheirInterval};
-ghost use Rattle.filing_model.specs.Numerals.{ShortSpellingsHaveTheirNumber, LongSpellingsAreTooLarge, OnlySpellingsAreNumbers};
+ghost use Rattle.filing_model.specs.Numerals.{ShortSpellingsHaveTheirNumber, LongSpellingsAreTooLarge, OnlySpellingsAreNumbers, NumbersAreBounded};
 
 /// A spelling with few enough digits has the number of its signed digits.
 pub fn short_spellings_have_their_number()
@@ -18,6 +19,11 @@ pub fn only_spellings_are_numbers()
     ensures { OnlySpellingsAreNumbers }
 {}
 
+/// A number has at most 20 digits before the point and 12 behind it.
+pub fn numbers_are_bounded()
+    ensures { NumbersAreBounded }
+{}
+
 /// An interval holds what is no further from its middle than its half width.
 pub fn intervals_hold_what_is_near()
     ensures { HoldsWhatIsNear }
@@ -31,4 +37,9 @@ pub fn numbers_have_their_interval()
 /// Two intervals that are not empty meet exactly where some number is in both.
 pub fn intervals_meet_where_a_number_is_shared()
     ensures { MeetsWhereANumberIsShared }
+{}
+
+/// A report obeys its allowed duplicates, pair by pair, exactly where it has no cell that is not allowed.
+pub fn reports_obey_where_no_cell_is_disallowed()
+    ensures { ObeysWhereNoCellIsDisallowed }
 {}
