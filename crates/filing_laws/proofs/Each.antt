@@ -31,7 +31,7 @@ each_appended P (x ∷ xs) ys h hs = (h.0, each_appended P xs ys h.1 hs)
 abbrev pub IsNever : {A : Type 0} → (A → Bool) → List A → Type 0
 IsNever test xs = list_any test xs ≡ false
 
-neither : (a b : Bool) → (a || b) ≡ false → (a ≡ false) × (b ≡ false)
+pub neither : (a b : Bool) → (a || b) ≡ false → (a ≡ false) × (b ≡ false)
 neither true b e = cc
 neither false b e = (refl, e)
 

@@ -1,2 +1,3 @@
 pub mod NextReply
 pub mod Untouched
+pub mod Obeying
