@@ -14,3 +14,4 @@ pub mod Known
 pub mod Serial
 pub mod Classes
 pub mod Cells
+pub mod Chain
