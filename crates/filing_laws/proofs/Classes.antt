@@ -9,7 +9,6 @@ use Rattle.filing_model.specs.declared.duplicates.Class.{Class}
 use Rattle.filing_model.specs.declared.duplicates.Class.TheVariants as class
 use Rattle.filing_model.specs.declared.duplicates.Pair.{Pair}
 use Rattle.filing_model.specs.declared.duplicates.Pair.TheVariants as pair
-use Rattle.filing_laws.proofs.Each.{Each}
 
 -- ---- every pair
 
@@ -24,10 +23,6 @@ pairs_same f g h same [] holds = refl
 pairs_same f g h same (x ∷ xs) holds =
     let parts = and_parts (list_all (f x) xs) (every_pair f xs) holds in
     λ i. all_same (f x) (g x) (h x) (same x) xs parts.0 i && pairs_same f g h same xs parts.1 i
-
-pub all_true : {A : Type 0} (f : A → Bool) (xs : List A) → Each (λ x. f x ≡ true) xs → list_all f xs ≡ true
-all_true f [] each = refl
-all_true f (x ∷ xs) each = and_from (f x) (list_all f xs) each.0 (all_true f xs each.1)
 
 pub all_filter : {A : Type 0} (f p : A → Bool) (xs : List A) → list_all f xs ≡ true → list_all f (filter p xs) ≡ true
 all_filter f p [] holds = refl
@@ -54,13 +49,13 @@ implied pair.Complete e = refl
 implied pair.Consistent e = refl
 implied pair.Inconsistent e = absurd (true≢false (sym e))
 
-permits_all : {A : Type 0} (f : A → Bool) (xs : List A) → list_all (λ (x : A). true) xs ≡ true
-permits_all f [] = refl
-permits_all f (x ∷ xs) = permits_all f xs
+all_true : {A : Type 0} (xs : List A) → list_all (λ (x : A). true) xs ≡ true
+all_true [] = refl
+all_true (x ∷ xs) = all_true xs
 
 every_true : {A : Type 0} (xs : List A) → every_pair (λ (x y : A). true) xs ≡ true
 every_true [] = refl
-every_true (x ∷ xs) = and_from (list_all (λ y. true) xs) (every_pair (λ x y. true) xs) (permits_all (λ y. true) xs) (every_true xs)
+every_true (x ∷ xs) = and_from (list_all (λ y. true) xs) (every_pair (λ x y. true) xs) (all_true xs) (every_true xs)
 
 pub shut : (b : Bool) → not b ≡ true → b ≡ false
 shut true e = absurd (true≢false (sym e))
