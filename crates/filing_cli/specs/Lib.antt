@@ -1,0 +1,4 @@
+pub mod Text
+pub mod Devices
+pub mod Lines
+pub mod Run

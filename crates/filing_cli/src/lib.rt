@@ -1,0 +1,12 @@
+//! Scripts and histories, line by line, between a source and a sink of bytes.
+//!
+//! `source` and `sink` are the two traits of devices, `adapters` makes them of any reader and writer, `memory` over memory. `lines` cuts what is read, `machine` is what answers a line, and `run` reads, answers and writes until the end. The crate knows nothing of locks, and nothing of files.
+#![tactic(auto)]
+
+mod fault;
+mod sink;
+mod source;
+
+pub use fault::{Failed, ScriptFault};
+pub use sink::{Sink, write_all};
+pub use source::Source;
