@@ -1,11 +1,11 @@
 -- Calls of devices, one after another.
-use Rattle.std.proofs.Common.{◌≡◌, ℕ, ◌+◌, ◌<◌, ◌≤◌, List, [], ◌∷◌, ◌++◌, length, take, drop, refl, sym, ◌∙◌, ap, subst, arith, append_assoc}
+use Rattle.std.proofs.Common.{◌≡◌, ℕ, ◌+◌, ◌<◌, [], ◌∷◌, ◌++◌, length, take, drop, refl, sym, ◌∙◌, ap, subst, arith, append_assoc}
 use Rattle.std.specs.declared.option.Option.{Option}
 use Rattle.std.specs.declared.option.Option.TheVariants.{None, Some}
 use Rattle.std.specs.Io.KnownBytes.{Keeps, Appends, Consumes}
 use Rattle.std.proofs.lemmas.List.{take-append-drop}
 use Rattle.filing_cli.specs.Text.{Text}
-use Rattle.filing_cli.specs.Devices.{SourceState, SinkState, CountsNothing, Gave, Took, TookPart}
+use Rattle.filing_cli.specs.Devices.{SinkState, Took, TookPart}
 
 append_nil : (xs : Text) → xs ++ [] ≡ xs
 append_nil [] = refl

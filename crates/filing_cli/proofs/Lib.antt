@@ -1,1 +1,5 @@
 pub mod DeviceSteps
+pub mod Cuts
+pub mod Sending
+pub mod Taking
+pub mod Reading

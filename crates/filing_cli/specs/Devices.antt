@@ -40,3 +40,11 @@ pub record TookPart (old new : SinkState) (text : Text) : Type 0 where
   pub parts : text ≡ part ++ left
   pub some_left : 0 < length left
   pub took : Took old new part 1
+
+-- a source of which nothing was read
+abbrev pub new_source : Option Text → SourceState
+new_source rest = record { rest = rest; reads = 0; ends = 0; failed = 0 }
+
+-- a sink to which nothing was written
+abbrev pub new_sink : Option Text → SinkState
+new_sink written = record { written = written; failed = 0 }

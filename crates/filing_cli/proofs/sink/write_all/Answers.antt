@@ -1,6 +1,6 @@
 use Rattle.std.proofs.Common.{arith}
 use Rattle.std.proofs.lemmas.Grind.{common_steps}
-use Rattle.filing_cli.proofs.DeviceSteps.{up_to_none, up_to_more, up_to_all, up_to_failed}
+use Rattle.filing_cli.proofs.DeviceSteps.{up_to_none, up_to_more}
 use Rattle.filing_cli.proofs.sink.write_all.Goals as goal
 
 pub loop-rest-init : goal.loop-rest-init
