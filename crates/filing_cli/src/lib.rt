@@ -14,6 +14,8 @@ mod progress;
 mod runs;
 mod sink;
 mod source;
+#[cfg(test)]
+mod tests;
 
 pub use adapters::{FromReader, ToWriter};
 pub use fault::{Failed, ScriptFault};
