@@ -7,10 +7,7 @@ use borrow.Author.Tests.{ltb-true, ltb-false}
 use Rattle.filing_cli.specs.Text.{Text}
 use Rattle.filing_cli.specs.Lines.{is_line_feed, parts_of, all_but_last, last_of, whole_lines, last_part, lines_of, line_begun}
 use Rattle.filing_cli.specs.Pieces.{whole_from, rest_from}
-
-append_nil : (xs : Text) → xs ++ [] ≡ xs
-append_nil [] = refl
-append_nil (x ∷ xs) = ap (λ ys. x ∷ ys) (append_nil xs)
+use Rattle.filing_cli.proofs.Nothing.{append_nil}
 
 -- the place of the first line feed
 pub position_some : (text : Text) (i : ℕ) → position is_line_feed text ≡ Some i → (position_or_len is_line_feed text ≡ i) × (i < length text)

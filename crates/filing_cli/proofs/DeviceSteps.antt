@@ -1,15 +1,12 @@
 -- Calls of devices, one after another.
-use Rattle.std.proofs.Common.{◌≡◌, ℕ, ◌+◌, ◌<◌, [], ◌∷◌, ◌++◌, length, take, drop, refl, sym, ◌∙◌, ap, subst, arith, append_assoc}
+use Rattle.std.proofs.Common.{◌≡◌, ℕ, ◌+◌, ◌<◌, [], ◌++◌, length, take, drop, refl, sym, ◌∙◌, ap, subst, arith, append_assoc}
 use Rattle.std.specs.declared.option.Option.{Option}
 use Rattle.std.specs.declared.option.Option.TheVariants.{None, Some}
 use Rattle.std.specs.Io.KnownBytes.{Keeps, Appends, Consumes}
 use Rattle.std.proofs.lemmas.List.{take-append-drop}
 use Rattle.filing_cli.specs.Text.{Text}
 use Rattle.filing_cli.specs.Devices.{SinkState, Took, TookPart}
-
-append_nil : (xs : Text) → xs ++ [] ≡ xs
-append_nil [] = refl
-append_nil (x ∷ xs) = ap (λ ys. x ∷ ys) (append_nil xs)
+use Rattle.filing_cli.proofs.Nothing.{append_nil}
 
 pub appends_none : (known : Option Text) → Appends known known []
 appends_none None = tt

@@ -1,3 +1,4 @@
+pub mod Nothing
 pub mod DeviceSteps
 pub mod Cuts
 pub mod Sending

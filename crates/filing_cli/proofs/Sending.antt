@@ -1,5 +1,5 @@
 -- Replies that wait, and what is written of them.
-use Rattle.std.proofs.Common.{◌≡◌, [], ◌∷◌, ◌++◌, refl, sym, ◌∙◌, ap, subst, arith, append_assoc, length-append}
+use Rattle.std.proofs.Common.{◌≡◌, [], ◌++◌, sym, ◌∙◌, ap, subst, arith, append_assoc, length-append}
 use Rattle.std.specs.declared.result.Result.{Result}
 use Rattle.std.specs.declared.result.Result.TheVariants.{Ok, Err}
 use Rattle.std.specs.Result.{MatchResult}
@@ -7,10 +7,7 @@ use Rattle.filing_cli.specs.Text.{Text}
 use Rattle.filing_cli.specs.Devices.{SinkState, Took, TookPart}
 use Rattle.filing_cli.specs.Pieces.{Sent}
 use Rattle.filing_cli.proofs.DeviceSteps.{took_none, took_more, part_after}
-
-append_nil : (xs : Text) → xs ++ [] ≡ xs
-append_nil [] = refl
-append_nil (x ∷ xs) = ap (λ ys. x ∷ ys) (append_nil xs)
+use Rattle.filing_cli.proofs.Nothing.{append_nil}
 
 -- a front of a front
 pub part_longer : {a b : SinkState} {x : Text} (y : Text) → TookPart a b x → TookPart a b (x ++ y)

@@ -1,5 +1,5 @@
 -- Lines that are taken one after another, and their replies.
-use Rattle.std.proofs.Common.{◌≡◌, ℕ, ◌==◌, ◌+◌, ◌<◌, ◌≤◌, true, false, not, cond, List, [], ◌∷◌, ◌++◌, length, refl, sym, ◌∙◌, ap, subst, inl, inr, IfErr, OnErr, arith, append_assoc, length-append, length-drop, ◌-◌}
+use Rattle.std.proofs.Common.{◌≡◌, ℕ, ◌+◌, ◌<◌, ◌≤◌, true, false, not, cond, List, [], ◌∷◌, ◌++◌, length, refl, sym, ◌∙◌, ap, subst, inl, inr, IfErr, OnErr, arith, append_assoc, length-append, length-drop, ◌-◌}
 use Rattle.std.specs.declared.result.Result.{Result}
 use Rattle.std.specs.declared.result.Result.TheVariants.{Ok, Err}
 use Rattle.std.proofs.lemmas.List.Elements.{filter-append}
@@ -9,16 +9,12 @@ use Rattle.filing_cli.specs.Text.{Text}
 use Rattle.filing_cli.specs.Devices.{SinkState, Took, TookPart}
 use Rattle.filing_cli.specs.Lines.{is_line_feed, line_begun, is_blank, spoken, text_of}
 use Rattle.filing_cli.specs.Run.{Answers}
-use borrow.Author.Tests.{eqb-true, eqb-false}
 use Rattle.std.specs.List.{before_first, after_first, position_or_len}
 use Rattle.filing_cli.proofs.Cuts.{whole_at, rest_at, whole_none, rest_none}
 use Rattle.filing_cli.specs.Pieces.{whole_from, rest_from, count_from, IsCut, Sent, HasAnswered, HasFailed, HasStarved, Takes, WritesOut}
 use Rattle.filing_cli.proofs.DeviceSteps.{took_none, took_more, part_after}
 use Rattle.filing_cli.proofs.Sending.{sent_now}
-
-append_nil : (xs : Text) → xs ++ [] ≡ xs
-append_nil [] = refl
-append_nil (x ∷ xs) = ap (λ ys. x ∷ ys) (append_nil xs)
+use Rattle.filing_cli.proofs.Nothing.{append_nil}
 
 pub spoken-append : (xs ys : List Text) → spoken (xs ++ ys) ≡ spoken xs ++ spoken ys
 unfolding spoken
@@ -70,10 +66,6 @@ spoken_one line h = ap (λ b. cond (not b) (line ∷ []) []) h
 text_of_one : (text : Text) → text_of (text ∷ []) ≡ text ++ (10 ∷ [])
 unfolding text_of
 text_of_one text = append_nil (text ++ (10 ∷ []))
-
-lines_nil : (xs : List Text) → xs ++ [] ≡ xs
-lines_nil [] = refl
-lines_nil (x ∷ xs) = ap (λ ys. x ∷ ys) (lines_nil xs)
 
 line_begun_one : (begun : Text) → 0 < length begun → length (line_begun begun) ≡ 1
 line_begun_one [] some = absurd (omega arith)
@@ -172,7 +164,7 @@ module _ {M : Type 0} (R : M → Text → Text → M → Type 0) where
   answered_out p q = record { texts = p.texts; answers = p.answers; sent = sent_out p.sent q }
 
   answered_cut : {m a : M} {s s1 s2 : SinkState} {w w1 w2 : Text} {lines : List Text} → HasAnswered R m a s s1 w w1 lines → TookPart s1 s2 w1 → HasFailed R m a s s2 w w2 lines
-  answered_cut {lines = lines} p q = record { done = lines; later = []; front = lines_nil lines; texts = p.texts; answers = p.answers; took = part_out p.sent q }
+  answered_cut {lines = lines} p q = record { done = lines; later = []; front = append_nil lines; texts = p.texts; answers = p.answers; took = part_out p.sent q }
 
   starved_out : {m a : M} {s s1 s2 : SinkState} {w w1 : Text} {lines : List Text} {count first number : ℕ}
       → HasStarved R m a s s1 w w1 lines count first number → Took s1 s2 w1 0 → HasStarved R m a s s2 w [] lines count first number
@@ -271,7 +263,7 @@ module _ {M : Type 0} (R : M → Text → Text → M → Type 0) where
   starved_end {lines = lines} p is counted begun = record {
     done = lines;
     later = [];
-    front = lines_nil lines ∙ sym is;
+    front = append_nil lines ∙ sym is;
     counted = counted;
     begun = begun;
     texts = p.texts;
@@ -289,7 +281,7 @@ module _ {M : Type 0} (R : M → Text → Text → M → Type 0) where
       subst (λ w3. HasAnswered R m a s s' w w3 (whole_from begun piece)) (sym same) (subst (HasAnswered R m a s s' w _) (sym whole) (answered_more p.answered (answered_none a s' _)))
   taken_end {m} {a} {s} {s'} {w} {begun = begun} {begun' = begun'} {lines = lines} {lines' = lines'} {piece = piece} {rest = rest} (Err e) w2 p none same fault some =
       let tail : rest_from begun piece ≡ begun' ++ rest = p.after ∙ rest_none begun' rest none in
-      let whole : whole_from begun piece ≡ p.taken = p.whole ∙ (ap (λ ls. p.taken ++ ls) (whole_none begun' rest none) ∙ lines_nil p.taken) in
+      let whole : whole_from begun piece ≡ p.taken = p.whole ∙ (ap (λ ls. p.taken ++ ls) (whole_none begun' rest none) ∙ append_nil p.taken) in
       let long : length (begun' ++ rest) ≡ length begun' + length rest = length-append begun' rest in
       let longer : length (rest_from begun piece) ≡ length (begun' ++ rest) = ap length tail in
       let one : length (line_begun (rest_from begun piece)) ≡ 1 = line_begun_one (rest_from begun piece) (omega (arith, long, longer, some)) in
@@ -300,7 +292,7 @@ module _ {M : Type 0} (R : M → Text → Text → M → Type 0) where
 
   taken_whole : {m a : M} {s s' : SinkState} {w w' begun begun' : Text} {lines lines' : ℕ} {piece rest : Text}
       → (p : IsTaken m a s s' w w' begun begun' lines lines' piece rest) → position_or_len is_line_feed rest ≡ length rest → whole_from begun piece ≡ p.taken
-  taken_whole {begun' = begun'} {rest = rest} p none = p.whole ∙ (ap (λ ls. p.taken ++ ls) (whole_none begun' rest none) ∙ lines_nil p.taken)
+  taken_whole {begun' = begun'} {rest = rest} p none = p.whole ∙ (ap (λ ls. p.taken ++ ls) (whole_none begun' rest none) ∙ append_nil p.taken)
 
   pub taken_count : {m a : M} {s s' : SinkState} {w w' begun begun' : Text} {lines lines' : ℕ} {piece rest : Text}
       → IsTaken m a s s' w w' begun begun' lines lines' piece rest → position_or_len is_line_feed rest ≡ length rest → lines' ≡ lines + length (whole_from begun piece)
@@ -323,10 +315,3 @@ module _ {M : Type 0} (R : M → Text → Text → M → Type 0) where
   pub finished_some : {X : Type 0} (m a : M) (s s' : SinkState) (w w' begun : Text) (first : ℕ) (result : Result X ScriptFault) → 0 < length begun
       → Takes R result m a s s' w w' ((begun ++ []) ∷ []) 1 first → Takes R result m a s s' w w' (line_begun begun) (length (line_begun begun)) first
   finished_some m a s s' w w' begun first result some p = subst (λ lines. Takes R result m a s s' w w' lines (length lines) first) (sym (line_begun_is begun some)) p
-
--- what a test for 0 says
-pub is_zero : (n : ℕ) → true ≡ (n == 0) → n ≡ 0
-is_zero n h = eqb-true n 0 (sym h)
-
-pub is_some : (n : ℕ) → false ≡ (n == 0) → 0 < n
-is_some n h = let differs = eqb-false n 0 (sym h) in omega (arith, differs)

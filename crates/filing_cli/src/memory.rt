@@ -53,15 +53,11 @@ impl<'a, L: Ledger> MemoryIn<'a, L> {
     }
 
     /// The same source, whose read of this number, from 1 on, fails.
-    pub fn failing_at(self, call: u64) -> MemoryIn<'a, L>
+    pub fn failing_at(mut self, read: u64) -> MemoryIn<'a, L>
         ensures { ⟦<MemoryIn<'a, L> as Source>⟧.state result ≡ ⟦<MemoryIn<'a, L> as Source>⟧.state self.entry }
     {
-        MemoryIn {
-            rest: self.rest,
-            piece: self.piece,
-            failing: Countdown { calls: Some(call) },
-            counts: self.counts,
-        }
+        self.failing = Countdown { calls: Some(read) };
+        self
     }
 }
 
@@ -118,29 +114,19 @@ impl<L: Ledger> MemoryOut<L> {
     }
 
     /// The same sink, whose write of this number, from 1 on, fails.
-    pub fn failing_at(self, call: u64) -> MemoryOut<L>
+    pub fn failing_at(mut self, write: u64) -> MemoryOut<L>
         ensures { ⟦<MemoryOut<L> as Sink>⟧.state result ≡ ⟦<MemoryOut<L> as Sink>⟧.state self }
     {
-        MemoryOut {
-            written: self.written,
-            piece: self.piece,
-            failing: Countdown { calls: Some(call) },
-            idle: self.idle,
-            counts: self.counts,
-        }
+        self.failing = Countdown { calls: Some(write) };
+        self
     }
 
     /// The same sink, whose write of this number, from 1 on, takes nothing.
-    pub fn idle_at(self, call: u64) -> MemoryOut<L>
+    pub fn idle_at(mut self, write: u64) -> MemoryOut<L>
         ensures { ⟦<MemoryOut<L> as Sink>⟧.state result ≡ ⟦<MemoryOut<L> as Sink>⟧.state self }
     {
-        MemoryOut {
-            written: self.written,
-            piece: self.piece,
-            failing: self.failing,
-            idle: Countdown { calls: Some(call) },
-            counts: self.counts,
-        }
+        self.idle = Countdown { calls: Some(write) };
+        self
     }
 
     /// What is written.

@@ -138,6 +138,7 @@ fn the_last_line_needs_no_line_feed(rt: HostRuntime) -> Result<(), Fail> {
 #[test]
 fn the_machine_is_what_the_lines_make_of_it(rt: HostRuntime) -> Result<(), Fail> {
     let outcome = try_run(rt.alloc(), SCRIPT, SOUND)?;
+    outcome.result?;
     assert_eq!(rt; outcome.last, 1);
     Ok(())
 }
@@ -269,6 +270,7 @@ fn many_long_replies_are_all_written(rt: HostRuntime) -> Result<(), Fail> {
         ..SOUND
     };
     let outcome = try_run(rt.alloc(), input.as_slice(), trial)?;
+    outcome.result?;
     assert_eq!(rt; outcome.written.len(), 60);
     Ok(())
 }
