@@ -72,9 +72,9 @@ module _ {M : Type 0} (R : M → Text → Text → M → Type 0) where
   fault_runs m a s s2 ended reads Endless gave p = absurd p
 
   -- memory is refused before the first read
-  pub starved_at_once : (m : M) (source : SourceState) (s : SinkState) (reads : ℕ) → IsStarved R reads m m source source s s 1
+  pub starved_at_once : (m : M) (source : SourceState) (s : SinkState) → IsStarved R m m source source s s 1
   unfolding whole_lines spoken text_of
-  starved_at_once m source s reads = record {
+  starved_at_once m source s = record {
     given = [];
     ended = false;
     gave = record { bytes = consumes_none source.rest; ended = omega arith; failures = omega arith };
@@ -129,10 +129,10 @@ module _ {M : Type 0} (R : M → Text → Text → M → Type 0) where
   took_all : {m a : M} {s s' : SinkState} {lines : List Text} (p : HasAnswered R m a s s' [] [] lines) → Took s s' (text_of p.texts) 0
   took_all {s = s} {s' = s'} p = subst (λ text. Took s s' text 0) (sym (append_nil p.sent.written) ∙ p.sent.parts) p.sent.took
 
-  pub read_failed : {m m' : M} {source source1 source2 : SourceState} {s s' : SinkState} {turn : ℕ} {begun waiting : Text} {lines : ℕ} (reads : ℕ)
+  pub read_failed : {m m' : M} {source source1 source2 : SourceState} {s s' : SinkState} {turn : ℕ} {begun waiting : Text} {lines : ℕ}
       → IsRead m m' source source1 s s' turn begun waiting lines → Keeps source1.rest source2.rest → source2.ends ≡ source1.ends → source2.failed ≡ source1.failed + 1
-      → IsUnread R reads m m' source source2 s s'
-  read_failed {m} {m'} {source} {source1} {source2} reads p kept ended failed = record {
+      → IsUnread R m m' source source2 s s'
+  read_failed {m} {m'} {source} {source1} {source2} p kept ended failed = record {
     given = p.given;
     gave = record {
       bytes = consumes_kept source.rest source1.rest source2.rest p.given p.gave.bytes kept;
@@ -145,7 +145,7 @@ module _ {M : Type 0} (R : M → Text → Text → M → Type 0) where
   }
 
   pub read_endless : {m m' : M} {source source' : SourceState} {s s' : SinkState} {turn : ℕ} {begun waiting : Text} {lines : ℕ} (reads : ℕ)
-      → IsRead m m' source source' s s' turn begun waiting lines → turn ≡ reads → IsEndless R reads m m' source source' s s'
+      → IsRead m m' source source' s s' turn begun waiting lines → turn ≡ reads → IsEndless R m m' source source' s s' reads
   read_endless {m} {m'} {source = source} reads p all = record {
     given = p.given;
     gave = p.gave;

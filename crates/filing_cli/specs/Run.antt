@@ -17,7 +17,7 @@ Answers replies before (line ∷ lines) [] after = ⊥
 Answers {M} replies before (line ∷ lines) (text ∷ texts) after =
     (next : M) × (replies before line text next × Answers replies next lines texts after)
 
-module _ {M : Type 0} (replies : M → Text → Text → M → Type 0) (reads : ℕ) (before after : M)
+module _ {M : Type 0} (replies : M → Text → Text → M → Type 0) (before after : M)
     (source source' : SourceState) (sink sink' : SinkState) where
   -- the source was read to its end, every line has its reply, and nothing else is written
   pub record IsAnswered : Type 0 where
@@ -37,7 +37,7 @@ module _ {M : Type 0} (replies : M → Text → Text → M → Type 0) (reads : 
     pub took : Took sink sink' (text_of texts) 0
 
   -- as many reads were made as the bound allows, none met the end or failed, every whole line has its reply, and nothing else is written
-  pub record IsEndless : Type 0 where
+  pub record IsEndless (reads : ℕ) : Type 0 where
     pub given : Text
     pub texts : List Text
     pub gave : Gave source source' given 0 0
@@ -74,8 +74,8 @@ module _ {M : Type 0} (replies : M → Text → Text → M → Type 0) (reads : 
 
 -- what holds of each result of a run
 abbrev pub Runs : {X M : Type 0} → (M → Text → Text → M → Type 0) → ℕ → Result X ScriptFault → M → M → SourceState → SourceState → SinkState → SinkState → Type 0
-Runs replies reads (Ok x) before after source source' sink sink' = IsAnswered replies reads before after source source' sink sink'
-Runs replies reads (Err Read) before after source source' sink sink' = IsUnread replies reads before after source source' sink sink'
-Runs replies reads (Err Endless) before after source source' sink sink' = IsEndless replies reads before after source source' sink sink'
-Runs replies reads (Err Write) before after source source' sink sink' = IsUnwritten replies reads before after source source' sink sink'
-Runs replies reads (Err (NoMemory number)) before after source source' sink sink' = IsStarved replies reads before after source source' sink sink' number
+Runs replies reads (Ok x) before after source source' sink sink' = IsAnswered replies before after source source' sink sink'
+Runs replies reads (Err Read) before after source source' sink sink' = IsUnread replies before after source source' sink sink'
+Runs replies reads (Err Endless) before after source source' sink sink' = IsEndless replies before after source source' sink sink' reads
+Runs replies reads (Err Write) before after source source' sink sink' = IsUnwritten replies before after source source' sink sink'
+Runs replies reads (Err (NoMemory number)) before after source source' sink sink' = IsStarved replies before after source source' sink sink' number

@@ -20,7 +20,7 @@ take_piece-requires g c =
 
 pub returns-in_default-clause-runs : goal.returns-in_default-clause-runs
 returns-in_default-clause-runs g c =
-    read_failed g.M.Machine.replies c.args.reads c.loop-turn.invariant c.in_default.ensures.bytes c.in_default.ensures.ends c.in_default.ensures.failed
+    read_failed g.M.Machine.replies c.loop-turn.invariant c.in_default.ensures.bytes c.in_default.ensures.ends c.in_default.ensures.failed
 
 pub returns-then-count-eq0-clause-runs : goal.returns-then-count-eq0-clause-runs
 returns-then-count-eq0-clause-runs g c =
