@@ -4,3 +4,4 @@ pub mod Cuts
 pub mod Sending
 pub mod Taking
 pub mod Reading
+pub mod Answering
