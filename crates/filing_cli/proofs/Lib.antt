@@ -1,0 +1,7 @@
+pub mod Nothing
+pub mod DeviceSteps
+pub mod Cuts
+pub mod Sending
+pub mod Taking
+pub mod Reading
+pub mod Answering
