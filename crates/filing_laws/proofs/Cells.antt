@@ -11,7 +11,7 @@ use Rattle.filing_model.specs.Dimensions.{Dims, dims_cmp, dims_eq}
 use Rattle.filing_model.specs.Facts.{Fact, FactValue, Nil, Written, Number}
 use Rattle.filing_model.specs.Intervals.{interval_of, meets}
 use Rattle.filing_model.specs.Reports.{Report}
-use Rattle.filing_model.specs.Duplicates.{value_pair, pair_of, is_apart, class_of, every_pair, allows, permits, facts_of, has_dims, cell_of, is_disallowed, disallowed_dims, least_dims}
+use Rattle.filing_model.specs.Duplicates.{value_pair, pair_of, is_apart, class_of, every_pair, allows, permits, facts_of, has_dims, cell_of, is_disallowed, disallowed_dims, lesser_dims, least_dims}
 use Rattle.filing_model.specs.Sessions.{report_obeys, disallowed_cell}
 use Rattle.filing_model.specs.declared.duplicates.Allowed.{Allowed}
 use Rattle.filing_model.specs.declared.duplicates.Allowed.TheVariants as allowed
@@ -161,9 +161,14 @@ kept_where_passed p dims (d ∷ ds) passes there = by (kept_where_passed p dims 
 pub disallowed_is_listed : (a : Allowed) (facts : List Fact) (dims : Dims) → is_disallowed a facts dims ≡ true → has_these dims (disallowed_dims a facts) ≡ true
 disallowed_is_listed a facts dims disallowed = kept_where_passed (is_disallowed a facts) dims (map (λ f. f.dims) facts) disallowed (disallowed_is_there a facts dims disallowed)
 
+-- the least so far is the least of what came
+lesser_fold : (d : Dims) (ds : List Dims) → fold lesser_dims (Some d) ds ≡ Some (fold (ord_min dims_cmp) d ds)
+lesser_fold d [] = refl
+lesser_fold d (e ∷ ds) = lesser_fold (ord_min dims_cmp d e) ds
+
 nothing_least : (ds : List Dims) → least_dims ds ≡ None → ds ≡ []
 nothing_least [] none = refl
-nothing_least (d ∷ ds) none = let some : Some (fold (ord_min dims_cmp) d ds) ≡ None = none in cc
+nothing_least (d ∷ ds) none = let some : Some (fold (ord_min dims_cmp) d ds) ≡ None = sym (lesser_fold d ds) ∙ none in cc
 
 -- where there is no least disallowed cell, each cell is allowed
 pub allowed_where_none : (a : Allowed) (facts : List Fact) → least_dims (disallowed_dims a facts) ≡ None → (dims : Dims) → is_disallowed a facts dims ≡ false
@@ -241,7 +246,7 @@ each_has P dims (d ∷ ds) each there = by (each_has P dims ds each.1) (dims_eq 
 least_of : (P : Dims → Type 0) (ds : List Dims) (dims : Dims) → Each P ds → least_dims ds ≡ Some dims → P dims × Each (λ d. is_gt (dims_cmp dims d) ≡ false) ds
 least_of P [] dims each is = let apart : None ≡ Some dims = is in cc
 least_of P (d ∷ ds) dims each is =
-    let same : fold (ord_min dims_cmp) d ds ≡ dims = some_same (fold (ord_min dims_cmp) d ds) dims is in
+    let same : fold (ord_min dims_cmp) d ds ≡ dims = some_same (fold (ord_min dims_cmp) d ds) dims (sym (lesser_fold d ds) ∙ is) in
     subst (λ m. P m × Each (λ d. is_gt (dims_cmp m d) ≡ false) (d ∷ ds)) same
     (least_is_one dims_cmp dims_total P d ds each.0 each.1, (up_to_first dims_cmp dims_total d ds, up_to_each dims_cmp dims_total d ds))
   where
