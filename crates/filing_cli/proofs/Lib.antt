@@ -1,0 +1,6 @@
+pub mod Nothing
+pub mod DeviceSteps
+pub mod Cuts
+pub mod Sending
+pub mod Taking
+pub mod Reading

@@ -1,0 +1,5 @@
+pub mod Text
+pub mod Devices
+pub mod Lines
+pub mod Run
+pub mod Pieces

@@ -1,0 +1,27 @@
+//! Scripts and histories, line by line, between a source and a sink of bytes.
+//!
+//! `source` and `sink` are the two traits of devices, `adapters` makes them of any reader and writer, `memory` over memory. `lines` cuts what is read, `machine` is what answers a line, and `run` reads, answers and writes until the end. The crate knows nothing of locks, and nothing of files.
+#![tactic(auto)]
+
+mod adapters;
+mod counts;
+mod fault;
+mod lines;
+mod machine;
+mod memory;
+mod outbox;
+mod progress;
+mod runs;
+mod sink;
+mod source;
+#[cfg(test)]
+mod tests;
+
+pub use adapters::{FromReader, ToWriter};
+pub use fault::{Failed, ScriptFault};
+pub use lines::is_blank;
+pub use machine::Machine;
+pub use memory::{MemoryIn, MemoryOut};
+pub use runs::run;
+pub use sink::{Sink, write_all};
+pub use source::Source;
