@@ -6,6 +6,7 @@
 mod adapters;
 mod counts;
 mod fault;
+mod line;
 mod lines;
 mod machine;
 mod memory;
