@@ -4,3 +4,5 @@ pub mod Cuts
 pub mod Sending
 pub mod Taking
 pub mod Reading
+pub mod Members
+pub mod Facts

@@ -5,3 +5,5 @@ pub mod Run
 pub mod Pieces
 pub mod ScriptLines
 pub mod LineView
+pub mod Reading
+pub mod Parts

@@ -6,6 +6,7 @@
 mod adapters;
 mod counts;
 mod fault;
+mod from_json;
 mod line;
 mod lines;
 mod machine;
@@ -20,6 +21,7 @@ mod tests;
 
 pub use adapters::{FromReader, ToWriter};
 pub use fault::{Failed, ScriptFault};
+pub use from_json::{json_value, raw_fact};
 pub use lines::is_blank;
 pub use machine::Machine;
 pub use memory::{MemoryIn, MemoryOut};

@@ -5,3 +5,4 @@ pub mod NextVersions
 pub mod Keeping
 pub mod Laying
 pub mod Committing
+pub mod SortedDims
