@@ -1,6 +1,6 @@
 ghost use Rattle.std.specs.Prelude.{◌≡◌, Option, option_map, is_some, IfOk};
 ghost use Rattle.filing_model.specs.Text.{text_eq};
-ghost use Rattle.filing_core.specs.Dims.{text_of};
+ghost use Rattle.filing_core.specs.Dims.{text_of, dims_view};
 ghost use Rattle.filing_model.specs.Dimensions.{core_value, is_core};
 ghost use Rattle.filing_model.specs.Facts.{are_bound};
 
@@ -65,6 +65,13 @@ fn is_core_name(name: &str) -> bool
 }
 
 impl DimSet {
+    /// The names with their texts or null, in byte order of the names.
+    pub fn pairs(&self) -> &[(String, Option<String>)]
+        ensures { dims_view result.now ≡ self.now }
+    {
+        &self.pairs
+    }
+
     /// The text at a core dimension, where it is there.
     pub(crate) fn core_value(&self, name: &str) -> Option<&str>
         ensures { option_map (λ t. t.now) result ≡ core_value name.now self.now }
