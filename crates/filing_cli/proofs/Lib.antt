@@ -6,3 +6,5 @@ pub mod Taking
 pub mod Reading
 pub mod Members
 pub mod Facts
+pub mod Pieces
+pub mod Examples

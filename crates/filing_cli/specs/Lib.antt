@@ -7,3 +7,4 @@ pub mod ScriptLines
 pub mod LineView
 pub mod Reading
 pub mod Parts
+pub mod ReplyText

@@ -16,6 +16,7 @@ mod progress;
 mod runs;
 mod sink;
 mod source;
+mod texts;
 #[cfg(test)]
 mod tests;
 
@@ -28,3 +29,7 @@ pub use memory::{MemoryIn, MemoryOut};
 pub use runs::run;
 pub use sink::{Sink, write_all};
 pub use source::Source;
+pub use texts::{
+    bad_fact_reply, bad_line_reply, name_in_use_reply, no_session_reply, reply_text,
+    wrong_report_reply,
+};

@@ -174,6 +174,13 @@ impl DimSet {
         }
     }
 
+    /// The names with their texts or null, in byte order of the names.
+    pub fn pairs(&self) -> &[(String, Option<String>)]
+        ensures { dims_view result.now ≡ self.now }
+    {
+        &self.pairs
+    }
+
     /// The text at a core dimension, where it is there.
     pub(crate) fn core_value(&self, name: &str) -> Option<&str>
         ensures { option_map (λ t. t.now) result ≡ core_value name.now self.now }

@@ -18,8 +18,8 @@ mod step;
 
 pub use dims::DimSet;
 pub use engine::Core;
-pub use fact_map::FactMap;
 pub use fact::{Fact, FactValue, RawFact};
+pub use fact_map::FactMap;
 pub use fault::CoreFault;
 pub use fitting::fit;
 pub use names::Names;

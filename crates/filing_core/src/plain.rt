@@ -19,7 +19,7 @@ pub struct Plain {
 
 impl Model for Plain {
     ghost use Rattle.filing_model.specs.TextMap.{empty};
-ghost use Rattle.filing_model.specs.Repository.{Repository};
+    ghost use Rattle.filing_model.specs.Repository.{Repository};
     ghost use Rattle.filing_core.specs.Keyed.{keyed_map};
 
     ghost Value = { Repository };
@@ -80,11 +80,7 @@ impl Plain {
 }
 
 /// The report with the facts laid over it, where there are some.
-fn laid_over(
-    alloc: Global,
-    report: &Report,
-    facts: Option<&FactMap>,
-) -> Result<Report, AllocError>
+fn laid_over(alloc: Global, report: &Report, facts: Option<&FactMap>) -> Result<Report, AllocError>
     ensures { IfOk result (λ r. r ≡ with_facts (unwrap_or (option_map (λ f. f.now) facts.entry) empty) report.now) }
 {
     match facts {

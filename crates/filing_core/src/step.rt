@@ -20,7 +20,10 @@ pub enum Step {
     /// A session opens at the current version.
     Open(Kind),
     /// A session reads the fact of an identifier.
-    Get { report: String, id: String },
+    Get {
+        report: String,
+        id: String,
+    },
     /// A session stages a fact under an identifier that is not there.
     Add {
         report: String,

@@ -1,0 +1,2 @@
+-- Worked examples: the definitions compute to what the formats say.
+pub mod ReplyText
