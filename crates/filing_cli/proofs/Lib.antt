@@ -8,3 +8,4 @@ pub mod Members
 pub mod Facts
 pub mod Pieces
 pub mod Examples
+pub mod Answering

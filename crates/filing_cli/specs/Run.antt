@@ -17,6 +17,16 @@ Answers replies before (line ∷ lines) [] after = ⊥
 Answers {M} replies before (line ∷ lines) (text ∷ texts) after =
     (next : M) × (replies before line text next × Answers replies next lines texts after)
 
+-- the replies to the lines, where a function gives the reply to a line and the state after it
+abbrev pub replies_of : {S : Type 0} → (S → Text → Text × S) → S → List Text → List Text
+replies_of step state [] = []
+replies_of step state (line ∷ lines) = (step state line).0 ∷ replies_of step (step state line).1 lines
+
+-- the state after the lines
+abbrev pub state_after : {S : Type 0} → (S → Text → Text × S) → S → List Text → S
+state_after step state [] = state
+state_after step state (line ∷ lines) = state_after step (step state line).1 lines
+
 module _ {M : Type 0} (replies : M → Text → Text → M → Type 0) (before after : M)
     (source source' : SourceState) (sink sink' : SinkState) where
   -- the source was read to its end, every line has its reply, and nothing else is written

@@ -1,6 +1,8 @@
 //! Scripts and histories, line by line, between a source and a sink of bytes.
 //!
-//! `source` and `sink` are the two traits of devices, `adapters` makes them of any reader and writer, `memory` over memory. `lines` cuts what is read, `machine` is what answers a line, and `run` reads, answers and writes until the end. The crate knows nothing of locks, and nothing of files.
+//! `source` and `sink` are the two traits of devices; `adapters` makes them of any reader and writer, `memory` over memory, and `counts` counts their calls. `fault` says why a run ended early. `lines` cuts what is read, `machine` is what answers a line, `outbox` keeps replies until they are written, `progress` takes a piece at a time, and `runs` reads, answers and writes until the end.
+//!
+//! The crate knows nothing of locks, and nothing of files.
 #![tactic(auto)]
 
 mod adapters;
