@@ -8,3 +8,5 @@ pub mod LineView
 pub mod Reading
 pub mod Parts
 pub mod ReplyText
+pub mod Script
+pub mod ScriptRun
