@@ -9,3 +9,5 @@ pub mod Facts
 pub mod Pieces
 pub mod Examples
 pub mod Answering
+pub mod Freeing
+pub mod Busy

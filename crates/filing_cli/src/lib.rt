@@ -16,11 +16,12 @@ mod memory;
 mod outbox;
 mod progress;
 mod runs;
+mod session_names;
 mod sink;
 mod source;
-mod texts;
 #[cfg(test)]
 mod tests;
+mod texts;
 
 pub use adapters::{FromReader, ToWriter};
 pub use fault::{Failed, ScriptFault};
