@@ -3,4 +3,4 @@
 
 mod from_json;
 
-pub use from_json::{json_value, raw_fact};
+pub use from_json::{json_value, raw_fact, report, report_text};
