@@ -11,3 +11,7 @@ pub mod Examples
 pub mod Answering
 pub mod Freeing
 pub mod Busy
+pub mod Values
+pub mod Aliases
+pub mod Reports
+pub mod Prefixes

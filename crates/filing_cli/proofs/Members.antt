@@ -45,14 +45,14 @@ rise-Some (number n) es h r = tt
 rise-Some (string s) es h r = tt
 rise-Some (array ds) es h r = tt
 
-abbrev is_either : Text → Text → Text × Data → Bool
+abbrev pub is_either : Text → Text → Text × Data → Bool
 is_either a b m = text_eq m.0 a || text_eq m.0 b
 
-and_first : (p q : Bool) → p && q ≡ true → p ≡ true
+pub and_first : (p q : Bool) → p && q ≡ true → p ≡ true
 and_first true q h = refl
 and_first false q h = h
 
-and_second : (p q : Bool) → p && q ≡ true → q ≡ true
+pub and_second : (p q : Bool) → p && q ≡ true → q ≡ true
 and_second true q h = h
 and_second false q h = absurd (true≢false (sym h))
 

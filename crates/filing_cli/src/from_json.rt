@@ -12,8 +12,11 @@ ghost use Rattle.filing_core.specs.Dims.{text_of};
 ghost use Rattle.filing_cli.specs.Reading.{members_in, has_no_member_but};
 
 mod fact;
+mod prefixes;
+mod reports;
 
 pub use fact::raw_fact;
+pub use reports::{report, report_text};
 use serde_json::{Map, Value};
 use std::alloc::{AllocError, Global};
 

@@ -25,7 +25,7 @@ mod texts;
 
 pub use adapters::{FromReader, ToWriter};
 pub use fault::{Failed, ScriptFault};
-pub use from_json::{json_value, raw_fact};
+pub use from_json::{json_value, raw_fact, report, report_text};
 pub use lines::is_blank;
 pub use machine::Machine;
 pub use memory::{MemoryIn, MemoryOut};
