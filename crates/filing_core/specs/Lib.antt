@@ -7,3 +7,4 @@ pub mod Steps
 pub mod Kept
 pub mod Outcomes
 pub mod Answers
+pub mod OpenSession

@@ -10,6 +10,7 @@ mod fact_map;
 mod fault;
 mod fitting;
 mod names;
+mod outcome;
 mod plain;
 mod report;
 mod session;

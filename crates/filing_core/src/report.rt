@@ -61,10 +61,20 @@ impl Report {
     }
 
     pub fn names(&self) -> &Names
-        ensures names { result.now ≡ self.now.names }
-        ensures allows_all { self.now.allowed ≡ All }
+        ensures { result.now ≡ self.now.names }
     {
         &self.names
+    }
+
+    /// Another owner of the same parts.
+    pub(crate) fn share(&self) -> Result<Report, AllocError>
+        ensures same { IfOk result (λ r. r ≡ self.now) }
+
+        // What declares nothing allows all.
+        ensures allows_all { self.now.allowed ≡ All }
+    {
+        let _ = &self.info;
+        self.clone()
     }
 
     pub fn get(&self, id: &str) -> Option<&Arc<Fact>>

@@ -23,15 +23,11 @@ pub each_joined : {A : Type 0} (P : A → Type 0) (o : Option A) (xs : List A) �
 each_joined P None xs h hs = hs
 each_joined P (Some x) xs h hs = (h, hs)
 
-pub each_appended : {A : Type 0} (P : A → Type 0) (xs ys : List A) → Each P xs → Each P ys → Each P (xs ++ ys)
-each_appended P [] ys h hs = hs
-each_appended P (x ∷ xs) ys h hs = (h.0, each_appended P xs ys h.1 hs)
-
 -- no element passes a test
 abbrev pub IsNever : {A : Type 0} → (A → Bool) → List A → Type 0
 IsNever test xs = list_any test xs ≡ false
 
-neither : (a b : Bool) → (a || b) ≡ false → (a ≡ false) × (b ≡ false)
+pub neither : (a b : Bool) → (a || b) ≡ false → (a ≡ false) × (b ≡ false)
 neither true b e = cc
 neither false b e = (refl, e)
 

@@ -3,7 +3,9 @@ use Rattle.std.proofs.Common.{◌≡◌, ◌∙◌, ap, sym, refl, Bool, true, f
 use Rattle.std.proofs.lemmas.Bool.{and_parts}
 use Rattle.std.specs.Ordering.{ordering_then, on, then_cmp}
 use Rattle.std.specs.Option.{option_cmp, option_eq}
-use Rattle.std.specs.Cmp.Lexicographic.{slice_cmp, bytes_decides, texts_ties}
+use Rattle.std.specs.Cmp.Lexicographic.{slice_cmp, bytes_decides, texts_ties, nat_list_cmp_total, lists_total, options_total}
+use Rattle.std.specs.Cmp.{IsTotalOrder}
+use Rattle.std.proofs.lemmas.Cmp.{tied_itself, then_total, on_total}
 use Rattle.filing_model.specs.Text.{Text, text_cmp, text_eq}
 use Rattle.filing_model.specs.Dimensions.{Dims, dims_cmp, dims_eq}
 use Rattle.filing_model.specs.Things.{Thing, Report, Id, Cell, Query, thing_eq}
@@ -79,3 +81,11 @@ thing_same (Query m c p) (Query n d q) e =
     let parts = three_parts (text_eq m n) (text_eq c d) (option_eq text_eq p q) e in
     λ k. Query (text_same m n parts.0 k) (text_same c d parts.1 k) (period_same p q parts.2 k)
 thing_same _ _ e = absurd (true≢false (sym e))
+
+-- ---- the order of dimension sets
+
+pub dims_total : IsTotalOrder dims_cmp
+dims_total = lists_total (then_total (on_total (λ p. p.0) nat_list_cmp_total) (on_total (λ p. p.1) (options_total nat_list_cmp_total)))
+
+pub dims_eq_itself : (x : Dims) → dims_eq x x ≡ true
+dims_eq_itself x = ap is_eq (tied_itself dims_total x)

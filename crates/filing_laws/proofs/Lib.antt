@@ -12,3 +12,6 @@ pub mod Changes
 pub mod Cases
 pub mod Known
 pub mod Serial
+pub mod Classes
+pub mod Cells
+pub mod Chain

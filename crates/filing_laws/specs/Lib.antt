@@ -1,2 +1,4 @@
 pub mod NextReply
 pub mod Untouched
+pub mod Obeying
+pub mod Versions

@@ -1,12 +1,24 @@
 //! The laws of the plain repository and its histories: what follows from the definitions alone.
 //!
 //! Each public function has no parameters and an empty body, and carries one law as its contract. The lemmas in `proofs/` are what the proofs of other crates cite. It knows nothing of code: nothing here is stored, shared, locked or read.
+//!
+//! - `next_reply`: after a lawful history each step that may be taken has one reply that keeps it lawful.
+//! - `untouched`: a session whose reads nobody touched was told what it is told alone, at its opening and now.
+//! - `obeying`: a report obeys its allowed duplicates exactly where it has no disallowed cell.
+//! - `versions`: each version of a lawful history obeys, and the versions are a chain.
 #![tactic(auto)]
 
 mod next_reply;
+mod obeying;
 mod untouched;
+mod versions;
 
 pub use next_reply::{each_entry_follows_lawfully, each_step_has_one_reply};
+pub use obeying::{
+    least_disallowed_is_the_least, obeys_where_each_cell_is_allowed,
+    obeys_where_no_cell_is_disallowed, repository_obeys_where_not_refused,
+};
 pub use untouched::{
     each_session_replies_as_at_its_opening, each_untouched_session_replies_as_now,
 };
+pub use versions::{each_version_obeys, versions_are_a_chain};
