@@ -4,4 +4,14 @@ pub mod Cuts
 pub mod Sending
 pub mod Taking
 pub mod Reading
+pub mod Members
+pub mod Facts
+pub mod Pieces
+pub mod Examples
 pub mod Answering
+pub mod Freeing
+pub mod Busy
+pub mod Values
+pub mod Aliases
+pub mod Reports
+pub mod Prefixes

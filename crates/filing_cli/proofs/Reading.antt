@@ -52,6 +52,7 @@ module _ {M : Type 0} (R : M → Text → Text → M → Type 0) where
     later = p.later;
     front = p.front;
     texts = p.texts;
+    reached = p.reached;
     answers = p.answers;
     took = p.took;
   }
@@ -65,6 +66,7 @@ module _ {M : Type 0} (R : M → Text → Text → M → Type 0) where
     counted = omega (arith, p.counted);
     begun = inr (omega (arith, p.counted, p.begun));
     texts = p.texts;
+    reached = p.reached;
     answers = p.answers;
     took = subst (λ text. Took s s2 text 0) (sym (append_nil p.sent.written) ∙ p.sent.parts) p.sent.took;
   }
@@ -84,6 +86,7 @@ module _ {M : Type 0} (R : M → Text → Text → M → Type 0) where
     counted = refl;
     begun = inl refl;
     texts = [];
+    reached = m;
     answers = refl;
     took = took_none s;
   }

@@ -107,20 +107,22 @@ module _ {M : Type 0} (R : M → Text → Text → M → Type 0) where
     later = [];
     front = refl;
     texts = reply ∷ [];
+    reached = a;
     answers = one m a line reply h r;
     took = subst (λ text. TookPart s s' (w ++ text)) (sym (text_of_one reply)) took;
   }
 
   -- memory is refused at the first of some lines, or at the line begun
-  pub starved_first : (m : M) (s : SinkState) (w : Text) (lines : List Text) (count first : ℕ) → 0 < count → HasStarved R m m s s w w lines count first first
+  pub starved_first : (m a : M) (s : SinkState) (w : Text) (lines : List Text) (count first : ℕ) → 0 < count → HasStarved R m a s s w w lines count first first
   unfolding spoken text_of
-  starved_first m s w lines count first some = record {
+  starved_first m a s w lines count first some = record {
     done = [];
     later = lines;
     front = refl;
     counted = omega arith;
     begun = some;
     texts = [];
+    reached = m;
     answers = refl;
     sent = sent_none s w;
   }
@@ -140,7 +142,8 @@ module _ {M : Type 0} (R : M → Text → Text → M → Type 0) where
     later = q.later ++ others;
     front = append_assoc lines q.done (q.later ++ others) ∙ (ap (λ m. lines ++ m) (sym (append_assoc q.done q.later others) ∙ ap (λ m. m ++ others) q.front) ∙ is);
     texts = p.texts ++ q.texts;
-    answers = subst (λ ls. Answers R m ls (p.texts ++ q.texts) a) (sym (spoken-append lines q.done)) (Answers-append R m n a (spoken lines) (spoken q.done) p.texts q.texts p.answers q.answers);
+    reached = q.reached;
+    answers = subst (λ ls. Answers R m ls (p.texts ++ q.texts) q.reached) (sym (spoken-append lines q.done)) (Answers-append R m n q.reached (spoken lines) (spoken q.done) p.texts q.texts p.answers q.answers);
     took = subst (λ text. TookPart s s2 (w ++ text)) (sym (text_of-append p.texts q.texts)) (part_sent (text_of q.texts) p.sent q.took);
   }
 
@@ -155,7 +158,8 @@ module _ {M : Type 0} (R : M → Text → Text → M → Type 0) where
         counted = omega (arith, long, q.counted);
         begun = omega (arith, long, q.begun);
         texts = p.texts ++ q.texts;
-        answers = subst (λ ls. Answers R m ls (p.texts ++ q.texts) a) (sym (spoken-append lines q.done)) (Answers-append R m n a (spoken lines) (spoken q.done) p.texts q.texts p.answers q.answers);
+        reached = q.reached;
+        answers = subst (λ ls. Answers R m ls (p.texts ++ q.texts) q.reached) (sym (spoken-append lines q.done)) (Answers-append R m n q.reached (spoken lines) (spoken q.done) p.texts q.texts p.answers q.answers);
         sent = subst (Sent s s2 w w2) (sym (text_of-append p.texts q.texts)) (sent_more p.sent q.sent);
       }
 
@@ -164,15 +168,15 @@ module _ {M : Type 0} (R : M → Text → Text → M → Type 0) where
   answered_out p q = record { texts = p.texts; answers = p.answers; sent = sent_out p.sent q }
 
   answered_cut : {m a : M} {s s1 s2 : SinkState} {w w1 w2 : Text} {lines : List Text} → HasAnswered R m a s s1 w w1 lines → TookPart s1 s2 w1 → HasFailed R m a s s2 w w2 lines
-  answered_cut {lines = lines} p q = record { done = lines; later = []; front = append_nil lines; texts = p.texts; answers = p.answers; took = part_out p.sent q }
+  answered_cut {a = a} {lines = lines} p q = record { done = lines; later = []; front = append_nil lines; texts = p.texts; reached = a; answers = p.answers; took = part_out p.sent q }
 
   starved_out : {m a : M} {s s1 s2 : SinkState} {w w1 : Text} {lines : List Text} {count first number : ℕ}
       → HasStarved R m a s s1 w w1 lines count first number → Took s1 s2 w1 0 → HasStarved R m a s s2 w [] lines count first number
-  starved_out p q = record { done = p.done; later = p.later; front = p.front; counted = p.counted; begun = p.begun; texts = p.texts; answers = p.answers; sent = sent_out p.sent q }
+  starved_out p q = record { done = p.done; later = p.later; front = p.front; counted = p.counted; begun = p.begun; texts = p.texts; reached = p.reached; answers = p.answers; sent = sent_out p.sent q }
 
   starved_cut : {m a : M} {s s1 s2 : SinkState} {w w1 w2 : Text} {lines : List Text} {count first number : ℕ}
       → HasStarved R m a s s1 w w1 lines count first number → TookPart s1 s2 w1 → HasFailed R m a s s2 w w2 lines
-  starved_cut p q = record { done = p.done; later = p.later; front = p.front; texts = p.texts; answers = p.answers; took = part_out p.sent q }
+  starved_cut p q = record { done = p.done; later = p.later; front = p.front; texts = p.texts; reached = p.reached; answers = p.answers; took = part_out p.sent q }
 
   failed_kept : {m a : M} {s s1 s2 : SinkState} {w w1 w2 : Text} {lines : List Text} → HasFailed R m a s s1 w w1 lines → s2 ≡ s1 → HasFailed R m a s s2 w w2 lines
   failed_kept {s = s} {w = w} p is = record {
@@ -180,6 +184,7 @@ module _ {M : Type 0} (R : M → Text → Text → M → Type 0) where
     later = p.later;
     front = p.front;
     texts = p.texts;
+    reached = p.reached;
     answers = p.answers;
     took = subst (λ t. TookPart s t (w ++ text_of p.texts)) (sym is) p.took;
   }
@@ -260,13 +265,14 @@ module _ {M : Type 0} (R : M → Text → Text → M → Type 0) where
 
   starved_end : {m a : M} {s s' : SinkState} {w w' : Text} {lines whole : List Text} {count first number : ℕ}
       → HasAnswered R m a s s' w w' lines → whole ≡ lines → number ≡ first + length lines → length lines < count → HasStarved R m a s s' w w' whole count first number
-  starved_end {lines = lines} p is counted begun = record {
+  starved_end {a = a} {lines = lines} p is counted begun = record {
     done = lines;
     later = [];
     front = append_nil lines ∙ sym is;
     counted = counted;
     begun = begun;
     texts = p.texts;
+    reached = a;
     answers = p.answers;
     sent = p.sent;
   }

@@ -3,3 +3,10 @@ pub mod Devices
 pub mod Lines
 pub mod Run
 pub mod Pieces
+pub mod ScriptLines
+pub mod LineView
+pub mod Reading
+pub mod Parts
+pub mod ReplyText
+pub mod Script
+pub mod ScriptRun

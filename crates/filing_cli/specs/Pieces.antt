@@ -44,16 +44,17 @@ module _ {M : Type 0} (replies : M → Text → Text → M → Type 0) (before a
     pub answers : Answers replies before (spoken lines) texts after
     pub sent : Sent sink sink' waiting waiting' (text_of texts)
 
-  -- a write failed: the first lines are answered, and a front of what waited and their replies is written
+  -- a write failed: the first lines are answered, and a front of what waited and their replies is written. The machine may have gone on
   pub record HasFailed : Type 0 where
     pub done : List Text
     pub later : List Text
     pub front : done ++ later ≡ lines
     pub texts : List Text
-    pub answers : Answers replies before (spoken done) texts after
+    pub reached : M
+    pub answers : Answers replies before (spoken done) texts reached
     pub took : TookPart sink sink' (waiting ++ text_of texts)
 
-  -- memory was refused at a line, one of `count`, of which the first has the number `first`: the lines before it are answered, and their replies are sent
+  -- memory was refused at a line, one of `count`, of which the first has the number `first`: the lines before it are answered, and their replies are sent. The machine may have gone on
   pub record HasStarved (count first number : ℕ) : Type 0 where
     pub done : List Text
     pub later : List Text
@@ -61,7 +62,8 @@ module _ {M : Type 0} (replies : M → Text → Text → M → Type 0) (before a
     pub counted : number ≡ first + length done
     pub begun : length done < count
     pub texts : List Text
-    pub answers : Answers replies before (spoken done) texts after
+    pub reached : M
+    pub answers : Answers replies before (spoken done) texts reached
     pub sent : Sent sink sink' waiting waiting' (text_of texts)
 
 -- what holds of each result of taking some lines

@@ -55,7 +55,7 @@ module _ {M : Type 0} (replies : M → Text → Text → M → Type 0) (before a
     pub answers : Answers replies before (spoken (whole_lines given)) texts after
     pub took : Took sink sink' (text_of texts) 0
 
-  -- a write failed: some of the first lines were answered, and a front of their replies is written
+  -- a write failed: some of the first lines were answered, and a front of their replies is written. The machine may have gone on from what it had reached
   pub record IsUnwritten : Type 0 where
     pub given : Text
     pub ended : Bool
@@ -64,10 +64,11 @@ module _ {M : Type 0} (replies : M → Text → Text → M → Type 0) (before a
     pub later : List Text
     pub front : lines ++ later ≡ lines_read ended given
     pub texts : List Text
-    pub answers : Answers replies before (spoken lines) texts after
+    pub reached : M
+    pub answers : Answers replies before (spoken lines) texts reached
     pub took : TookPart sink sink' (text_of texts)
 
-  -- memory was refused at a line: every line before it has its reply, and nothing else is written
+  -- memory was refused at a line: every line before it has its reply, and nothing else is written. The machine may have gone on from what it had reached
   pub record IsStarved (number : ℕ) : Type 0 where
     pub given : Text
     pub ended : Bool
@@ -79,7 +80,8 @@ module _ {M : Type 0} (replies : M → Text → Text → M → Type 0) (before a
     -- the line was begun, unless nothing was read yet
     pub begun : (given ≡ []) ⊎ (number ≤ length (lines_of given))
     pub texts : List Text
-    pub answers : Answers replies before (spoken lines) texts after
+    pub reached : M
+    pub answers : Answers replies before (spoken lines) texts reached
     pub took : Took sink sink' (text_of texts) 0
 
 -- what holds of each result of a run

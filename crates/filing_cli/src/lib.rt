@@ -8,22 +8,31 @@
 mod adapters;
 mod counts;
 mod fault;
+mod from_json;
+mod line;
 mod lines;
 mod machine;
 mod memory;
 mod outbox;
 mod progress;
 mod runs;
+mod session_names;
 mod sink;
 mod source;
 #[cfg(test)]
 mod tests;
+mod texts;
 
 pub use adapters::{FromReader, ToWriter};
 pub use fault::{Failed, ScriptFault};
+pub use from_json::{json_value, raw_fact, report, report_text};
 pub use lines::is_blank;
 pub use machine::Machine;
 pub use memory::{MemoryIn, MemoryOut};
 pub use runs::run;
 pub use sink::{Sink, write_all};
 pub use source::Source;
+pub use texts::{
+    bad_fact_reply, bad_line_reply, name_in_use_reply, no_session_reply, reply_text,
+    wrong_report_reply,
+};

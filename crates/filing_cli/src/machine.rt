@@ -1,4 +1,4 @@
-ghost use Rattle.std.specs.Prelude.{◌≡◌, ℕ, List, IfOk, OnErr, string_bytes};
+ghost use Rattle.std.specs.Prelude.{ℕ, List, IfOk, string_bytes};
 
 use std::alloc::{AllocError, Global};
 
@@ -7,8 +7,7 @@ pub trait Machine {
     /// The machine before, a line that is not blank, its reply without a line feed, and the machine after.
     ghost replies: { Self → List ℕ → List ℕ → Self → Type 0 };
 
-    /// Answers a line. Where memory is refused, the machine is as it was.
+    /// Answers a line. Where memory is refused, nothing is said of the machine, which is asked nothing more: it may have taken a step for whose reply there is no memory.
     fn answer(&mut self, alloc: Global, line: &[u8]) -> Result<String, AllocError>
-        ensures ok { IfOk result (λ reply. replies self.old line.now (string_bytes reply) self.new) }
-        ensures err { OnErr result (self.new ≡ self.old) };
+        ensures { IfOk result (λ reply. replies self.old line.now (string_bytes reply) self.new) };
 }

@@ -26,7 +26,7 @@ impl Model for Names {
 impl Names {
     /// Two prefixes may not have one URI; who reads them sees to that.
     pub fn of(prefixes: BTreeMap<String, String>) -> Names
-        ensures { result.prefixes ≡ keyed_map string_bytes prefixes.entries }
+        ensures { result ≡ record { prefixes = keyed_map string_bytes prefixes.entries; table = [] } }
     {
         Names { prefixes }
     }

@@ -1,0 +1,102 @@
+-- A plain fact by its parts.
+use Rattle.std.proofs.Common.{◌≡◌, ◌∙◌, ap, sym, refl, Bool, true, false, cond, List, [], ◌∷◌, Option, None, Some, Result, Ok, Err, codes, String, string_bytes, ◌++◌, unwrap_or, is_some, true≢false}
+use Rattle.std.proofs.lemmas.List.{map-append}
+use Rattle.std.specs.Option.{option_and_then, ok_or}
+use Rattle.std.specs.Result.{result_ok}
+use Rattle.serde_json.specs.Data.{Data, null, boolean, number, string, array, object}
+use Rattle.serde_json.specs.Find.{get}
+use Rattle.filing_model.specs.Text.{Text}
+use Rattle.filing_model.specs.Try.{◌>>=◌, map_err, each, with_front}
+use Rattle.filing_model.specs.JsonText.{as_nullable, pairs}
+use Rattle.filing_model.specs.Dimensions.{Dims, dims_of}
+use Rattle.filing_model.specs.Facts.{RawFact}
+use Rattle.filing_model.specs.ReadFact.{dim_of, named_dims, decimals_of, links_of, raw_fact_of}
+use Rattle.filing_model.specs.declared.faults.DimFault.{DimFault}
+use Rattle.filing_model.specs.declared.faults.Trouble.{Trouble}
+use Rattle.filing_model.specs.declared.faults.Trouble.TheVariants as trouble
+use Rattle.std.specs.declared.alloc.Global.{Global}
+use Rattle.serde_json.specs.View.{view, members_view}
+use Rattle.serde_json.specs.declared.value.Value.{Value}
+use Rattle.filing_model.proofs.Tries.{each_more}
+use Rattle.filing_core.specs.Dims.{dims_view}
+use Rattle.filing_cli.specs.Parts.{dim_view}
+use Rattle.filing_cli.specs.Reading.{plain_fact_of, is_plain_fact}
+use Rattle.filing_cli.proofs.Members.{no_third}
+
+abbrev plain : Dims → Option Text → RawFact
+plain dims value = record { dims = dims; value = value; decimals = None; links = None }
+
+-- of a set that may be refused
+abbrev pub with_dims : Option Text → Result Dims DimFault → Option RawFact
+with_dims value (Err fault) = None
+with_dims value (Ok dims) = Some (plain dims value)
+
+abbrev pub of_parts : Bool → Option (List (Text × Option Text)) → Option (Option Text) → Option RawFact
+of_parts false named value = None
+of_parts true None value = None
+of_parts true (Some named) None = None
+of_parts true (Some named) (Some value) = with_dims value (dims_of named)
+
+set_last : (value : Option Text) (set : Result Dims DimFault) → result_ok (map_err trouble.Dims set >>= λ dims. Ok (plain dims value)) ≡ with_dims value set
+set_last value (Err fault) = refl
+set_last value (Ok dims) = refl
+
+abbrev after : Result (List (Text × Option Text)) Trouble → Option (Option Text) → Option Data → Option Data → Result RawFact Trouble
+after named value decimals links =
+    named >>= λ named. ok_or value trouble.WrongShape >>= λ value. decimals_of decimals >>= λ decimals. links_of links >>= λ links. map_err trouble.Dims (dims_of named) >>= λ dims.
+    Ok (record { dims = dims; value = value; decimals = decimals; links = links })
+
+read_parts : (named : Result (List (Text × Option Text)) Trouble) (value : Option (Option Text)) → result_ok (after named value None None) ≡ of_parts true (result_ok named) value
+read_parts (Err fault) value = refl
+read_parts (Ok named) None = refl
+read_parts (Ok named) (Some value) = set_last value (dims_of named)
+
+-- neither decimals nor links are there
+no_decimals : (d : Data) → is_plain_fact d ≡ true → get (codes "decimals") d ≡ None
+no_decimals (object ms) h = no_third (codes "dimensions") (codes "value") (codes "decimals") refl refl ms h
+no_decimals null h = refl
+no_decimals (boolean b) h = refl
+no_decimals (number n) h = refl
+no_decimals (string s) h = refl
+no_decimals (array ds) h = refl
+
+no_links : (d : Data) → is_plain_fact d ≡ true → get (codes "links") d ≡ None
+no_links (object ms) h = no_third (codes "dimensions") (codes "value") (codes "links") refl refl ms h
+no_links null h = refl
+no_links (boolean b) h = refl
+no_links (number n) h = refl
+no_links (string s) h = refl
+no_links (array ds) h = refl
+
+pub plain_fact_by_parts : (d : Data) → plain_fact_of d ≡ of_parts (is_plain_fact d) (result_ok (named_dims d)) (option_and_then as_nullable (get (codes "value") d))
+plain_fact_by_parts d =
+    elim (is_plain_fact d) as (λ b. is_plain_fact d ≡ b → cond b (result_ok (raw_fact_of d)) None ≡ of_parts b (result_ok (named_dims d)) (option_and_then as_nullable (get (codes "value") d))) [
+      | true ↦ λ h.
+          (λ i. result_ok (after (named_dims d) (option_and_then as_nullable (get (codes "value") d)) (no_decimals d h i) (no_links d h i)))
+          ∙ read_parts (named_dims d) (option_and_then as_nullable (get (codes "value") d))
+      | false ↦ λ _. refl
+    ] refl
+
+-- ---- a loop that reads dimensions one by one
+
+abbrev Entry : Type 0
+Entry = String Global × Value
+
+abbrev Pair : Type 0
+Pair = String Global × Option (String Global)
+
+abbrev read_on : List Pair → List Entry → Result (List (Text × Option Text)) Trouble
+read_on before left = with_front (dims_view before) (each dim_of (pairs (members_view left)))
+
+ok_from : {A E : Type 0} (r : Result A E) (x : A) → Some x ≡ result_ok r → r ≡ Ok x
+ok_from (Ok y) x h = ap (λ o. Ok (unwrap_or o y)) (sym h)
+ok_from (Err e) x h = absurd (true≢false (ap is_some h))
+
+pub dims_turn : (left rest : List Entry) (k : String Global) (v : Value) (before later : List Pair) (d : Pair) (goal : Result (List (Text × Option Text)) Trouble)
+    → left ≡ (k, v) ∷ rest → later ≡ before ++ d ∷ [] → Some (dim_view d) ≡ result_ok (dim_of (string_bytes k, view v))
+    → read_on before left ≡ goal → read_on later rest ≡ goal
+dims_turn left rest k v before later d goal left_is later_is read h =
+    ap (λ ps. with_front ps (each dim_of (pairs (members_view rest)))) (ap dims_view later_is ∙ map-append dim_view before (d ∷ []))
+    ∙ each_more dim_of (dims_view before) (string_bytes k, view v) (dim_view d) (pairs (members_view rest)) (ok_from _ _ read)
+    ∙ ap (λ es. read_on before es) (sym left_is)
+    ∙ h

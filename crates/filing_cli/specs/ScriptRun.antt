@@ -1,0 +1,37 @@
+-- What a run over a script leaves, by its result. All of it is the project's own.
+use Rattle.std.specs.Prelude.{◌≡◌, ℕ, ◌^◌, [], ◌∷◌, Option, None}
+use Rattle.std.specs.declared.result.Result.{Result}
+use Rattle.std.specs.declared.result.Result.TheVariants.{Ok, Err}
+use Rattle.std.specs.Io.KnownBytes.{IsAtEnd}
+use Rattle.filing_model.specs.History.{History}
+use Rattle.filing_cli.specs.Text.{Text}
+use Rattle.filing_cli.specs.Devices.{SourceState, SinkState, Gave, Took}
+use Rattle.filing_cli.specs.Run.{Runs}
+use Rattle.filing_cli.specs.Script.{State, start, line_answer, script_output, script_history}
+use Rattle.filing_cli.specs.declared.fault.ScriptFault.{ScriptFault}
+
+-- the reply to a line, and what is carried on
+abbrev pub IsReply : State → Text → Text → State → Type 0
+IsReply before line reply after = line_answer before line ≡ (reply, after)
+
+-- the session that the newest entry is of
+abbrev pub newest_session : History → Option ℕ
+newest_session [] = None
+newest_session (e ∷ older) = e.session
+
+-- the source was read to its end, the output of the script that it gave is written and nothing else, and the history is the script's
+pub record IsScriptEnded (source source' : SourceState) (sink sink' : SinkState) (history : History) : Type 0 where
+  pub given : Text
+  pub gave : Gave source source' given 1 0
+  pub at_end : IsAtEnd source'.rest
+  pub took : Took sink sink' (script_output given) 0
+  pub history_is : history ≡ script_history given
+
+-- the run ended before the end of the source, and left what any run leaves after this fault
+pub record IsScriptStopped (source source' : SourceState) (sink sink' : SinkState) (fault : ScriptFault) : Type 0 where
+  pub after : State
+  pub runs : Runs {X = History} IsReply (2 ^ 32) (Err fault) start after source source' sink sink'
+
+abbrev pub ScriptRuns : Result History ScriptFault → SourceState → SourceState → SinkState → SinkState → Type 0
+ScriptRuns (Ok history) source source' sink sink' = IsScriptEnded source source' sink sink' history
+ScriptRuns (Err fault) source source' sink sink' = IsScriptStopped source source' sink sink' fault
