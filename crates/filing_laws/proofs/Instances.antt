@@ -14,7 +14,7 @@ use Rattle.filing_model.specs.declared.kind.Kind.TheVariants.{Review, Amend}
 use Rattle.filing_model.specs.declared.duplicates.Allowed.TheVariants as allowed
 use Rattle.filing_model.specs.declared.duplicates.Class.TheVariants as class
 use Rattle.filing_model.proofs.Examples.Setting.{Line, played, played_on, fact}
-use Rattle.filing_model.proofs.Examples.Histories.{r1, blank, no_net_change_before, no_duplicates_before, newest_version_lines, stored_run_lines}
+use Rattle.filing_model.proofs.Examples.Histories.{r1, blank, no_net_change_before, no_net_change_lines, no_duplicates_before, newest_version_lines, stored_run_lines}
 use Rattle.filing_model.proofs.Examples.Duplicates.{assets, entries, neighbours_obey_consistent, no_cell_is_disallowed, the_cell_of_the_neighbours_is_disallowed}
 use Rattle.filing_laws.specs.NextReply.{MayBeTaken, IsOneNextReply, FollowsLawfully}
 use Rattle.filing_laws.specs.Untouched.{RepliesAlone, ReadsAreUntouched}
@@ -124,6 +124,10 @@ one_reply_to_a_commit_of_duplicates =
 -- the first load follows lawfully on nothing
 pub first_load_follows : FollowsLawfully (record { session = None; step = Load r1 blank; reply = Loaded 1 }) []
 first_load_follows = each_entry_follows_lawfully [] (record { session = None; step = Load r1 blank; reply = Loaded 1 }) (tt, (refl, refl))
+
+-- the reader's commit follows lawfully on the steps before it
+pub reader_commit_follows : FollowsLawfully (record { session = Some 1; step = Commit; reply = Committed 3 }) unchanged
+reader_commit_follows = each_entry_follows_lawfully unchanged (record { session = Some 1; step = Commit; reply = Committed 3 }) (played_is_lawful no_net_change_lines)
 
 -- ---- versions: an empty report is loaded, and a session adds a fact to it
 
