@@ -15,3 +15,4 @@ pub mod Serial
 pub mod Classes
 pub mod Cells
 pub mod Chain
+pub mod Instances

@@ -10,3 +10,4 @@ pub mod ReadReport
 pub mod Writing
 pub mod Setting
 pub mod Histories
+pub mod Solo

@@ -8,7 +8,7 @@ use Rattle.filing_model.specs.declared.duplicates.Allowed.TheVariants as allowed
 use Rattle.filing_model.specs.declared.duplicates.Class.TheVariants as class
 use Rattle.filing_model.specs.declared.duplicates.Pair.TheVariants as pair
 
-abbrev assets : Dims
+abbrev pub assets : Dims
 assets = (codes "concept", Some (codes "ex:Assets")) ∷ []
 
 abbrev cash : Dims
@@ -126,7 +126,7 @@ complete_duplicates_are_duplicates = refl
 -- ---- reports
 
 -- two neighbours of one concept behind a fact of another
-abbrev entries : List (Text × Fact)
+abbrev pub entries : List (Text × Fact)
 entries = (codes "a", rounded (codes "1000") 1000 3) ∷ (codes "b", with cash Nil) ∷ (codes "c", rounded (codes "2000") 2000 3) ∷ []
 
 pub the_cell_of_the_neighbours : cell_of assets entries ≡ (codes "a", rounded (codes "1000") 1000 3) ∷ (codes "c", rounded (codes "2000") 2000 3) ∷ []

@@ -1,5 +1,5 @@
 -- Histories of one and of several sessions: the replies that the definitions give to each list of steps, and a reply in each that is not lawful.
-use Rattle.std.proofs.Common.{◌≡◌, ℕ, refl, ap, arith, List, [], ◌∷◌, Option, Some, None}
+use Rattle.std.proofs.Common.{◌≡◌, ℕ, refl, ap, arith, List, [], ◌∷◌, ◌++◌, Option, Some, None}
 use Rattle.std.specs.Prelude.{codes, true, false, pos}
 use Rattle.filing_model.specs.Text.{Text}
 use Rattle.filing_model.specs.TextMap.{TextMap, empty, insert}
@@ -23,10 +23,10 @@ abbrev first_byte : Option Reply → ℕ
 first_byte (Some (Found fact)) = byte fact.value
 first_byte _ = 0
 
-abbrev r1 : Text
+abbrev pub r1 : Text
 r1 = codes "r1"
 
-abbrev blank : Report
+abbrev pub blank : Report
 blank = report_with All empty
 
 abbrev loads : Report → Line
@@ -43,7 +43,7 @@ pub empty_commit_counts : ¬ IsLawful (with_last_reply (Committed 1) (played emp
 empty_commit_counts = not_lawful (with_last_reply (Committed 1) (played empty_commit_lines)) (λ same. let told_otherwise : Some (Committed 2) ≡ Some (Committed 1) = same in cc)
 
 -- one session adds a fact, and the next reads it
-abbrev stored_run_lines : List Line
+abbrev pub stored_run_lines : List Line
 stored_run_lines = loads blank ∷ amend ∷ gets 1 r1 (codes "f1") ∷ adds 1 r1 (codes "f1") (raw (codes "Acme")) ∷ gets 1 r1 (codes "f1") ∷ commits 1 ∷ amend ∷ gets 2 r1 (codes "f1") ∷ closes 2 ∷ []
 
 pub stored_run : told stored_run_lines ≡ Loaded 1 ∷ Opened ∷ Absent ∷ Staged ∷ Found (fact (codes "Acme")) ∷ Committed 2 ∷ Opened ∷ Found (fact (codes "Acme")) ∷ Closed ∷ []
@@ -83,7 +83,7 @@ pub review_is_not_counted : ¬ IsLawful (with_last_reply (Committed 3) (played s
 review_is_not_counted = not_lawful (with_last_reply (Committed 3) (played snapshot_lines)) (λ same. let told_otherwise : Some (Closed) ≡ Some (Committed 3) = same in cc)
 
 -- the last read of a review that opened before the commit
-abbrev newest_version_lines : List Line
+abbrev pub newest_version_lines : List Line
 newest_version_lines = loads (holding All ((codes "f1", fact (codes "old")) ∷ [])) ∷ review ∷ amend ∷ removes 2 r1 (codes "f1") ∷ adds 2 r1 (codes "f1") (raw (codes "new")) ∷ commits 2 ∷ gets 1 r1 (codes "f1") ∷ []
 
 pub newest_version : told newest_version_lines ≡ Loaded 1 ∷ Opened ∷ Opened ∷ Staged ∷ Staged ∷ Committed 2 ∷ Found (fact (codes "old")) ∷ []
@@ -92,9 +92,12 @@ newest_version = refl
 pub review_does_not_read_the_newest_version : ¬ IsLawful (with_last_reply (Found (fact (codes "new"))) (played newest_version_lines))
 review_does_not_read_the_newest_version = not_lawful (with_last_reply (Found (fact (codes "new"))) (played newest_version_lines)) (λ same. let bytes : 111 ≡ 110 = ap first_byte same in absurd (omega (arith, bytes)))
 
--- two sessions add duplicates where none are allowed: the second is told at its commit
-abbrev no_duplicates_lines : List Line
-no_duplicates_lines = loads (report_with Never empty) ∷ amend ∷ amend ∷ adds 1 r1 (codes "a") (raw (codes "x")) ∷ adds 2 r1 (codes "b") (raw (codes "x")) ∷ commits 1 ∷ commits 2 ∷ []
+-- two sessions add duplicates where none are allowed, and the second is told at its commit: the steps before that, and all
+abbrev pub no_duplicates_before : List Line
+no_duplicates_before = loads (report_with Never empty) ∷ amend ∷ amend ∷ adds 1 r1 (codes "a") (raw (codes "x")) ∷ adds 2 r1 (codes "b") (raw (codes "x")) ∷ commits 1 ∷ []
+
+abbrev pub no_duplicates_lines : List Line
+no_duplicates_lines = no_duplicates_before ++ commits 2 ∷ []
 
 pub no_duplicates : told no_duplicates_lines ≡ Loaded 1 ∷ Opened ∷ Opened ∷ Staged ∷ Staged ∷ Committed 2 ∷ Disallowed r1 Complete (codes "a" ∷ codes "b" ∷ []) ∷ []
 no_duplicates = refl
@@ -163,7 +166,7 @@ pub unbound_prefix_is_not_staged : ¬ IsLawful (with_last_reply (Staged) (played
 unbound_prefix_is_not_staged = not_lawful (with_last_reply (Staged) (played review_only_reads_lines)) (λ same. let told_otherwise : Some (BadFact UnboundPrefix) ≡ Some (Staged) = same in cc)
 
 -- a name is loaded once
-abbrev name_taken_lines : List Line
+abbrev pub name_taken_lines : List Line
 name_taken_lines = loads blank ∷ loads blank ∷ []
 
 pub name_taken : told name_taken_lines ≡ Loaded 1 ∷ NameTaken ∷ []
@@ -182,9 +185,12 @@ earliest_thing = refl
 pub later_thing_is_not_told : ¬ IsLawful (with_last_reply (Conflict 2 (thing.Id r1 (codes "f2"))) (played earliest_thing_lines))
 later_thing_is_not_told = not_lawful (with_last_reply (Conflict 2 (thing.Id r1 (codes "f2"))) (played earliest_thing_lines)) (λ same. let told_otherwise : Some (Conflict 4 (thing.Id r1 (codes "f1"))) ≡ Some (Conflict 2 (thing.Id r1 (codes "f2"))) = same in cc)
 
--- what is added and removed again touches nothing
-abbrev no_net_change_lines : List Line
-no_net_change_lines = loads blank ∷ amend ∷ amend ∷ gets 1 r1 (codes "g") ∷ adds 2 r1 (codes "g") (raw (codes "x")) ∷ removes 2 r1 (codes "g") ∷ commits 2 ∷ commits 1 ∷ []
+-- what is added and removed again touches nothing: the steps before the reader's commit, and all
+abbrev pub no_net_change_before : List Line
+no_net_change_before = loads blank ∷ amend ∷ amend ∷ gets 1 r1 (codes "g") ∷ adds 2 r1 (codes "g") (raw (codes "x")) ∷ removes 2 r1 (codes "g") ∷ commits 2 ∷ []
+
+abbrev pub no_net_change_lines : List Line
+no_net_change_lines = no_net_change_before ++ commits 1 ∷ []
 
 pub no_net_change : told no_net_change_lines ≡ Loaded 1 ∷ Opened ∷ Opened ∷ Absent ∷ Staged ∷ Staged ∷ Committed 2 ∷ Committed 3 ∷ []
 no_net_change = refl
