@@ -4,3 +4,4 @@ pub mod Values
 pub mod Aliases
 pub mod Reports
 pub mod Prefixes
+pub mod ReadingExamples
