@@ -15,3 +15,4 @@ pub mod Values
 pub mod Aliases
 pub mod Reports
 pub mod Prefixes
+pub mod ReadingExamples

@@ -14,6 +14,8 @@ ghost use Rattle.filing_cli.specs.Reading.{members_in, has_no_member_but};
 mod fact;
 mod prefixes;
 mod reports;
+#[cfg(test)]
+mod tests;
 
 pub use fact::raw_fact;
 pub use reports::{report, report_text};
