@@ -1,5 +1,5 @@
 -- The line of each reply, without the LF that ends it: one compact JSON array. The project's own.
-use Rattle.std.specs.Prelude.{Bool, true, false, ℕ, List, [], ◌++◌, codes, Option, decimal}
+use Rattle.std.specs.Prelude.{Bool, true, false, List, [], ◌++◌, codes, decimal}
 use Rattle.json.specs.Print.{quoted}
 use Rattle.filing_model.specs.Text.{Text}
 use Rattle.filing_model.specs.ReadReport as report

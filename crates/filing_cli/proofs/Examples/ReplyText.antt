@@ -1,7 +1,7 @@
 -- Worked examples of the lines of replies.
 use Rattle.std.specs.Prelude.{◌≡◌, true, false, pos, negsuc, [], ◌∷◌, codes, None, Some, refl}
 use Rattle.filing_model.specs.Dimensions.{Dims}
-use Rattle.filing_model.specs.Facts.{Nil, Written, Number}
+use Rattle.filing_model.specs.Facts.{Written, Number}
 use Rattle.filing_model.specs.Things as thing
 use Rattle.filing_model.specs.ReadReport as report
 use Rattle.filing_model.specs.Replies.{Absent, Found, Cell, Page, ReadOnly, BadFact, Loaded, Disallowed, Committed, Conflict}
