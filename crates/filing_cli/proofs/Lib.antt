@@ -16,3 +16,4 @@ pub mod Aliases
 pub mod Reports
 pub mod Prefixes
 pub mod ReadingExamples
+pub mod Scripts

@@ -30,7 +30,7 @@ pub record IsScriptEnded (source source' : SourceState) (sink sink' : SinkState)
 -- the run ended before the end of the source, and left what any run leaves after this fault
 pub record IsScriptStopped (source source' : SourceState) (sink sink' : SinkState) (fault : ScriptFault) : Type 0 where
   pub after : State
-  pub runs : Runs {X = History} IsReply (2 ^ 32) (Err fault) start after source source' sink sink'
+  pub runs : Runs {X = Unit {0}} IsReply (2 ^ 32) (Err fault) start after source source' sink sink'
 
 abbrev pub ScriptRuns : Result History ScriptFault → SourceState → SourceState → SinkState → SinkState → Type 0
 ScriptRuns (Ok history) source source' sink sink' = IsScriptEnded source source' sink sink' history

@@ -2,6 +2,8 @@
 //!
 //! `source` and `sink` are the two traits of devices; `adapters` makes them of any reader and writer, `memory` over memory, and `counts` counts their calls. `fault` says why a run ended early. `lines` cuts what is read, `machine` is what answers a line, `outbox` keeps replies until they are written, `progress` takes a piece at a time, and `runs` reads, answers and writes until the end.
 //!
+//! `script` runs a script: `from_json` reads the JSON of a line, `line` tells its kind, `runner` is the machine that takes its step, with the names in use in `session_names`, and `texts` has the line of each reply.
+//!
 //! The crate knows nothing of locks, and nothing of files.
 #![tactic(auto)]
 
@@ -15,7 +17,9 @@ mod machine;
 mod memory;
 mod outbox;
 mod progress;
+mod runner;
 mod runs;
+mod script;
 mod session_names;
 mod sink;
 mod source;
@@ -30,6 +34,7 @@ pub use lines::is_blank;
 pub use machine::Machine;
 pub use memory::{MemoryIn, MemoryOut};
 pub use runs::run;
+pub use script::run_script;
 pub use sink::{Sink, write_all};
 pub use source::Source;
 pub use texts::{
