@@ -1,0 +1,50 @@
+use crate::fault::Fault;
+use clap::error::ErrorKind;
+use clap::{Command, Error};
+use std::alloc::{AllocError, Global};
+
+/// What the words of the command line ask for.
+#[derive(Clone, Copy, Debug, PartialEq, Eq)]
+pub(crate) enum Order {
+    /// Run the script that comes on standard input.
+    Run,
+    /// Help was asked for, and it was shown.
+    Shown,
+}
+
+/// The commands that are there.
+fn command<'a>(alloc: Global) -> Result<Command<'a>, AllocError> {
+    let run = Command::new(alloc, "run").about("Runs a script of JSON lines from standard input");
+    Command::new(alloc, "filing")
+        .about("A repository of company filing reports in xBRL-JSON")
+        .subcommand_required(true)
+        .arg_required_else_help(false)
+        .subcommand(run)
+}
+
+/// Reads the words. What is refused is told as `clap` tells it.
+pub(crate) fn read_words<'a, R: Print + Eprint + AllocGlobal>(
+    rt: &R,
+    words: &'a [String],
+) -> Result<Order, Fault> {
+    let mut command: Command<'a> = command(rt.alloc())?;
+    match command.try_get_matches_from_mut(words) {
+        Ok(_matches) => Ok(Order::Run),
+        Err(error) => shown(rt, &error),
+    }
+}
+
+/// Tells an error of the words, or shows help, and answers what is left to do.
+fn shown<R: Print + Eprint>(rt: &R, error: &Error) -> Result<Order, Fault> {
+    if error.kind() == ErrorKind::OutOfMemory {
+        return Err(Fault::NoMemory);
+    }
+    let shown = error.print(rt);
+    if error.exit_code() != 0 {
+        return Err(Fault::Words);
+    }
+    match shown {
+        Ok(()) => Ok(Order::Shown),
+        Err(_) => Err(Fault::Write),
+    }
+}
