@@ -8,3 +8,4 @@ pub mod Committing
 pub mod Standing
 pub mod Entering
 pub mod Entered
+pub mod SortedDims

@@ -1,12 +1,18 @@
 ghost use Rattle.std.specs.Prelude.{◌≡◌, Option, option_map, is_some, IfOk};
+ghost use Rattle.std.specs.List.{list_any};
 ghost use Rattle.filing_model.specs.Text.{text_eq};
-ghost use Rattle.filing_core.specs.Dims.{text_of};
-ghost use Rattle.filing_model.specs.Dimensions.{core_value, is_core};
+ghost use Rattle.filing_model.proofs.MapsOfLists.{Rises};
+ghost use Rattle.filing_core.specs.Dims.{text_of, dims_view, begins_with, has_neighbours_of_one_name, unless};
+ghost use Rattle.filing_model.specs.Dimensions.{core_value, dims_of, is_core, is_null_core, is_concept, is_long_dim};
 ghost use Rattle.filing_model.specs.Facts.{are_bound};
 
 use crate::names::Names;
+use filing_model::DimFault;
 use std::alloc::AllocError;
 use std::marker::Model;
+
+/// The most bytes that a dimension's name or value may have.
+const LONGEST: usize = 4096;
 
 /// The dimensions of a fact: names with texts, or with null for a taxonomy dimension that is nil. Contracts see the list of them in byte order of the names.
 #[derive(Debug, Drop)]
@@ -64,7 +70,110 @@ fn is_core_name(name: &str) -> bool
         || is_same(name, "noteId")
 }
 
+/// Whether the first of these dimensions has this name.
+fn begins_with(pairs: &[(String, Option<String>)], name: &str) -> bool
+    ensures { result ≡ begins_with name.now (dims_view pairs.now) }
+{
+    match pairs {
+        [first, ..] => is_same(name, &first.0),
+        [] => false,
+    }
+}
+
+/// Whether some dimension has the name of the one before it.
+fn has_neighbours_of_one_name(pairs: &[(String, Option<String>)]) -> bool
+    ensures { result ≡ has_neighbours_of_one_name (dims_view pairs.now) }
+{
+    let mut left = pairs;
+    while let [first, rest @ ..] = left {
+        if begins_with(rest, &first.0) {
+            return true;
+        }
+        left = rest;
+    }
+    false
+}
+
+/// Whether some core dimension is null.
+fn has_null_core(pairs: &[(String, Option<String>)]) -> bool
+    ensures { result ≡ list_any is_null_core (dims_view pairs.now) }
+{
+    for (name, value) in pairs {
+        if value.is_none() && is_core_name(name) {
+            return true;
+        }
+    }
+    false
+}
+
+/// Whether some dimension is the concept.
+fn has_concept(pairs: &[(String, Option<String>)]) -> bool
+    ensures { result ≡ list_any is_concept (dims_view pairs.now) }
+{
+    for (name, _) in pairs {
+        if is_same(name, "concept") {
+            return true;
+        }
+    }
+    false
+}
+
+/// Whether a name or a value is longer than it may be.
+fn is_long(name: &str, value: &Option<String>) -> bool
+    ensures { result ≡ is_long_dim (name.now, text_of value.now) }
+{
+    match value {
+        Some(text) => name.len() > LONGEST || text.len() > LONGEST,
+        None => name.len() > LONGEST,
+    }
+}
+
+/// Whether some dimension is longer than it may be.
+fn has_long(pairs: &[(String, Option<String>)]) -> bool
+    ensures { result ≡ list_any is_long_dim (dims_view pairs.now) }
+{
+    for (name, value) in pairs {
+        if is_long(name, value) {
+            return true;
+        }
+    }
+    false
+}
+
+/// Why dimensions whose names do not fall are no dimension set, the first fault.
+#[tactic(auto, using(crate::proofs::SortedDims::dims_of_by_tests))]
+fn first_fault(pairs: &[(String, Option<String>)]) -> Option<DimFault>
+    requires { Rises (dims_view pairs.now) }
+    ensures { unless result (dims_view pairs.now) ≡ dims_of (dims_view pairs.now) }
+{
+    if has_neighbours_of_one_name(pairs) {
+        return Some(DimFault::NameTwice);
+    }
+    if has_null_core(pairs) {
+        return Some(DimFault::NullCore);
+    }
+    if !has_concept(pairs) {
+        return Some(DimFault::NoConcept);
+    }
+    if has_long(pairs) {
+        return Some(DimFault::TooLong);
+    }
+    None
+}
+
 impl DimSet {
+    /// The dimension set of names with their values in any order, or the first fault. It takes no memory.
+    pub fn of(pairs: Vec<(String, Option<String>)>) -> Result<DimSet, DimFault>
+        ensures { result ≡ dims_of (dims_view pairs.items) }
+    {
+        let mut pairs = pairs;
+        pairs.sort_unstable();
+        match first_fault(&pairs) {
+            Some(fault) => Err(fault),
+            None => Ok(DimSet { pairs }),
+        }
+    }
+
     /// The text at a core dimension, where it is there.
     pub(crate) fn core_value(&self, name: &str) -> Option<&str>
         ensures { option_map (λ t. t.now) result ≡ core_value name.now self.now }
