@@ -16,6 +16,8 @@ mod report;
 mod session;
 mod staged;
 mod step;
+#[cfg(test)]
+mod tests;
 
 pub use dims::DimSet;
 pub use engine::Core;
