@@ -29,3 +29,6 @@ pub fn run_script<R: Source, W: Sink>(
         Err(fault) => Err(fault),
     }
 }
+
+#[cfg(test)]
+mod tests;
