@@ -18,6 +18,7 @@ mod reports;
 mod tests;
 
 pub use fact::raw_fact;
+use filing_model::is_same_text;
 pub use reports::{report, report_text};
 use serde_json::{Map, Value};
 use std::alloc::{AllocError, Global};
@@ -52,19 +53,12 @@ fn members(value: &Value) -> Option<&Map<String, Value>>
     }
 }
 
-/// `==` in the words of the definitions.
-fn is_same(a: &str, b: &str) -> bool
-    ensures { result ≡ text_eq a.now b.now }
-{
-    a == b
-}
-
 /// Whether each of these members has one of two names.
 fn are_all_of(members: &Map<String, Value>, first: &str, second: &str) -> bool
     ensures { result ≡ list_all (λ m. text_eq m.0 first.now || text_eq m.0 second.now) (pairs (members_view members.now.entries)) }
 {
     for (name, _) in members {
-        if !is_same(name, first) && !is_same(name, second) {
+        if !is_same_text(name, first) && !is_same_text(name, second) {
             return false;
         }
     }

@@ -1,9 +1,9 @@
 ghost use Rattle.std.specs.Prelude.{◌≡◌, codes, is_some, option_map, option_copied};
 ghost use Rattle.serde_json.specs.View.{view};
-ghost use Rattle.filing_model.specs.Text.{text_eq};
 ghost use Rattle.filing_cli.specs.ScriptLines as model;
 ghost use Rattle.filing_cli.specs.LineView.{line_view};
 
+use filing_model::is_same_text;
 use serde_json::Value;
 
 /// A line of a script, with its parts in the JSON value that was read. A report or a fact is not read yet.
@@ -33,13 +33,6 @@ pub(crate) enum Line<'a> {
     Close {
         session: &'a str,
     },
-}
-
-/// `==` in the words of the definitions.
-fn is_same(a: &str, b: &str) -> bool
-    ensures { result ≡ text_eq a.now b.now }
-{
-    a == b
 }
 
 /// The text at a place of an array.
@@ -93,7 +86,7 @@ fn open_of(value: &Value) -> Option<Line<'_>>
 {
     let session = text_at(value, 1)?;
     let kind = text_at(value, 2)?;
-    if is_same(kind, "amend") {
+    if is_same_text(kind, "amend") {
         ended_at(value, 3, Line::Open { session })
     } else {
         None
@@ -156,17 +149,17 @@ pub(crate) fn line_of(value: &Value) -> Option<Line<'_>>
     ensures { option_map line_view result ≡ model.line_of (view value.now) }
 {
     let word = text_at(value, 0)?;
-    if is_same(word, "load") {
+    if is_same_text(word, "load") {
         load_of(value)
-    } else if is_same(word, "open") {
+    } else if is_same_text(word, "open") {
         open_of(value)
-    } else if is_same(word, "get") {
+    } else if is_same_text(word, "get") {
         get_of(value)
-    } else if is_same(word, "add") {
+    } else if is_same_text(word, "add") {
         add_of(value)
-    } else if is_same(word, "commit") {
+    } else if is_same_text(word, "commit") {
         commit_of(value)
-    } else if is_same(word, "close") {
+    } else if is_same_text(word, "close") {
         close_of(value)
     } else {
         None

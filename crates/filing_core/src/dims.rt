@@ -1,13 +1,12 @@
 ghost use Rattle.std.specs.Prelude.{◌≡◌, Option, option_map, is_some, IfOk};
 ghost use Rattle.std.specs.List.{list_any};
-ghost use Rattle.filing_model.specs.Text.{text_eq};
 ghost use Rattle.filing_model.proofs.MapsOfLists.{Rises};
 ghost use Rattle.filing_core.specs.Dims.{text_of, dims_view, begins_with, has_neighbours_of_one_name, unless};
 ghost use Rattle.filing_model.specs.Dimensions.{core_value, dims_of, is_core, is_null_core, is_concept, is_long_dim};
 ghost use Rattle.filing_model.specs.Facts.{are_bound};
 
 use crate::names::Names;
-use filing_model::DimFault;
+use filing_model::{DimFault, is_same_text};
 use std::alloc::AllocError;
 use std::marker::Model;
 
@@ -51,23 +50,16 @@ pub(crate) fn clone_text(text: &Option<String>) -> Result<Option<String>, AllocE
     }
 }
 
-/// `==` in the words of the definitions.
-fn is_same(a: &str, b: &str) -> bool
-    ensures { result ≡ text_eq a.now b.now }
-{
-    a == b
-}
-
 /// Whether a name is that of a dimension which Open Information Model 1.0 defines itself.
 fn is_core_name(name: &str) -> bool
     ensures { result ≡ is_core name.now }
 {
-    is_same(name, "concept")
-        || is_same(name, "entity")
-        || is_same(name, "period")
-        || is_same(name, "unit")
-        || is_same(name, "language")
-        || is_same(name, "noteId")
+    is_same_text(name, "concept")
+        || is_same_text(name, "entity")
+        || is_same_text(name, "period")
+        || is_same_text(name, "unit")
+        || is_same_text(name, "language")
+        || is_same_text(name, "noteId")
 }
 
 /// Whether the first of these dimensions has this name.
@@ -75,7 +67,7 @@ fn begins_with(pairs: &[(String, Option<String>)], name: &str) -> bool
     ensures { result ≡ begins_with name.now (dims_view pairs.now) }
 {
     match pairs {
-        [first, ..] => is_same(name, &first.0),
+        [first, ..] => is_same_text(name, &first.0),
         [] => false,
     }
 }
@@ -111,7 +103,7 @@ fn has_concept(pairs: &[(String, Option<String>)]) -> bool
     ensures { result ≡ list_any is_concept (dims_view pairs.now) }
 {
     for (name, _) in pairs {
-        if is_same(name, "concept") {
+        if is_same_text(name, "concept") {
             return true;
         }
     }
@@ -186,7 +178,7 @@ impl DimSet {
         ensures { option_map (λ t. t.now) result ≡ core_value name.now self.now }
     {
         for (key, value) in &self.pairs {
-            if is_same(name, key) {
+            if is_same_text(name, key) {
                 return value.as_deref();
             }
         }

@@ -9,6 +9,7 @@ mod fact_laws;
 mod faults;
 mod kind;
 mod number_laws;
+mod text;
 
 pub use by_pairs::{PairedFact, allows, class_by_pairs, least_disallowed_by_pairs};
 pub use duplicates::{Allowed, Class, Pair};
@@ -23,3 +24,4 @@ pub use number_laws::{
     only_spellings_are_numbers, reports_obey_where_no_cell_is_disallowed,
     short_spellings_have_their_number,
 };
+pub use text::is_same_text;

@@ -11,8 +11,9 @@ ghost use Rattle.filing_cli.specs.Parts.{some_values, has_document_type, is_info
 
 use crate::from_json::fact::raw_fact;
 use crate::from_json::prefixes::names;
-use crate::from_json::{has_no_member_but, is_same, json_value, members};
+use crate::from_json::{has_no_member_but, json_value, members};
 use filing_core::{Fact, FactMap, Names, Report, fit};
+use filing_model::is_same_text;
 use serde_json::{Map, Value};
 use std::alloc::{AllocError, Global};
 use std::sync::Arc;
@@ -32,7 +33,7 @@ fn has_document_type(info: &Value) -> bool
     ensures { result ≡ has_document_type (view info.now) }
 {
     match text_at(info, "documentType") {
-        Some(found) => is_same(found, DOCUMENT_TYPE),
+        Some(found) => is_same_text(found, DOCUMENT_TYPE),
         None => false,
     }
 }

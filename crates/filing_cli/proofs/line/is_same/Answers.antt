@@ -1,7 +1,0 @@
--- Bytes that are equal one by one are those that the order does not tell apart.
-use Rattle.std.proofs.Common.{◌∙◌, sym}
-use Rattle.std.proofs.lemmas.Map.Text.{is_eq-slice_cmp}
-use Rattle.filing_cli.proofs.line.is_same.Goals as goal
-
-pub returns : goal.returns
-returns c = c.eq.ensures ∙ sym (is_eq-slice_cmp c.args.a.now c.args.b.now)
