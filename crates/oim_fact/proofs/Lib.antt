@@ -1,0 +1,4 @@
+pub mod SortedDims
+pub mod ComparedDims
+pub mod SearchedEntries
+pub mod NumericRows

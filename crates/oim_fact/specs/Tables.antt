@@ -1,0 +1,14 @@
+-- Rows of a numeric table in order.
+use Rattle.std.specs.Prelude.{Bool, List, map}
+use Rattle.std.specs.FinMap.Entries.{is_sorted}
+use Rattle.filing_model.specs.Text.{Text}
+use Rattle.filing_model.specs.Facts.{Table}
+use Rattle.filing_model.specs.Tables.{row_cmp}
+
+-- rows as the keys of a map to nothing
+abbrev pub keyed : Table → List ((Text × Text) × Unit {0})
+keyed rows = map (λ r. (r, tt)) rows
+
+-- in byte order, none twice
+abbrev pub is_table : Table → Bool
+is_table rows = is_sorted row_cmp (keyed rows)

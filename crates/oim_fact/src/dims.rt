@@ -1,0 +1,211 @@
+ghost use Rattle.std.specs.Prelude.{◌≡◌, Option, option_map, is_some, IfOk};
+ghost use Rattle.std.specs.List.{list_any};
+ghost use Rattle.filing_model.proofs.MapsOfLists.{Rises};
+ghost use Rattle.oim_fact.specs.Texts.{text_of};
+ghost use Rattle.oim_fact.specs.Dims.{dims_view, begins_with, has_neighbours_of_one_name, unless};
+ghost use Rattle.filing_model.specs.Dimensions.{AreDims, core_value, concept_of, period_of, unit_of, dims_of, is_core, is_null_core, is_concept, is_long_dim};
+
+use filing_model::{DimFault, is_same_text};
+use std::alloc::AllocError;
+use std::marker::Model;
+
+/// The most bytes that a dimension's name or value may have.
+const LONGEST: usize = 4096;
+
+/// The dimensions of a fact: names with texts, or with null for a taxonomy dimension that is nil. Contracts see the list of them in byte order of the names.
+#[derive(Debug, Drop)]
+pub struct DimSet {
+    pairs: Vec<(String, Option<String>)>,
+}
+
+impl Model for DimSet {
+    ghost use Rattle.filing_model.specs.Dimensions.{Dims, AreDims};
+    ghost use Rattle.oim_fact.specs.Dims.{dims_view};
+
+    ghost Value = { Dims };
+
+    ghost view = { λ d. dims_view d.pairs.items };
+
+    ghost invariant = { λ d. AreDims (dims_view d.pairs.items) };
+}
+
+impl Clone for DimSet {
+    ghost is_clone = { λ old new. new ≡ old };
+
+    fn clone(&self) -> Result<DimSet, AllocError> {
+        let mut pairs = Vec::with_capacity(*self.pairs.allocator(), self.pairs.len())?;
+        for (name, value) in &self.pairs {
+            pairs.push((name.clone()?, clone_text(value)?))?;
+        }
+        Ok(DimSet { pairs })
+    }
+}
+
+/// The clone of a text that may be null.
+pub(crate) fn clone_text(text: &Option<String>) -> Result<Option<String>, AllocError>
+    ensures { IfOk result (λ t. text_of t ≡ text_of text.now) }
+{
+    match text {
+        None => Ok(None),
+        Some(text) => Ok(Some(text.clone()?)),
+    }
+}
+
+/// Whether a name is that of a dimension which Open Information Model 1.0 defines itself.
+fn is_core_name(name: &str) -> bool
+    ensures { result ≡ is_core name.now }
+{
+    is_same_text(name, "concept")
+        || is_same_text(name, "entity")
+        || is_same_text(name, "period")
+        || is_same_text(name, "unit")
+        || is_same_text(name, "language")
+        || is_same_text(name, "noteId")
+}
+
+/// Whether the first of these dimensions has this name.
+fn begins_with(pairs: &[(String, Option<String>)], name: &str) -> bool
+    ensures { result ≡ begins_with name.now (dims_view pairs.now) }
+{
+    match pairs {
+        [first, ..] => is_same_text(name, &first.0),
+        [] => false,
+    }
+}
+
+/// Whether some dimension has the name of the one before it.
+fn has_neighbours_of_one_name(pairs: &[(String, Option<String>)]) -> bool
+    ensures { result ≡ has_neighbours_of_one_name (dims_view pairs.now) }
+{
+    let mut left = pairs;
+    while let [first, rest @ ..] = left {
+        if begins_with(rest, &first.0) {
+            return true;
+        }
+        left = rest;
+    }
+    false
+}
+
+/// Whether some core dimension is null.
+fn has_null_core(pairs: &[(String, Option<String>)]) -> bool
+    ensures { result ≡ list_any is_null_core (dims_view pairs.now) }
+{
+    for (name, value) in pairs {
+        if value.is_none() && is_core_name(name) {
+            return true;
+        }
+    }
+    false
+}
+
+/// Whether some dimension is the concept.
+fn has_concept(pairs: &[(String, Option<String>)]) -> bool
+    ensures { result ≡ list_any is_concept (dims_view pairs.now) }
+{
+    for (name, _) in pairs {
+        if is_same_text(name, "concept") {
+            return true;
+        }
+    }
+    false
+}
+
+/// Whether a name or a value is longer than it may be.
+fn is_long(name: &str, value: &Option<String>) -> bool
+    ensures { result ≡ is_long_dim (name.now, text_of value.now) }
+{
+    match value {
+        Some(text) => name.len() > LONGEST || text.len() > LONGEST,
+        None => name.len() > LONGEST,
+    }
+}
+
+/// Whether some dimension is longer than it may be.
+fn has_long(pairs: &[(String, Option<String>)]) -> bool
+    ensures { result ≡ list_any is_long_dim (dims_view pairs.now) }
+{
+    for (name, value) in pairs {
+        if is_long(name, value) {
+            return true;
+        }
+    }
+    false
+}
+
+/// Why dimensions whose names do not fall are no dimension set, the first fault.
+#[tactic(auto, using(crate::proofs::SortedDims::dims_of_by_tests))]
+fn first_fault(pairs: &[(String, Option<String>)]) -> Option<DimFault>
+    requires { Rises (dims_view pairs.now) }
+    ensures { unless result (dims_view pairs.now) ≡ dims_of (dims_view pairs.now) }
+{
+    if has_neighbours_of_one_name(pairs) {
+        return Some(DimFault::NameTwice);
+    }
+    if has_null_core(pairs) {
+        return Some(DimFault::NullCore);
+    }
+    if !has_concept(pairs) {
+        return Some(DimFault::NoConcept);
+    }
+    if has_long(pairs) {
+        return Some(DimFault::TooLong);
+    }
+    None
+}
+
+impl DimSet {
+    /// The dimension set of names with their values in any order, or the first fault. It takes no memory.
+    pub fn of(pairs: Vec<(String, Option<String>)>) -> Result<DimSet, DimFault>
+        ensures { result ≡ dims_of (dims_view pairs.items) }
+    {
+        let mut pairs = pairs;
+        pairs.sort_unstable();
+        match first_fault(&pairs) {
+            Some(fault) => Err(fault),
+            None => Ok(DimSet { pairs }),
+        }
+    }
+
+    /// The names with their texts or null, in byte order of the names.
+    pub fn pairs(&self) -> &[(String, Option<String>)]
+        ensures list { dims_view result.now ≡ self.now }
+        ensures set { AreDims self.now }
+    {
+        &self.pairs
+    }
+
+    pub fn concept(&self) -> &str
+        ensures { Some result.now ≡ concept_of self.now }
+    {
+        match self.core_value("concept") {
+            Some(concept) => concept,
+            None => unreachable!(),
+        }
+    }
+
+    pub fn period(&self) -> Option<&str>
+        ensures { option_map (λ t. t.now) result ≡ period_of self.now }
+    {
+        self.core_value("period")
+    }
+
+    pub fn unit(&self) -> Option<&str>
+        ensures { option_map (λ t. t.now) result ≡ unit_of self.now }
+    {
+        self.core_value("unit")
+    }
+
+    /// The text at a core dimension, where it is there.
+    pub(crate) fn core_value(&self, name: &str) -> Option<&str>
+        ensures value { option_map (λ t. t.now) result ≡ core_value name.now self.now }
+        ensures set { AreDims self.now }
+    {
+        for (key, value) in &self.pairs {
+            if is_same_text(name, key) {
+                return value.as_deref();
+            }
+        }
+        None
+    }
+}

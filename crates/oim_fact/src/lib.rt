@@ -1,0 +1,12 @@
+//! Facts of xBRL-JSON reports: dimension sets, the names of a report, and facts fitted to them.
+//!
+//! It knows nothing of JSON, of reports as a whole, or of versions.
+#![tactic(auto)]
+
+mod compared_dims;
+mod dims;
+mod table;
+
+pub use dims::DimSet;
+pub use filing_model::{Allowed, Class, DimFault, FactFault, NamesFault, Pair};
+pub use table::NumericTable;
