@@ -1,3 +1,4 @@
+pub mod SortedTexts
 pub mod SortedDims
 pub mod ComparedDims
 pub mod SearchedEntries

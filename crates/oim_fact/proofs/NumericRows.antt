@@ -1,12 +1,12 @@
 -- A numeric table that is sorted with no row twice is the table of its rows.
-use Rattle.std.proofs.Common.{◌≡◌, ◌∙◌, ap, sym, refl, subst, ℕ, Bool, true, false, ◌&&◌, ◌||◌, cond, T, List, [], ◌∷◌, map, fold, Option, Some, None, is_some, Ordering, Less, Equal, Greater, is_eq, is_lt, true≢false, IsPermutation, String, string_bytes}
+use Rattle.std.proofs.Common.{◌≡◌, ◌∙◌, ap, sym, refl, subst, ℕ, Bool, true, false, ◌&&◌, ◌||◌, cond, T, List, [], ◌∷◌, map, fold, Option, Some, None, is_some, Ordering, Less, Equal, Greater, is_eq, is_lt, true≢false, IsPermutation, String, string_bytes, Result, is_ok, length}
 use Rattle.std.specs.Cmp.{IsTotalOrder, first_so, second_so}
 use Rattle.std.specs.Cmp.Lexicographic.{nat_list_cmp_total, texts_ties, same_text}
 use Rattle.std.specs.Ordering.{ordering_then, match_ordering, eq_by_cmp}
 use Rattle.std.specs.String.{string_cmp, string_eq}
 use Rattle.std.specs.BTreeSet.{insert_key}
 use Rattle.std.specs.List.{list_any, dedup, dedup_from, AllByRecursion}
-use Rattle.std.specs.List.Sorted.{IsStrictlySortedBy}
+use Rattle.std.specs.List.Sorted.{IsStrictlySortedBy, IsSearchInRange, IsBinarySearchResult}
 use Rattle.std.specs.FinMap.Entries.{find, put, by_order, below_all, is_sorted, is_sorted-put, is_some-find, same_entries}
 use Rattle.std.specs.declared.alloc.Global.{Global}
 use Rattle.std.proofs.lemmas.List.Sorted.{list_any-IsPermutation, IsPermutation-map}
@@ -14,8 +14,9 @@ use Rattle.filing_model.specs.Text.{Text, text_cmp, text_eq}
 use Rattle.filing_model.specs.Facts.{Table, is_numeric}
 use Rattle.filing_model.specs.Tables.{row_cmp, table_of}
 use Rattle.filing_model.proofs.NumericTables.{row_cmp-total, row_cmp-Equal, is_numeric-table_of}
-use Rattle.oim_fact.specs.Texts.{rows_view}
+use Rattle.oim_fact.specs.Texts.{row_of, rows_view}
 use Rattle.oim_fact.specs.Tables.{keyed, is_table}
+use Rattle.oim_fact.proofs.SearchedEntries.{search_finds}
 
 -- ---- what the definition makes is in order
 
@@ -69,9 +70,6 @@ same_table rows others h g same =
 abbrev pub Held : Type 0
 Held = String Global × String Global
 
-abbrev pub row_of : Held → Text × Text
-row_of r = (string_bytes r.0, string_bytes r.1)
-
 abbrev pub held_eq : Held → Held → Bool
 held_eq r s = string_eq r.0 s.0 && string_eq r.1 s.1
 
@@ -118,3 +116,17 @@ table_of-kept rows sorted moved h =
       any-dedup (λ row. text_eq concept.0 row.0 && text_eq concept.1 row.1) sorted
       ∙ sym (list_any-IsPermutation (λ row. text_eq concept.0 row.0 && text_eq concept.1 row.1) (rows_view rows) (rows_view sorted) (IsPermutation-map row_of rows sorted moved))
       ∙ sym (is_numeric-table_of (rows_view rows) concept))
+
+-- ---- a binary search
+
+keyed_rows : (rs : List Held) → map (λ r. (row_of r, tt)) rs ≡ keyed (rows_view rs)
+keyed_rows [] = refl
+keyed_rows (r ∷ rs) = ap (λ es. (row_of r, tt) ∷ es) (keyed_rows rs)
+
+-- it finds a row where the table has it
+pub search_is_numeric : (rs : List Held) (concept : Text × Text) (r : Result ℕ ℕ) → T (is_table (rows_view rs)) → IsSearchInRange r (length rs) → IsBinarySearchResult (λ p. row_cmp (row_of p) concept) rs r
+    → is_ok r ≡ is_numeric (rows_view rs) concept
+search_is_numeric rs concept r h range result =
+    search_finds row_cmp row_cmp-total (λ p. (row_of p, tt)) concept rs r (subst (λ es. T (is_sorted row_cmp es)) (sym (keyed_rows rs)) h) range result
+    ∙ ap (λ es. is_some (find row_cmp concept es)) (keyed_rows rs)
+    ∙ is_numeric-find (rows_view rs) concept

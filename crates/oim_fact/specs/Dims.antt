@@ -1,9 +1,8 @@
 -- What the pairs of a dimension set mean.
-use Rattle.std.specs.Prelude.{Bool, false, ◌||◌, ◌++◌, List, [], ◌∷◌, map, Option, Some, None, Result, Ok, Err, String, string_bytes}
+use Rattle.std.specs.Prelude.{◌++◌, List, map, Option, Some, None, Result, Ok, Err, String, string_bytes}
 use Rattle.std.specs.Hash as fed
 use Rattle.std.specs.Hash.{HashWrites}
 use Rattle.std.specs.declared.alloc.Global.{Global}
-use Rattle.filing_model.specs.Text.{Text, text_eq}
 use Rattle.filing_model.specs.Dimensions.{Dims}
 use Rattle.filing_model.specs.declared.faults.DimFault.{DimFault}
 use Rattle.oim_fact.specs.Texts.{text_of}
@@ -14,16 +13,6 @@ dims_view pairs = map (λ p. (string_bytes p.0, text_of p.1)) pairs
 -- what a hasher is fed of a set: as of its list
 abbrev pub dims_hash : Dims → HashWrites
 dims_hash dims = fed.slice (λ d. fed.str d.0 ++ fed.option fed.str d.1) dims
-
--- the first name is this one
-abbrev pub begins_with : Text → List (Text × Option Text) → Bool
-begins_with name [] = false
-begins_with name (d ∷ ds) = text_eq name d.0
-
--- some name stands twice, one after the other
-abbrev pub has_neighbours_of_one_name : List (Text × Option Text) → Bool
-has_neighbours_of_one_name [] = false
-has_neighbours_of_one_name (d ∷ ds) = begins_with d.0 ds || has_neighbours_of_one_name ds
 
 -- the set, unless there is a fault
 abbrev pub unless : Option DimFault → Dims → Result Dims DimFault

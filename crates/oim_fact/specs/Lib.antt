@@ -1,3 +1,4 @@
 pub mod Texts
 pub mod Dims
 pub mod Tables
+pub mod Names

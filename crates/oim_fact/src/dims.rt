@@ -1,8 +1,7 @@
 ghost use Rattle.std.specs.Prelude.{◌≡◌, Option, option_map, is_some, IfOk};
 ghost use Rattle.std.specs.List.{list_any};
-ghost use Rattle.filing_model.proofs.MapsOfLists.{Rises};
-ghost use Rattle.oim_fact.specs.Texts.{text_of};
-ghost use Rattle.oim_fact.specs.Dims.{dims_view, begins_with, has_neighbours_of_one_name, unless};
+ghost use Rattle.oim_fact.specs.Texts.{text_of, names_in, NoneFalls, begins_with, has_neighbours};
+ghost use Rattle.oim_fact.specs.Dims.{dims_view, unless};
 ghost use Rattle.filing_model.specs.Dimensions.{AreDims, core_value, concept_of, period_of, unit_of, dims_of, is_core, is_null_core, is_concept, is_long_dim};
 
 use filing_model::{DimFault, is_same_text};
@@ -65,7 +64,7 @@ fn is_core_name(name: &str) -> bool
 
 /// Whether the first of these dimensions has this name.
 fn begins_with(pairs: &[(String, Option<String>)], name: &str) -> bool
-    ensures { result ≡ begins_with name.now (dims_view pairs.now) }
+    ensures { result ≡ begins_with name.now (names_in (dims_view pairs.now)) }
 {
     match pairs {
         [first, ..] => is_same_text(name, &first.0),
@@ -74,8 +73,8 @@ fn begins_with(pairs: &[(String, Option<String>)], name: &str) -> bool
 }
 
 /// Whether some dimension has the name of the one before it.
-fn has_neighbours_of_one_name(pairs: &[(String, Option<String>)]) -> bool
-    ensures { result ≡ has_neighbours_of_one_name (dims_view pairs.now) }
+fn has_neighbours(pairs: &[(String, Option<String>)]) -> bool
+    ensures { result ≡ has_neighbours (names_in (dims_view pairs.now)) }
 {
     let mut left = pairs;
     while let [first, rest @ ..] = left {
@@ -136,10 +135,10 @@ fn has_long(pairs: &[(String, Option<String>)]) -> bool
 /// Why dimensions whose names do not fall are no dimension set, the first fault.
 #[tactic(auto, using(crate::proofs::SortedDims::dims_of_by_tests))]
 fn first_fault(pairs: &[(String, Option<String>)]) -> Option<DimFault>
-    requires { Rises (dims_view pairs.now) }
+    requires { NoneFalls (names_in (dims_view pairs.now)) }
     ensures { unless result (dims_view pairs.now) ≡ dims_of (dims_view pairs.now) }
 {
-    if has_neighbours_of_one_name(pairs) {
+    if has_neighbours(pairs) {
         return Some(DimFault::NameTwice);
     }
     if has_null_core(pairs) {

@@ -5,8 +5,10 @@
 
 mod compared_dims;
 mod dims;
+mod names;
 mod table;
 
 pub use dims::DimSet;
 pub use filing_model::{Allowed, Class, DimFault, FactFault, NamesFault, Pair};
+pub use names::Names;
 pub use table::NumericTable;

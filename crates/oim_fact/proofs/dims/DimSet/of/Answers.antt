@@ -1,13 +1,13 @@
 -- The pairs were sorted, which changes neither the set nor its first fault.
 use Rattle.std.proofs.Common.{◌∙◌, ap, sym, subst, Ok}
 use Rattle.filing_model.specs.Dimensions.{dims_of}
-use Rattle.filing_model.proofs.MapsOfLists.{Rises}
+use Rattle.oim_fact.specs.Texts.{names_in, NoneFalls}
 use Rattle.oim_fact.specs.Dims.{dims_view}
-use Rattle.oim_fact.proofs.SortedDims.{rises_from_sorted, dims_of-moved, given, refused}
+use Rattle.oim_fact.proofs.SortedDims.{NoneFalls-dims, dims_of-moved, given, refused}
 use Rattle.oim_fact.proofs.dims.DimSet.of.Goals as goal
 
 pub first_fault-requires : goal.first_fault-requires
-first_fault-requires c = subst (λ ps. Rises (dims_view ps)) (sym c.deref.ensures.value) (rises_from_sorted c.sort_unstable.new.self.items c.sort_unstable.ensures.sorted)
+first_fault-requires c = subst (λ ps. NoneFalls (names_in (dims_view ps))) (sym c.deref.ensures.value) (NoneFalls-dims c.sort_unstable.new.self.items c.sort_unstable.ensures.sorted)
 
 pub returns-in-Some : goal.returns-in-Some
 returns-in-Some c =

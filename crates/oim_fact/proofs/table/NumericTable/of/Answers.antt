@@ -5,9 +5,9 @@ use Rattle.std.specs.List.{dedup}
 use Rattle.std.proofs.lemmas.List.Filters.{dedup_is}
 use Rattle.std.proofs.lemmas.List.Kept.{IsStrictlySortedBy-dedup}
 use Rattle.filing_model.proofs.NumericTables.{row_cmp-total}
-use Rattle.oim_fact.specs.Texts.{rows_view}
+use Rattle.oim_fact.specs.Texts.{row_of, rows_view}
 use Rattle.oim_fact.specs.Tables.{is_table}
-use Rattle.oim_fact.proofs.NumericRows.{row_of, held_eq, held_ties, is_table-held, table_of-kept}
+use Rattle.oim_fact.proofs.NumericRows.{held_eq, held_ties, is_table-held, table_of-kept}
 use Rattle.oim_fact.proofs.table.NumericTable.of.Goals as goal
 
 pub invariant_of-result : goal.invariant_of-result
