@@ -3,3 +3,4 @@ pub mod SortedDims
 pub mod ComparedDims
 pub mod SearchedEntries
 pub mod NumericRows
+pub mod NamedRows

@@ -113,9 +113,9 @@ is_table-held (r ∷ rs) h = both _ _ (below r rs h.0) (is_table-held rs h.1)
 pub table_of-kept : (rows sorted : List Held) → IsPermutation rows sorted → T (is_table (rows_view (dedup held_eq sorted))) → rows_view (dedup held_eq sorted) ≡ table_of (rows_view rows)
 table_of-kept rows sorted moved h =
     same_table _ _ h (is_table-table_of (rows_view rows)) (λ concept.
-      any-dedup (λ row. text_eq concept.0 row.0 && text_eq concept.1 row.1) sorted
-      ∙ sym (list_any-IsPermutation (λ row. text_eq concept.0 row.0 && text_eq concept.1 row.1) (rows_view rows) (rows_view sorted) (IsPermutation-map row_of rows sorted moved))
-      ∙ sym (is_numeric-table_of (rows_view rows) concept))
+    any-dedup (λ row. text_eq concept.0 row.0 && text_eq concept.1 row.1) sorted
+    ∙ sym (list_any-IsPermutation (λ row. text_eq concept.0 row.0 && text_eq concept.1 row.1) (rows_view rows) (rows_view sorted) (IsPermutation-map row_of rows sorted moved))
+    ∙ sym (is_numeric-table_of (rows_view rows) concept))
 
 -- ---- a binary search
 
