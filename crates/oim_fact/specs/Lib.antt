@@ -2,3 +2,4 @@ pub mod Texts
 pub mod Dims
 pub mod Tables
 pub mod Names
+pub mod Facts

@@ -51,7 +51,7 @@ pub(crate) fn clone_text(text: &Option<String>) -> Result<Option<String>, AllocE
 }
 
 /// Whether a name is that of a dimension which Open Information Model 1.0 defines itself.
-fn is_core_name(name: &str) -> bool
+pub(crate) fn is_core_name(name: &str) -> bool
     ensures { result ≡ is_core name.now }
 {
     is_same_text(name, "concept")

@@ -5,10 +5,14 @@
 
 mod compared_dims;
 mod dims;
+mod fact;
+mod fitting;
 mod names;
 mod table;
 
 pub use dims::DimSet;
+pub use fact::{Fact, FactValue, RawFact};
 pub use filing_model::{Allowed, Class, DimFault, FactFault, NamesFault, Pair};
+pub use fitting::fit;
 pub use names::Names;
 pub use table::NumericTable;

@@ -1,4 +1,5 @@
-ghost use Rattle.std.specs.Prelude.{◌≡◌, option_map, IsPermutation};
+ghost use Rattle.std.specs.Prelude.{◌≡◌, option_map, is_some, IsPermutation};
+ghost use Rattle.filing_model.specs.Facts.{uri_of, expanded, is_numeric};
 ghost use Rattle.std.specs.Arc.{arc_value};
 ghost use Rattle.filing_model.specs.Text.{has_repeats};
 ghost use Rattle.filing_model.specs.TextMap.{get};
@@ -115,5 +116,33 @@ impl Names {
             Ok(place) => Some(self.prefixes[place].1.as_str()),
             Err(_) => None,
         }
+    }
+
+    /// The URI to which a name's prefix is bound, and its local name: what stands before and after the first colon, where neither is empty.
+    pub(crate) fn expanded<'a>(&'a self, name: &'a str) -> Option<(&'a str, &'a str)>
+        ensures { option_map (λ p. (p.0.now, p.1.now)) result ≡ expanded self.now.prefixes name.now }
+    {
+        let (prefix, local) = name.split_once(':')?;
+        if prefix.is_empty() {
+            return None;
+        }
+        if local.is_empty() {
+            return None;
+        }
+        Some((self.uri(prefix)?, local))
+    }
+
+    /// Whether a name is a prefix that is bound, a colon and a local name.
+    pub(crate) fn binds(&self, name: &str) -> bool
+        ensures { result ≡ is_some (uri_of self.now.prefixes name.now) }
+    {
+        self.expanded(name).is_some()
+    }
+
+    /// Whether the concept with this local name at this URI is numeric.
+    pub(crate) fn is_numeric(&self, uri: &str, local: &str) -> bool
+        ensures { result ≡ is_numeric self.now.table (uri.now, local.now) }
+    {
+        self.table.has(uri, local)
     }
 }
