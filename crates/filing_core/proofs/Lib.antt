@@ -5,7 +5,6 @@ pub mod NextVersions
 pub mod Keeping
 pub mod Laying
 pub mod Committing
-pub mod SortedDims
 pub mod Standing
 pub mod Entering
 pub mod Entered

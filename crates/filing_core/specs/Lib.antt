@@ -1,6 +1,4 @@
 pub mod Keyed
-pub mod Dims
-pub mod Facts
 pub mod Laid
 pub mod Staged
 pub mod Steps

@@ -3,13 +3,9 @@
 //! It knows nothing of JSON, of devices, of locks or of threads.
 #![tactic(auto)]
 
-mod dims;
 mod engine;
-mod fact;
 mod fact_map;
 mod fault;
-mod fitting;
-mod names;
 mod outcome;
 mod plain;
 mod report;
@@ -19,13 +15,9 @@ mod step;
 #[cfg(test)]
 mod tests;
 
-pub use dims::DimSet;
 pub use engine::Core;
-pub use fact::{Fact, FactValue, RawFact};
 pub use fact_map::FactMap;
 pub use fault::CoreFault;
-pub use fitting::fit;
-pub use names::Names;
 pub use plain::Plain;
 pub use report::Report;
 pub use step::{Entry, Kind, Reply, Step};

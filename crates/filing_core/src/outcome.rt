@@ -7,11 +7,10 @@ ghost use Rattle.filing_model.specs.Replies as model;
 ghost use Rattle.filing_core.specs.Steps.{reply_of};
 ghost use Rattle.filing_core.specs.Outcomes.{get_outcome, add_outcome};
 
-use crate::fact::{Fact, RawFact};
-use crate::fitting::fit;
 use crate::plain::Plain;
 use crate::staged::Staged;
 use crate::step::Reply;
+use oim_fact::{Fact, RawFact, fit};
 use std::alloc::AllocError;
 use std::sync::Arc;
 

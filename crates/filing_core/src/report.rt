@@ -3,9 +3,8 @@ ghost use Rattle.std.specs.Arc.{arc_value};
 ghost use Rattle.filing_model.specs.Repository.{fact_in};
 ghost use Rattle.filing_core.specs.Staged.{with_facts};
 
-use crate::fact::Fact;
 use crate::fact_map::FactMap;
-use crate::names::Names;
+use oim_fact::{Fact, Names};
 use std::alloc::{AllocError, Global};
 use std::marker::Model;
 use std::sync::Arc;

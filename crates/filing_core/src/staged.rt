@@ -3,8 +3,8 @@ ghost use Rattle.std.specs.Arc.{arc_value};
 ghost use Rattle.filing_model.specs.TextMap.{empty, get};
 ghost use Rattle.filing_core.specs.Staged.{staged_in, staged_at, staged_with};
 
-use crate::fact::Fact;
 use crate::fact_map::FactMap;
+use oim_fact::Fact;
 use std::alloc::{AllocError, Global};
 use std::collections::BTreeMap;
 use std::marker::Model;

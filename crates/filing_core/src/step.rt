@@ -1,6 +1,5 @@
-use crate::fact::{Fact, RawFact};
 use crate::report::Report;
-use filing_model::FactFault;
+use oim_fact::{Fact, FactFault, RawFact};
 use std::alloc::AllocError;
 use std::marker::Model;
 use std::sync::Arc;

@@ -1,8 +1,7 @@
 //! Each public call once with memory to spare, with its answer: what a contract cannot say is that a call succeeds.
 use super::*;
-use filing_model::{DimFault, FactFault};
+use oim_fact::{DimSet, Fact, FactFault, FactValue, Names, NumericTable, RawFact, fit};
 use std::alloc::{AllocError, Global};
-use std::collections::BTreeMap;
 use std::process::Abort;
 use std::sync::Arc;
 use std::test::Fail;
@@ -81,10 +80,12 @@ fn raw(alloc: Global, written: Written) -> Result<RawFact, Fail> {
     })
 }
 
+// The prefix `ex` alone, and no numeric concept.
 fn names(alloc: Global) -> Result<Names, Fail> {
-    let mut prefixes = BTreeMap::new(alloc);
-    prefixes.insert(text(alloc, "ex")?, text(alloc, "http://e.org/t")?)?;
-    Ok(Names::of(prefixes))
+    let table = NumericTable::of(Vec::new(alloc))?;
+    let mut prefixes = Vec::new(alloc);
+    prefixes.push((text(alloc, "ex")?, text(alloc, "http://e.org/t")?))?;
+    Ok(Names::of(prefixes, Arc::new(alloc, table)?)?)
 }
 
 fn report(alloc: Global, facts: FactMap) -> Result<Report, Fail> {
@@ -151,6 +152,7 @@ fn found(fact: &Fact) -> &'static str {
         FactValue::Nil => "found null",
         FactValue::Text(text) if text.as_str() == "Acme" => "found Acme",
         FactValue::Text(_) => "found another text",
+        FactValue::Number { .. } => "found a number",
     }
 }
 
@@ -401,80 +403,6 @@ fn counts_a_commit_without_changes(rt: HostRuntime) -> Result<(), Fail> {
     Ok(())
 }
 
-#[test]
-fn makes_dimension_sets(rt: HostRuntime) -> Result<(), Fail> {
-    let name = ("concept", "ex:Name");
-    let cases = [
-        ([("period", "2026-01-01T00:00:00"), name], None),
-        ([name, name], Some(DimFault::NameTwice)),
-        (
-            [("entity", "ex:a"), ("ex:A", "b")],
-            Some(DimFault::NoConcept),
-        ),
-    ];
-    for (listed, fault) in cases {
-        assert_eq!(rt; DimSet::of(pairs(rt.alloc(), &listed)?).err(), fault);
-    }
-    Ok(())
-}
-
-#[test]
-fn refuses_null_core_dimensions_and_long_texts(rt: HostRuntime) -> Result<(), Fail> {
-    let alloc = rt.alloc();
-    let mut null = Vec::new(alloc);
-    null.push((text(alloc, "concept")?, None))?;
-    assert_eq!(rt; DimSet::of(null).err(), Some(DimFault::NullCore));
-    let mut long = Vec::new(alloc);
-    long.push((text(alloc, "concept")?, Some("x".repeat(alloc, 4097)?)))?;
-    assert_eq!(rt; DimSet::of(long).err(), Some(DimFault::TooLong));
-    Ok(())
-}
-
-#[test]
-fn binds_prefixes(rt: HostRuntime) -> Result<(), Fail> {
-    let names = names(rt.alloc())?;
-    assert!(rt; names.is_bound("ex"));
-    assert!(rt; !names.is_bound("no"));
-    let cases = [
-        ("ex:Name", true),
-        ("ex:a:b", true),
-        ("no:Name", false),
-        ("ex:", false),
-        (":Name", false),
-        ("Name", false),
-    ];
-    for (name, binds) in cases {
-        assert_eq!(rt; names.binds(name), binds, "at {name}");
-    }
-    Ok(())
-}
-
-#[test]
-fn fits_facts(rt: HostRuntime) -> Result<(), Fail> {
-    let alloc = rt.alloc();
-    let linked = RawFact {
-        links: Some(text(alloc, "[]")?),
-        ..raw(alloc, ACME)?
-    };
-    let fact = fit(&names(alloc)?, linked.clone()?)?;
-    assert_eq!(rt; found(&fact), "found Acme");
-    assert_eq!(rt; fact.links.as_deref(), Some("[]"));
-    Ok(())
-}
-
-#[test]
-fn passes_over_decimals_of_null(rt: HostRuntime) -> Result<(), Fail> {
-    let alloc = rt.alloc();
-    let null = Written {
-        dims: NAME,
-        value: None,
-        decimals: Some(2),
-    };
-    let fact = fit(&names(alloc)?, raw(alloc, null)?)?;
-    assert_eq!(rt; found(&fact), "found null");
-    Ok(())
-}
-
 // Facts with one fact under this identifier.
 fn one_fact(alloc: Global, id: &str, written: Written) -> Result<FactMap, Fail> {
     let mut facts = FactMap::new(alloc);
@@ -493,7 +421,7 @@ fn lays_facts_over_others(rt: HostRuntime) -> Result<(), Fail> {
     assert_eq!(rt; held_in(&report, "f1"), "found Acme");
     assert_eq!(rt; held_in(&report, "f2"), "found another text");
     assert_eq!(rt; held_in(&report.clone()?, "f3"), "absent");
-    assert!(rt; report.names().is_bound("ex"));
+    assert!(rt; report.names().uri("ex").is_some());
     Ok(())
 }
 

@@ -1,8 +1,0 @@
-use Rattle.std.proofs.Common.{◌≡◌, drop}
-use Rattle.filing_model.specs.Facts.{are_bound}
-use Rattle.filing_core.specs.Dims.{dims_view}
-use Rattle.filing_core.proofs.dims.DimSet.are_bound.Given as goal
-
--- it hangs on the names that are left
-abbrev pub invariant-loop-name : goal.invariant-loop-name
-invariant-loop-name l = are_bound l.names.prefixes l.self ≡ are_bound l.names.prefixes (dims_view (drop l.name-index l.name-items))

@@ -1,9 +1,0 @@
-use Rattle.std.proofs.Common.{◌≡◌, drop}
-use Rattle.std.specs.Option.{option_flatten}
-use Rattle.filing_model.specs.Dimensions.{core_value}
-use Rattle.filing_core.specs.Dims.{dims_view}
-use Rattle.filing_core.proofs.dims.DimSet.core_value.Given as goal
-
--- nothing was found so far
-abbrev pub invariant-loop-key : goal.invariant-loop-key
-invariant-loop-key l = core_value l.name l.self ≡ core_value l.name (dims_view (drop l.key-index l.key-items))
