@@ -18,7 +18,7 @@ use Rattle.std.specs.declared.alloc.Global.{Global}
 use Rattle.serde_json.specs.View.{view, members_view}
 use Rattle.serde_json.specs.declared.value.Value.{Value}
 use Rattle.filing_model.proofs.Tries.{each_more}
-use Rattle.filing_core.specs.Dims.{dims_view}
+use Rattle.oim_fact.specs.Dims.{dims_view}
 use Rattle.filing_cli.specs.Parts.{dim_view}
 use Rattle.filing_cli.specs.Reading.{plain_fact_of, is_plain_fact}
 use Rattle.filing_cli.proofs.Members.{no_third}
@@ -76,27 +76,3 @@ plain_fact_by_parts d =
           ∙ read_parts (named_dims d) (option_and_then as_nullable (get (codes "value") d))
       | false ↦ λ _. refl
     ] refl
-
--- ---- a loop that reads dimensions one by one
-
-abbrev Entry : Type 0
-Entry = String Global × Value
-
-abbrev Pair : Type 0
-Pair = String Global × Option (String Global)
-
-abbrev read_on : List Pair → List Entry → Result (List (Text × Option Text)) Trouble
-read_on before left = with_front (dims_view before) (each dim_of (pairs (members_view left)))
-
-ok_from : {A E : Type 0} (r : Result A E) (x : A) → Some x ≡ result_ok r → r ≡ Ok x
-ok_from (Ok y) x h = ap (λ o. Ok (unwrap_or o y)) (sym h)
-ok_from (Err e) x h = absurd (true≢false (ap is_some h))
-
-pub dims_turn : (left rest : List Entry) (k : String Global) (v : Value) (before later : List Pair) (d : Pair) (goal : Result (List (Text × Option Text)) Trouble)
-    → left ≡ (k, v) ∷ rest → later ≡ before ++ d ∷ [] → Some (dim_view d) ≡ result_ok (dim_of (string_bytes k, view v))
-    → read_on before left ≡ goal → read_on later rest ≡ goal
-dims_turn left rest k v before later d goal left_is later_is read h =
-    ap (λ ps. with_front ps (each dim_of (pairs (members_view rest)))) (ap dims_view later_is ∙ map-append dim_view before (d ∷ []))
-    ∙ each_more dim_of (dims_view before) (string_bytes k, view v) (dim_view d) (pairs (members_view rest)) (ok_from _ _ read)
-    ∙ ap (λ es. read_on before es) (sym left_is)
-    ∙ h

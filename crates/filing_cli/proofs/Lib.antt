@@ -5,6 +5,7 @@ pub mod Sending
 pub mod Taking
 pub mod Reading
 pub mod Members
+pub mod EachMember
 pub mod Facts
 pub mod Pieces
 pub mod Examples
@@ -12,7 +13,6 @@ pub mod Answering
 pub mod Freeing
 pub mod Busy
 pub mod Values
-pub mod Aliases
 pub mod Reports
 pub mod Prefixes
 pub mod ReadingExamples

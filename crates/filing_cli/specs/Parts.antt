@@ -1,5 +1,6 @@
 -- The parts of a plain fact and of a plain report, each as it is read.
-use Rattle.std.specs.Prelude.{Bool, true, false, ◌&&◌, if◌then◌else◌, List, [], ◌∷◌, codes, Option, None, Some, option_map, is_some, string_bytes, String}
+use Rattle.std.specs.Prelude.{Bool, true, false, ◌&&◌, if◌then◌else◌, ℤ, List, [], ◌∷◌, ◌++◌, codes, Option, None, Some, option_map, is_some, string_bytes, String}
+use Rattle.std.specs.Fmt.{signed_decimal}
 use Rattle.std.specs.Option.{option_and_then, option_map_or}
 use Rattle.std.specs.Result.{result_ok}
 use Rattle.std.specs.declared.alloc.Global.{Global}
@@ -8,8 +9,10 @@ use Rattle.serde_json.specs.Find.{get, as_str, as_object}
 use Rattle.filing_model.specs.Text.{Text, text_eq}
 use Rattle.filing_model.specs.TextMap.{TextMap}
 use Rattle.filing_model.specs.Facts.{Fact, Names, fit_of}
-use Rattle.filing_model.specs.ReadReport.{document_info_of, prefixes_of_namespaces, facts_of}
-use Rattle.filing_core.specs.Dims.{text_of}
+use Rattle.filing_model.specs.Try.{each}
+use Rattle.filing_model.specs.JsonText.{pairs}
+use Rattle.filing_model.specs.ReadReport.{document_info_of, prefix_of, prefixes_of_namespaces, facts_of}
+use Rattle.oim_fact.specs.Texts.{text_of}
 use Rattle.filing_cli.specs.Reading.{plain_fact_of, is_plain_info, are_plain_facts}
 
 -- a name with a text or null
@@ -33,6 +36,10 @@ is_info_object info = is_some (as_object info) && (has_document_type info && is_
 abbrev pub plain_info_of : Data → Option Data
 plain_info_of d = option_and_then (λ info. if is_plain_info info then Some info else None) (result_ok (document_info_of d))
 
+-- the prefixes with their URIs of the member `namespaces`, in a list
+abbrev pub bound_of : Data → Option (List (Text × Text))
+bound_of d = option_and_then (λ ms. result_ok (each prefix_of (pairs ms))) (as_object d)
+
 -- the prefixes of this `documentInfo`
 abbrev pub plain_prefixes_of : Data → Option (TextMap Text)
 plain_prefixes_of info = result_ok (prefixes_of_namespaces (get (codes "namespaces") info))
@@ -48,3 +55,8 @@ plain_fitted_of names d = option_and_then (λ raw. result_ok (fit_of names raw))
 -- plain facts alone, of the member `facts`
 abbrev pub plain_facts_of : Names → Option Data → Option (TextMap Fact)
 plain_facts_of names facts = if option_map_or are_plain_facts facts true then result_ok (facts_of names facts) else None
+
+-- what stands before the dimensions in the text of a fact with these decimals
+abbrev pub opening_text : Option ℤ → Text
+opening_text None = codes "{\"dimensions\":"
+opening_text (Some d) = codes "{\"decimals\":" ++ (signed_decimal d ++ codes ",\"dimensions\":")

@@ -8,7 +8,7 @@ ghost use Rattle.serde_json.specs.Find.{as_object, get};
 ghost use Rattle.serde_json.specs.View.{view, members_view};
 ghost use Rattle.filing_model.specs.Text.{text_cmp, text_eq};
 ghost use Rattle.filing_model.specs.JsonText.{json_of, pairs, as_nullable};
-ghost use Rattle.filing_core.specs.Dims.{text_of};
+ghost use Rattle.oim_fact.specs.Texts.{text_of};
 ghost use Rattle.filing_cli.specs.Reading.{members_in, has_no_member_but};
 
 mod fact;

@@ -6,12 +6,12 @@ ghost use Rattle.serde_json.specs.View.{view, members_view};
 ghost use Rattle.filing_model.specs.Try.{each};
 ghost use Rattle.filing_model.specs.JsonText.{pairs};
 ghost use Rattle.filing_model.specs.ReadFact.{dim_of, named_dims};
-ghost use Rattle.filing_core.specs.Dims.{dims_view};
+ghost use Rattle.oim_fact.specs.Dims.{dims_view};
 ghost use Rattle.filing_cli.specs.Reading.{plain_fact_of};
 ghost use Rattle.filing_cli.specs.Parts.{dim_view};
 
 use crate::from_json::{has_no_member_but, members, nullable, nullable_at};
-use filing_core::{DimSet, RawFact};
+use oim_fact::{DimSet, RawFact};
 use serde_json::{Map, Value};
 use std::alloc::{AllocError, Global};
 

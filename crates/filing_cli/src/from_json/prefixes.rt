@@ -1,66 +1,76 @@
 //! The prefixes of a report as JSON says them.
 
-ghost use Rattle.std.specs.Prelude.{◌≡◌, [], map, string_bytes, option_map, IfOk};
-ghost use Rattle.serde_json.specs.Find.{as_str};
+ghost use Rattle.std.specs.Prelude.{◌≡◌, [], option_map, string_bytes, IfOk};
+ghost use Rattle.std.specs.Result.{result_ok};
 ghost use Rattle.serde_json.specs.View.{view, members_view};
-ghost use Rattle.filing_model.specs.Text.{has_repeats};
-ghost use Rattle.filing_model.specs.TextMap.{from_entries};
+ghost use Rattle.filing_model.specs.Try.{each};
 ghost use Rattle.filing_model.specs.JsonText.{pairs};
-ghost use Rattle.filing_core.specs.Keyed.{keyed_map};
-ghost use Rattle.filing_cli.specs.Parts.{some_values, named, plain_prefixes_of};
+ghost use Rattle.filing_model.specs.ReadReport.{prefix_of};
+ghost use Rattle.oim_fact.specs.Texts.{row_of, rows_view};
+ghost use Rattle.oim_fact.specs.Names.{names_of};
+ghost use Rattle.filing_cli.specs.Parts.{bound_of, named, plain_prefixes_of};
 
 use crate::from_json::members;
-use filing_core::Names;
+use oim_fact::{Names, NumericTable};
 use serde_json::{Map, Value};
 use std::alloc::{AllocError, Global};
-use std::collections::BTreeMap;
+use std::sync::Arc;
 
-/// The prefixes with their URIs, where all are texts.
-fn uris(
+/// A prefix with its URI, where that is a text.
+fn bound(prefix: &String, value: &Value) -> Result<Option<(String, String)>, AllocError>
+    ensures { IfOk result (λ o. option_map row_of o ≡ result_ok (prefix_of (string_bytes prefix.now, view value.now))) }
+{
+    match value {
+        Value::String(uri) => Ok(Some((prefix.clone()?, uri.clone()?))),
+        _ => Ok(None),
+    }
+}
+
+/// The prefixes with their URIs that these members are.
+fn prefixes_in(
     alloc: Global,
     members: &Map<String, Value>,
-) -> Result<Option<BTreeMap<String, String>>, AllocError>
-    ensures { IfOk result (λ o. option_map (λ m. keyed_map string_bytes m.entries) o ≡ option_map from_entries (some_values as_str (pairs (members_view members.now.entries)))) }
+) -> Result<Option<Vec<(String, String)>>, AllocError>
+    ensures { IfOk result (λ o. option_map (λ v. rows_view v.items) o ≡ result_ok (each prefix_of (pairs (members_view members.now.entries)))) }
 {
-    let mut prefixes = BTreeMap::new(alloc);
+    let mut prefixes = Vec::new(alloc);
     for (prefix, value) in members {
-        let Some(uri) = value.as_str() else {
+        let Some(row) = bound(prefix, value)? else {
             return Ok(None);
         };
-        prefixes.insert(prefix.clone()?, String::from_str(alloc, uri)?)?;
+        prefixes.push(row)?;
     }
     Ok(Some(prefixes))
 }
 
-/// Whether two prefixes have one URI.
-fn has_alias(alloc: Global, prefixes: &BTreeMap<String, String>) -> Result<bool, AllocError>
-    ensures { IfOk result (λ b. b ≡ has_repeats (map (λ e. e.1) (keyed_map string_bytes prefixes.now.entries).entries)) }
+/// The prefixes with their URIs of the member `namespaces`.
+fn prefixes(alloc: Global, namespaces: &Value) -> Result<Option<Vec<(String, String)>>, AllocError>
+    ensures { IfOk result (λ o. option_map (λ v. rows_view v.items) o ≡ bound_of (view namespaces.now)) }
 {
-    let mut seen: BTreeMap<String, ()> = BTreeMap::new(alloc);
-    for (_, uri) in prefixes {
-        if seen.contains_key(uri.as_str()) {
-            return Ok(true);
-        }
-        seen.insert(uri.clone()?, ())?;
+    match members(namespaces) {
+        Some(members) => prefixes_in(alloc, members),
+        None => Ok(None),
     }
-    Ok(false)
+}
+
+/// The names of these prefixes, by which no concept is numeric.
+fn named(alloc: Global, prefixes: Vec<(String, String)>) -> Result<Option<Names>, AllocError>
+    ensures { IfOk result (λ o. o ≡ result_ok (names_of (rows_view prefixes.items) [])) }
+{
+    let table = NumericTable::of(Vec::new(alloc))?;
+    Ok(Names::of(prefixes, Arc::new(alloc, table)?).ok())
 }
 
 /// The names that `documentInfo` declares.
+#[tactic(auto, using(crate::proofs::Prefixes::plain_names))]
 pub fn names(alloc: Global, info: &Value) -> Result<Option<Names>, AllocError>
     ensures { IfOk result (λ o. o ≡ option_map named (plain_prefixes_of (view info.now))) }
 {
     let Some(namespaces) = info.get("namespaces") else {
-        return Ok(Some(Names::of(BTreeMap::new(alloc))));
+        return named(alloc, Vec::new(alloc));
     };
-    let Some(members) = members(namespaces) else {
-        return Ok(None);
-    };
-    let Some(prefixes) = uris(alloc, members)? else {
-        return Ok(None);
-    };
-    if has_alias(alloc, &prefixes)? {
-        return Ok(None);
+    match prefixes(alloc, namespaces)? {
+        Some(prefixes) => named(alloc, prefixes),
+        None => Ok(None),
     }
-    Ok(Some(Names::of(prefixes)))
 }

@@ -12,8 +12,9 @@ ghost use Rattle.filing_cli.specs.Parts.{some_values, has_document_type, is_info
 use crate::from_json::fact::raw_fact;
 use crate::from_json::prefixes::names;
 use crate::from_json::{has_no_member_but, json_value, members};
-use filing_core::{Fact, FactMap, Names, Report, fit};
+use filing_core::{FactMap, Report};
 use filing_model::is_same_text;
+use oim_fact::{Fact, Names, fit};
 use serde_json::{Map, Value};
 use std::alloc::{AllocError, Global};
 use std::sync::Arc;

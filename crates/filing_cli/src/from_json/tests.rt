@@ -1,7 +1,8 @@
 //! What is taken of texts, with ample memory.
 
 use crate::from_json::{json_value, raw_fact, report, report_text};
-use filing_core::{Fact, FactValue, Report};
+use filing_core::Report;
+use oim_fact::{Fact, FactValue};
 use std::alloc::{AllocError, Global};
 use std::test::Fail;
 
@@ -26,7 +27,7 @@ const OTHER_FACTS: [&str; 3] = [
 fn is_text(fact: &Fact, text: &str) -> bool {
     match &fact.value {
         FactValue::Text(found) => found.as_str() == text,
-        FactValue::Nil => false,
+        FactValue::Nil | FactValue::Number { .. } => false,
     }
 }
 
@@ -38,8 +39,8 @@ fn is_whole(report: &Report) -> bool {
     is_text(a, "1000")
         && matches!(b.value, FactValue::Nil)
         && report.get("c").is_none()
-        && report.names().is_bound("ex")
-        && !report.names().is_bound("http://e.org/t")
+        && report.names().uri("ex") == Some("http://e.org/t")
+        && report.names().uri("http://e.org/t").is_none()
 }
 
 // Whether a fact is taken of a text.

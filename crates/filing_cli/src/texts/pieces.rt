@@ -1,10 +1,12 @@
 ghost use Rattle.std.specs.Prelude.{◌≡◌, ◌++◌, OnOk, IfOk, decimal, string_bytes};
+ghost use Rattle.std.specs.Fmt.{signed_decimal};
 ghost use Rattle.json.specs.Print.{quoted};
 ghost use Rattle.serde_json.specs.Written.{comma_if};
 ghost use Rattle.filing_model.specs.Writing.{nullable_text};
-ghost use Rattle.filing_core.specs.Dims.{text_of};
+ghost use Rattle.oim_fact.specs.Texts.{text_of};
 
 use json::Writer;
+use oim_value::Decimals;
 use std::alloc::{AllocError, Global};
 
 /// A text as a JSON text.
@@ -50,4 +52,12 @@ pub(super) fn push_number(out: &mut String, number: u64) -> Result<(), AllocErro
     ensures { OnOk result (string_bytes out.new ≡ string_bytes out.old ++ decimal number) }
 {
     write!(out, "{number}")
+}
+
+/// Appends decimals.
+pub(super) fn push_decimals(out: &mut String, decimals: Decimals) -> Result<(), AllocError>
+    ensures { OnOk result (string_bytes out.new ≡ string_bytes out.old ++ signed_decimal decimals) }
+{
+    let place = decimals.place();
+    write!(out, "{place}")
 }

@@ -6,8 +6,9 @@ ghost use Rattle.filing_cli.specs.ReplyText.{reply_text};
 use super::facts::push_fact;
 use super::lines::bad_fact_reply;
 use super::pieces::push_number;
-use filing_core::{Fact, Reply};
+use filing_core::Reply;
 use filing_model::Trouble;
+use oim_fact::Fact;
 use std::alloc::{AllocError, Global};
 
 /// Appends the array of a word and a number.

@@ -5,8 +5,9 @@ use super::{
     bad_fact_reply, bad_line_reply, name_in_use_reply, no_session_reply, reply_text,
     wrong_report_reply,
 };
-use filing_core::{FactValue, Reply};
+use filing_core::Reply;
 use filing_model::{DimFault, FactFault, Trouble};
+use oim_fact::FactValue;
 use std::test::Fail;
 
 #[test]

@@ -3,7 +3,7 @@ use Rattle.serde_json.specs.View.{members_view}
 use Rattle.filing_model.specs.Try.{each, with_front}
 use Rattle.filing_model.specs.JsonText.{pairs}
 use Rattle.filing_model.specs.ReadFact.{dim_of}
-use Rattle.filing_core.specs.Dims.{dims_view}
+use Rattle.oim_fact.specs.Dims.{dims_view}
 use Rattle.filing_cli.proofs.from_json.fact.dims_in.Given as goal
 
 -- what was read, with what is left

@@ -1,6 +1,6 @@
 use Rattle.std.proofs.Common.{◌≡◌, ◌++◌, false, drop, string_bytes}
 use Rattle.filing_model.specs.Writing.{listed, member_text, nullable_text}
-use Rattle.filing_core.specs.Dims.{dims_view}
+use Rattle.oim_fact.specs.Dims.{dims_view}
 use Rattle.filing_cli.proofs.texts.facts.push_dims.Given as goal
 
 -- what is written and the dimensions that are left make the whole
