@@ -15,4 +15,6 @@ pub mod Serial
 pub mod Classes
 pub mod Cells
 pub mod Chain
+pub mod Counting
+pub mod NumberInstances
 pub mod Instances

@@ -1,3 +1,4 @@
+pub mod Numbers
 pub mod NextReply
 pub mod Untouched
 pub mod Obeying

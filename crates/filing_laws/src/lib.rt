@@ -5,15 +5,21 @@
 //! - `next_reply`: after a lawful history each step that may be taken has one reply that keeps it lawful.
 //! - `untouched`: a session whose reads nobody touched was told what it is told alone, at its opening and now.
 //! - `obeying`: a report obeys its allowed duplicates exactly where it has no disallowed cell.
+//! - `numbers`: the numbers of loads and commits rise by one, and tell what was touched since an opening.
 //! - `versions`: each version of a lawful history obeys, and the versions are a chain.
 #![tactic(auto)]
 
 mod next_reply;
+mod numbers;
 mod obeying;
 mod untouched;
 mod versions;
 
 pub use next_reply::{each_entry_follows_lawfully, each_step_has_one_reply};
+pub use numbers::{
+    each_number_is_the_count, each_touch_is_the_greatest, numbers_rise_by_one,
+    numbers_tell_what_is_later, stamps_tell_the_last_touch,
+};
 pub use obeying::{
     least_disallowed_is_the_least, obeys_where_each_cell_is_allowed,
     obeys_where_no_cell_is_disallowed, repository_obeys_where_not_refused,
