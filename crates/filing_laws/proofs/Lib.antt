@@ -17,4 +17,9 @@ pub mod Cells
 pub mod Chain
 pub mod Counting
 pub mod NumberInstances
+pub mod Playing
+pub mod SessionRuns
+pub mod Leaving
+pub mod InTurn
+pub mod Serially
 pub mod Instances
