@@ -22,4 +22,5 @@ pub mod SessionRuns
 pub mod Leaving
 pub mod InTurn
 pub mod Serially
+pub mod WholeRunInstances
 pub mod Instances
