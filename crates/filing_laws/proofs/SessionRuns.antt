@@ -86,6 +86,7 @@ pub record IsWhole (p : Part) : Type 0 where
 pub record IsKnown (p : Part) : Type 0 where
   pub committed : (n : ℕ) → p.told ≡ Some (reply.Committed n) → IsWhole p
   pub opened : (kind : Kind) → p.kind ≡ Some kind → AreSoloReplies kind p.ending p.base p.calls p.all
+  pub unopened : p.kind ≡ None → p.all ≡ []
 
 abbrev pub IsAt : Status → Part → Type 0
 IsAt Unknown p = IsUnopened p
@@ -99,6 +100,9 @@ same_kind k kind e = cc
 
 kinds_alike : (k kind : Kind) → Some k ≡ Some kind → k ≡ kind
 kinds_alike k kind e = cc
+
+was_opened : (o : Option Kind) (kind : Kind) (all : List Reply) → o ≡ Some kind → o ≡ None → all ≡ []
+was_opened o kind all some none = let apart : Some kind ≡ None = sym some ∙ none in cc
 
 untold : (o : Option Reply) (n : ℕ) → o ≡ None → o ≡ Some (reply.Committed n) → ⊥
 untold o n none some = let apart : None ≡ Some (reply.Committed n) = sym none ∙ some in cc
@@ -127,6 +131,7 @@ module _ (older : History) (session : Option ℕ) (s : ℕ) (r : Reply) where
   closing kind lawful live going is = record {
     committed = λ n e. absurd (untold (told_at_commit s older) n going.told e);
     opened = λ k of_kind. subst (λ k. AreSoloReplies k Closing (base_of s older) (calls_of s older ++ []) (all_replies_of s older ++ r ∷ [])) (kinds_alike kind k (sym going.of_kind ∙ of_kind)) (closed_at kind lawful live going is);
+    unopened = was_opened (kind_of s older) kind (all_replies_of s older ++ r ∷ []) going.of_kind;
   }
 
   -- the commit that was told a number ran whole at the repository so far
@@ -155,6 +160,7 @@ module _ (older : History) (session : Option ℕ) (s : ℕ) (r : Reply) where
   committing kind lawful next mine live going is = record {
     committed = λ n e. passed kind n next mine live going (let told : Some r ≡ Some (reply.Committed n) = e in cc) (entry_case older entry next);
     opened = λ k of_kind. subst (λ k. AreSoloReplies k Committing (base_of s older) (calls_of s older ++ []) (all_replies_of s older ++ r ∷ [])) (kinds_alike kind k (sym going.of_kind ∙ of_kind)) (committed_at kind lawful live going is);
+    unopened = was_opened (kind_of s older) kind (all_replies_of s older ++ r ∷ []) going.of_kind;
   }
 
 -- ---- each entry of the session
@@ -225,12 +231,14 @@ going_known h s kind lawful live going = record {
       subst (λ k. AreSoloReplies k (ending_of s h) (base_of s h) (calls_of s h) (all_replies_of s h)) (kinds_alike kind k (sym going.of_kind ∙ of_kind))
       (subst (λ ending. AreSoloReplies kind ending (base_of s h) (calls_of s h) (all_replies_of s h)) (sym going.ending)
       (subst (AreSoloReplies kind Unended (base_of s h) (calls_of s h)) (sym (going.all ∙ ap (λ rs. reply.Opened ∷ rs) (own_replies h s kind lawful live))) (not_ended kind (base_of s h) (calls_of s h))));
+  unopened = was_opened (kind_of s h) kind (all_replies_of s h) going.of_kind;
 }
 
 known_at : (h : History) (s : ℕ) → IsLawful h → (status : Status) → status_of s h ≡ status → IsAt status (part_of s h) → IsKnown (part_of s h)
 known_at h s lawful Unknown is none = record {
   committed = λ n e. absurd (untold (told_at_commit s h) n none.told e);
   opened = λ k of_kind. let apart : None ≡ Some k = sym none.kind ∙ of_kind in cc;
+  unopened = λ no_kind. none.all;
 }
 known_at h s lawful (Live kind) is going = going_known h s kind lawful is going
 known_at h s lawful Ended is over = over

@@ -16,7 +16,7 @@ use Rattle.filing_model.specs.TextMap.{empty}
 use Rattle.filing_model.proofs.Examples.Histories.{r1, blank, write_skew_lines, snapshot_lines, no_duplicates_before, no_duplicates_lines, refused_leaves_nothing_lines}
 use Rattle.filing_laws.specs.NextReply.{MayBeTaken}
 use Rattle.filing_laws.specs.Played.{played, steps_of}
-use Rattle.filing_laws.specs.WholeRuns.{ending_of, before_commit, IsCommitted, without, Loading, Running, after_turns, turns_of, IsSerial}
+use Rattle.filing_laws.specs.WholeRuns.{all_replies_of, ending_of, before_commit, IsCommitted, without, Loading, Running, after_turns, turns_of, IsSerial}
 use Rattle.filing_laws.proofs.Playing.{played_are_the_lawful}
 use Rattle.filing_laws.proofs.Serially.{each_order_of_steps_is_serial, each_lawful_history_is_serial}
 
@@ -55,7 +55,7 @@ pub second_ended_by_a_commit : ending_of 2 skewed ≡ Committing
 second_ended_by_a_commit = refl
 
 pub second_replied_as_at_its_opening : (r : Reply) × (Opened ∷ Cell Empty [] ∷ Staged ∷ Conflict 2 (thing.Cell r1 (of_concept (codes "ex:B"))) ∷ [] ≡ (solo Amend loaded (calls_of 2 skewed) Unended).replies ++ r ∷ [])
-second_replied_as_at_its_opening = skewed_is_serial.opened 2 Amend refl
+second_replied_as_at_its_opening = skewed_is_serial.opened 2
 
 pub second_was_not_committed : ¬ IsCommitted 2 skewed
 second_was_not_committed (n, told) = let differ : Some (Conflict 2 (thing.Cell r1 (of_concept (codes "ex:B")))) ≡ Some (Committed n) = told in cc
@@ -84,6 +84,9 @@ skewed_in_turn = skewed_is_serial.repository.sequential
 pub skewed_newest : Some first_left ≡ Some (repository skewed)
 skewed_newest = skewed_is_serial.repository.newest
 
+pub stranger_was_told_nothing : all_replies_of 3 skewed ≡ []
+stranger_was_told_nothing = skewed_is_serial.opened 3
+
 -- ---- a snapshot: a review that opened before a commit reads the old fact after it, and commits, which closes it. A later one, which has not ended, reads the new fact
 
 abbrev seen : History
@@ -96,10 +99,10 @@ abbrev reads_f1 : List call.Call
 reads_f1 = call.Get r1 (codes "f1") ∷ []
 
 pub review_replied_as_at_its_opening : (solo Review (base_of 1 seen) reads_f1 Committing).replies ≡ Opened ∷ Found (fact (codes "old")) ∷ Closed ∷ []
-review_replied_as_at_its_opening = sym (seen_is_serial.opened 1 Review refl)
+review_replied_as_at_its_opening = sym (seen_is_serial.opened 1)
 
 pub later_review_replied_as_at_its_opening : (solo Review (base_of 3 seen) reads_f1 Unended).replies ≡ Opened ∷ Found (fact (codes "new")) ∷ []
-later_review_replied_as_at_its_opening = sym (seen_is_serial.opened 3 Review refl)
+later_review_replied_as_at_its_opening = sym (seen_is_serial.opened 3)
 
 pub amendment_was_committed : IsCommitted 2 seen
 amendment_was_committed = (2, refl)
@@ -137,7 +140,7 @@ pub duplicate_was_not_committed : ¬ IsCommitted 2 single
 duplicate_was_not_committed (n, told) = let differ : Some (Disallowed r1 Complete (codes "a" ∷ codes "b" ∷ [])) ≡ Some (Committed n) = told in cc
 
 pub duplicate_replied_as_at_its_opening : (r : Reply) × (Opened ∷ Staged ∷ Disallowed r1 Complete (codes "a" ∷ codes "b" ∷ []) ∷ [] ≡ (solo Amend (base_of 2 single) (calls_of 2 single) Unended).replies ++ r ∷ [])
-duplicate_replied_as_at_its_opening = single_is_serial.opened 2 Amend refl
+duplicate_replied_as_at_its_opening = single_is_serial.opened 2
 
 pub duplicate_left_nothing : repository (without 2 single) ≡ a_alone
 duplicate_left_nothing = single_is_serial.refused.sessions 2 duplicate_was_not_committed
@@ -158,7 +161,7 @@ mixed_is_serial : IsSerial mixed
 mixed_is_serial = each_order_of_steps_is_serial refused_leaves_nothing_lines
 
 pub closed_replied_as_at_its_opening : (solo Amend (base_of 3 mixed) (calls_of 3 mixed) Closing).replies ≡ Opened ∷ Staged ∷ Closed ∷ []
-closed_replied_as_at_its_opening = sym (mixed_is_serial.opened 3 Amend refl)
+closed_replied_as_at_its_opening = sym (mixed_is_serial.opened 3)
 
 pub closed_left_nothing : repository (without 3 mixed) ≡ repository mixed
 closed_left_nothing = mixed_is_serial.refused.sessions 3 (λ p. let differ : None ≡ Some (Committed p.0) = p.1 in cc)

@@ -1,5 +1,5 @@
 -- Of whole runs of sessions: each that committed beside the sequential repository, which runs it whole at its commit, and every other beside the repository of its opening.
-use Rattle.std.specs.Prelude.{◌≡◌, ℕ, Bool, true, false, cond, not, ◌&&◌, List, [], ◌∷◌, ◌++◌, All, Option, Some, None}
+use Rattle.std.specs.Prelude.{◌≡◌, ℕ, Bool, true, false, cond, not, ◌&&◌, List, [], ◌∷◌, ◌++◌, All, Option, Some, None, MatchOption}
 use Rattle.std.specs.List.{filter, last_or}
 use Rattle.std.specs.Option.{option_map_or}
 use Rattle.filing_model.specs.Text.{Text}
@@ -43,6 +43,7 @@ abbrev pub ending_of : ℕ → History → Ending
 ending_of s [] = Unended
 ending_of s (e ∷ older) = cond (is_of s e) (ending_after e.step (ending_of s older)) (ending_of s older)
 
+-- whether the step is a Commit
 abbrev pub is_commit : Step → Bool
 is_commit Commit = true
 is_commit _ = false
@@ -87,9 +88,9 @@ abbrev pub AreSoloReplies : Kind → Ending → Repository → List Call → Lis
 AreSoloReplies Amend Committing c calls replies = (r : Reply) × (replies ≡ (solo Amend c calls Unended).replies ++ r ∷ [])
 AreSoloReplies kind ending c calls replies = replies ≡ (solo kind c calls ending).replies
 
--- every session's replies, an amendment's reply to its commit aside, are those at its opening: a review's, be it committed, closed or not ended, and those of an amendment that was closed, refused or not ended
+-- every session's replies, an amendment's reply to its commit aside, are those at its opening: a review's, be it committed, closed or not ended, and those of an amendment that was closed, refused or not ended. One that was not opened has none
 abbrev pub SessionsReplyAsAtTheirOpening : History → Type 0
-SessionsReplyAsAtTheirOpening h = (s : ℕ) (kind : Kind) → kind_of s h ≡ Some kind → AreSoloReplies kind (ending_of s h) (base_of s h) (calls_of s h) (all_replies_of s h)
+SessionsReplyAsAtTheirOpening h = (s : ℕ) → MatchOption (kind_of s h) (all_replies_of s h ≡ []) (λ kind. AreSoloReplies kind (ending_of s h) (base_of s h) (calls_of s h) (all_replies_of s h))
 
 -- ---- what leaves the repository as it was
 
@@ -130,6 +131,7 @@ abbrev pub after_turns : Repository → List Turn → Repository
 after_turns c [] = c
 after_turns c (t ∷ ts) = after_turns (after_turn c t) ts
 
+-- the turn of an entry, or none
 abbrev pub load_in : Step → List Turn
 load_in (Load name r) = Loading name r ∷ []
 load_in _ = []
@@ -149,8 +151,9 @@ pub record RepositoryIsThatOfTheTurns (h : History) : Type 0 where
   pub sequential : repository h ≡ after_turns nothing (turns_of h)
   pub newest : last_or None (versions h) ≡ Some (repository h)
 
--- ---- the headline
+-- ---- serial validation
 
+-- a history as serial validation makes it, sentence by sentence
 pub record IsSerial (h : History) : Type 0 where
   pub committed : CommittedSessionsRunWholeAtTheirCommit h
   pub opened : SessionsReplyAsAtTheirOpening h
@@ -158,9 +161,10 @@ pub record IsSerial (h : History) : Type 0 where
   pub versions : VersionsObey h
   pub repository : RepositoryIsThatOfTheTurns h
 
+-- every lawful history is one
 abbrev pub EachLawfulHistoryIsSerial : Type 0
 EachLawfulHistoryIsSerial = (h : History) → IsLawful h → IsSerial h
 
--- whatever the order in which the steps of any sessions fall
+-- and so is what steps make, whatever the order in which those of any sessions fall
 abbrev pub EachOrderOfStepsIsSerial : Type 0
 EachOrderOfStepsIsSerial = (steps : List SessionStep) → IsSerial (played steps)
