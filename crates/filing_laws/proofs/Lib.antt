@@ -15,4 +15,12 @@ pub mod Serial
 pub mod Classes
 pub mod Cells
 pub mod Chain
+pub mod Counting
+pub mod NumberInstances
+pub mod Playing
+pub mod SessionRuns
+pub mod Leaving
+pub mod InTurn
+pub mod Serially
+pub mod WholeRunInstances
 pub mod Instances
