@@ -16,3 +16,5 @@ pub mod Classes
 pub mod Cells
 pub mod Chain
 pub mod Instances
+pub mod LaidOver
+pub mod NetChanges

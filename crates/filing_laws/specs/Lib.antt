@@ -2,3 +2,4 @@ pub mod NextReply
 pub mod Untouched
 pub mod Obeying
 pub mod Versions
+pub mod NetChange

@@ -6,13 +6,16 @@
 //! - `untouched`: a session whose reads nobody touched was told what it is told alone, at its opening and now.
 //! - `obeying`: a report obeys its allowed duplicates exactly where it has no disallowed cell.
 //! - `versions`: each version of a lawful history obeys, and the versions are a chain.
+//! - `net_change`: the net change of an untouched amendment makes its copy, and its new facts alone decide whether it is refused.
 #![tactic(auto)]
 
+mod net_change;
 mod next_reply;
 mod obeying;
 mod untouched;
 mod versions;
 
+pub use net_change::{each_commit_lays_its_net_change, each_net_change_makes_the_copy};
 pub use next_reply::{each_entry_follows_lawfully, each_step_has_one_reply};
 pub use obeying::{
     least_disallowed_is_the_least, obeys_where_each_cell_is_allowed,
