@@ -1,5 +1,5 @@
 -- What stands at each place of a repository with a change laid over it, and that repositories with the same reports are one.
-use Rattle.std.proofs.Common.{◌≡◌, ◌∙◌, ap, sym, refl, subst, ℕ, Bool, true, false, cond, T, List, [], ◌∷◌, Option, Some, None, option_map, option_and_then, unwrap_or}
+use Rattle.std.proofs.Common.{◌≡◌, ◌∙◌, ap, sym, refl, subst, Bool, true, false, cond, T, List, [], ◌∷◌, Option, Some, None, option_map, option_and_then, unwrap_or}
 use Rattle.std.specs.Option.{option_map_or}
 use Rattle.std.specs.FinMap.Entries.{find, is_sorted, below_all}
 use Rattle.filing_model.specs.Text.{Text, text_cmp, text_eq}

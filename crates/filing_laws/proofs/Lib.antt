@@ -18,3 +18,6 @@ pub mod Chain
 pub mod Instances
 pub mod LaidOver
 pub mod NetChanges
+pub mod FirstFound
+pub mod NewFacts
+pub mod NetChangeInstances

@@ -17,9 +17,8 @@ use Rattle.filing_model.specs.Replies.{Reply}
 use Rattle.filing_model.specs.Things as thing
 use Rattle.filing_model.specs.Things.{Thing}
 use Rattle.filing_model.specs.Sessions.{Answer, answer, solo_replies, solo_copy, fitted, added, removed}
-use Rattle.filing_model.specs.History.{Entry, History, Live, calls_of, replies_of, base_of, repository}
+use Rattle.filing_model.specs.History.{History, calls_of, replies_of, base_of, repository}
 use Rattle.filing_model.specs.Touches.{Change, change_at, with_change, change_between, staged_places, net_change_of}
-use Rattle.filing_model.specs.Lawful.{IsLawful}
 use Rattle.filing_model.specs.Versions.{counts}
 use Rattle.filing_model.specs.declared.faults.FactFault.{FactFault}
 use Rattle.filing_model.specs.declared.kind.Kind.{Kind}

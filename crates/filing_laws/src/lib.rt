@@ -15,7 +15,10 @@ mod obeying;
 mod untouched;
 mod versions;
 
-pub use net_change::{each_commit_lays_its_net_change, each_net_change_makes_the_copy};
+pub use net_change::{
+    each_change_is_decided_by_its_new_facts, each_commit_lays_its_net_change,
+    each_disallowed_cell_holds_a_new_fact, each_net_change_makes_the_copy,
+};
 pub use next_reply::{each_entry_follows_lawfully, each_step_has_one_reply};
 pub use obeying::{
     least_disallowed_is_the_least, obeys_where_each_cell_is_allowed,
