@@ -21,3 +21,6 @@ pub mod NetChanges
 pub mod FirstFound
 pub mod NewFacts
 pub mod NetChangeInstances
+pub mod SameReplies
+pub mod ReadingOrders
+pub mod ReadingOrderInstances

@@ -7,11 +7,13 @@
 //! - `obeying`: a report obeys its allowed duplicates exactly where it has no disallowed cell.
 //! - `versions`: each version of a lawful history obeys, and the versions are a chain.
 //! - `net_change`: the net change of an untouched amendment makes its copy, and its new facts alone decide whether it is refused.
+//! - `reading_order`: a history may be read from its first entry on, and the entry at which it departs is determined.
 #![tactic(auto)]
 
 mod net_change;
 mod next_reply;
 mod obeying;
+mod reading_order;
 mod untouched;
 mod versions;
 
@@ -23,6 +25,10 @@ pub use next_reply::{each_entry_follows_lawfully, each_step_has_one_reply};
 pub use obeying::{
     least_disallowed_is_the_least, obeys_where_each_cell_is_allowed,
     obeys_where_no_cell_is_disallowed, repository_obeys_where_not_refused,
+};
+pub use reading_order::{
+    each_departure_is_determined, each_next_entry_is_decided, each_repository_is_read_in_order,
+    lawful_in_order_is_lawful,
 };
 pub use untouched::{
     each_session_replies_as_at_its_opening, each_untouched_session_replies_as_now,
