@@ -31,6 +31,7 @@ with_facts (e ∷ es) r = with_fact (with_facts es r) e.0 e.1
 abbrev pub with_facts_at : Repository → Text × TextMap (Option Fact) → Repository
 with_facts_at c e = option_map_or (λ r. record c { reports = insert c.reports e.0 (with_facts e.1.entries r) }) (report_at c e.0) c
 
+-- the repository with the facts of each of these reports
 abbrev pub with_reports : List (Text × TextMap (Option Fact)) → Repository → Repository
 with_reports [] c = c
 with_reports (e ∷ es) c = with_facts_at (with_reports es c) e
