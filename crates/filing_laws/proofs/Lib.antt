@@ -24,3 +24,11 @@ pub mod InTurn
 pub mod Serially
 pub mod WholeRunInstances
 pub mod Instances
+pub mod LaidOver
+pub mod NetChanges
+pub mod FirstFound
+pub mod NewFacts
+pub mod NetChangeInstances
+pub mod SameReplies
+pub mod ReadingOrders
+pub mod ReadingOrderInstances
