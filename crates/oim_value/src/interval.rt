@@ -61,11 +61,6 @@ fn half_width(accuracy: Accuracy) -> i128
 }
 
 impl Interval {
-    #[cfg(test)]
-    pub(crate) fn ends(&self) -> (i128, i128) {
-        (self.low, self.high)
-    }
-
     /// Whether some number is in both.
     pub fn meets(&self, other: &Interval) -> bool
         ensures shared { IsTrue result ↔ ShareANumber self.now other.now }
@@ -103,5 +98,10 @@ impl Interval {
             low: self.low.max(other.low),
             high: self.high.min(other.high),
         })
+    }
+
+    #[cfg(test)]
+    pub(crate) fn ends(&self) -> (i128, i128) {
+        (self.low, self.high)
     }
 }
