@@ -33,7 +33,7 @@ digit_is_small d e = grind (arith, nat_tests)
 one_place_more : (d a p : ℕ) → d ≤ 9 → p < a → d * a + p < a * 10
 one_place_more d a p small below = let m : d * a ≤ 9 * a = mul-le-mul_right a small in omega arith
 
-place_sum_below : (digits : Text) → list_all is_ascii_digit digits ≡ true → place_sum digits < 10 ^ length digits
+pub place_sum_below : (digits : Text) → list_all is_ascii_digit digits ≡ true → place_sum digits < 10 ^ length digits
 place_sum_below [] e = omega arith
 place_sum_below (d ∷ digits) e =
     let t = both (is_ascii_digit d) (list_all is_ascii_digit digits) e in
@@ -49,12 +49,12 @@ kept_digits digits e =
     let parts = end_parts is_zero digits in
     (both (list_all is_ascii_digit (without_end is_zero digits)) (list_all is_ascii_digit parts.0) (sym (list_all-append is_ascii_digit (without_end is_zero digits) parts.0) ∙ ap (λ l. list_all is_ascii_digit l) (sym parts.1) ∙ e)).0
 
-all_digits : (whole fraction : Text) → list_all is_ascii_digit (whole ++ fraction) ≡ true → list_all is_ascii_digit (without_front is_zero whole ++ without_end is_zero fraction) ≡ true
+pub all_digits : (whole fraction : Text) → list_all is_ascii_digit (whole ++ fraction) ≡ true → list_all is_ascii_digit (without_front is_zero whole ++ without_end is_zero fraction) ≡ true
 all_digits whole fraction e =
     let t = both (list_all is_ascii_digit whole) (list_all is_ascii_digit fraction) (sym (list_all-append is_ascii_digit whole fraction) ∙ e) in
     list_all-append is_ascii_digit (without_front is_zero whole) (without_end is_zero fraction) ∙ ap (λ b. b && list_all is_ascii_digit (without_end is_zero fraction)) (cut_digits whole t.0) ∙ kept_digits fraction t.1
 
-scaled_below : (whole fraction : Text) → list_all is_ascii_digit (whole ++ fraction) ≡ true → length whole ≤ most_whole_digits → length fraction ≤ most_fraction_digits → scaled whole fraction < 10 ^ (most_whole_digits + most_fraction_digits)
+pub scaled_below : (whole fraction : Text) → list_all is_ascii_digit (whole ++ fraction) ≡ true → length whole ≤ most_whole_digits → length fraction ≤ most_fraction_digits → scaled whole fraction < 10 ^ (most_whole_digits + most_fraction_digits)
 scaled_below whole fraction digits few_whole few_fraction =
     let left = most_fraction_digits - length fraction in
     let positive : 0 < 10 ^ left = pow-le-pow_right {n = 10} (omega arith) {i = 0} {j = left} (omega arith) in

@@ -121,7 +121,7 @@ is_the_zero c e = grind (arith, nat_tests)
 regrouped : (x a b p q : ℕ) → x * (a * b) + (p * b + q) ≡ (x * a + p) * b + q
 regrouped x a b p q = omega arith
 
-place_sum_append : (a b : Text) → place_sum (a ++ b) ≡ place_sum a * 10 ^ length b + place_sum b
+pub place_sum_append : (a b : Text) → place_sum (a ++ b) ≡ place_sum a * 10 ^ length b + place_sum b
 place_sum_append [] b = omega arith
 place_sum_append (d ∷ a) b =
     let power : 10 ^ length (a ++ b) ≡ 10 ^ length a * 10 ^ length b = ap (λ n. 10 ^ n) (length-append a b) ∙ pow-add 10 (length a) (length b) in

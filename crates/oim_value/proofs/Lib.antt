@@ -1,0 +1,5 @@
+pub mod Running
+pub mod Sizes
+pub mod Readings
+pub mod Widths
+pub mod CommonParts

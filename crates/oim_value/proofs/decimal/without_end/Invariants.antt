@@ -1,0 +1,10 @@
+use Rattle.std.proofs.Common.{◌≡◌, length}
+use Rattle.filing_model.specs.Numerals.{without_end}
+use Rattle.oim_value.specs.Padding.{is_padding}
+use Rattle.oim_value.proofs.decimal.without_end.Given as goal
+
+abbrev pub invariant-loop-left : goal.invariant-loop-left
+invariant-loop-left l = without_end (is_padding l.padding) l.left ≡ without_end (is_padding l.padding) l.text
+
+abbrev pub decreases-loop-left : goal.decreases-loop-left
+decreases-loop-left l = length l.left

@@ -1,0 +1,4 @@
+pub mod Numbers
+pub mod Accuracies
+pub mod Padding
+pub mod Reading
