@@ -4,3 +4,7 @@ pub mod ComparedDims
 pub mod SearchedEntries
 pub mod NumericRows
 pub mod NamedRows
+pub mod CommonNumbers
+pub mod ValuePairs
+pub mod EveryPair
+pub mod Tallying
