@@ -1,5 +1,5 @@
 -- Intervals that meet in pairs have a number in common.
-use Rattle.std.proofs.Common.{◌≡◌, Bool, true, ◌&&◌, ℤ, ◌≤ℤ◌, int_le, List, [], ◌∷◌, arith}
+use Rattle.std.proofs.Common.{◌≡◌, Bool, true, ℤ, ◌≤ℤ◌, int_le, List, [], ◌∷◌, arith}
 use Rattle.std.specs.Int.{int_max}
 use Rattle.std.specs.Int.Signed.{le_z_yes}
 use Rattle.std.specs.Bool.{⊤, passes}
@@ -73,9 +73,11 @@ module _ {A : Type 0} (interval : A → Interval) where
     last_begin a [] = ((interval a).low, (not_above_itself (interval a).low, tt), λ y begun. begun.0)
     last_begin a (b ∷ list) =
         let rest = last_begin b list in
-        let x = int_max (interval a).low rest.0 in
-        (x, (greater_left (interval a).low rest.0, later rest.0 x (b ∷ list) (greater_right (interval a).low rest.0) rest.1),
-        λ y begun. greater_below (interval a).low rest.0 y begun.0 (rest.2 y begun.1))
+        let x = int_max (interval a).low rest.0 in (
+          x,
+          (greater_left (interval a).low rest.0, later rest.0 x (b ∷ list) (greater_right (interval a).low rest.0) rest.1),
+          λ y begun. greater_below (interval a).low rest.0 y begun.0 (rest.2 y begun.1),
+        )
 
     in_each : (x : ℤ) (list begun : List A) → EachBegins x list → ((y : ℤ) → EachBegins y begun → x ≤ℤ y) → EachEndsAfter list begun → IsInEach x list
     in_each x [] begun begins least ends = tt

@@ -1,21 +1,18 @@
 -- The class of some facts by a tally of them: what all pairs are follows from the first fact and one interval.
-use Rattle.std.proofs.Common.{◌≡◌, ◌∙◌, ap, sym, refl, ◌↔◌, IsTrue, Bool, true, false, cond, not, ◌&&◌, ◌++◌, ℤ, ◌≤ℤ◌, List, [], ◌∷◌, Option, None, Some, is_some, IfSome, arith}
+use Rattle.std.proofs.Common.{◌≡◌, ◌∙◌, ap, sym, refl, ◌↔◌, Bool, true, false, cond, not, ◌&&◌, ◌++◌, ℤ, List, [], ◌∷◌, Option, None, Some, is_some, IfSome, arith}
 use Rattle.std.specs.List.{list_all}
-use Rattle.std.specs.Bool.{⊤}
 use Rattle.std.proofs.lemmas.Int.{ints}
 use Rattle.std.proofs.lemmas.List.Folds.{list_all-append}
 use Rattle.std.specs.Ordering.{int_eq}
 use Rattle.std.specs.Option.{option_eq}
 use Rattle.filing_model.specs.Text.{text_eq}
 use Rattle.filing_model.specs.Facts.{Fact, FactValue, Nil, Written, Number}
-use Rattle.filing_model.specs.Intervals.{Interval, IsWithin, interval_of, meets}
-use Rattle.filing_model.specs.Dimensions.{dims_eq}
-use Rattle.filing_model.specs.Duplicates.{every_pair, pair_of, value_pair, is_apart, is_complete, is_consistent, has_dims, class_of, class_by}
-use Rattle.filing_model.specs.declared.duplicates.Class.{Class}
+use Rattle.filing_model.specs.Intervals.{Interval, interval_of, meets}
+use Rattle.filing_model.specs.Duplicates.{every_pair, pair_of, value_pair, is_apart, is_complete, is_consistent, has_dims, class_of}
 use Rattle.filing_model.specs.declared.duplicates.Class.TheVariants as class
 use Rattle.filing_model.specs.declared.duplicates.Pair.{Pair}
 use Rattle.filing_model.specs.declared.duplicates.Pair.TheVariants as pair
-use Rattle.filing_model.proofs.Tests.{both, all_hold, is_false}
+use Rattle.filing_model.proofs.Tests.{both, all_hold}
 use Rattle.filing_model.proofs.DimensionSets.{dims_decides}
 use Rattle.oim_fact.specs.declared.tally.Tally.{Tally}
 use Rattle.oim_fact.specs.Tallies.{Describes, IsCommonPart, IsFilled, IsIn, IsInAll, interval_in, has_value_of, is_empty}
@@ -76,11 +73,11 @@ in_common first others consistent some =
     let parts = both (list_all (are_consistent first) others) (every_pair are_consistent others) consistent in
     elim (interval_in first.value) as (λ o. interval_in first.value ≡ o → (x : ℤ) × IsInAll (first ∷ others) x) [
       | None ↦ λ none.
-        let complete : list_all (has_value_of first) others ≡ true = all_implied (are_consistent first) (has_value_of first) (λ f e. sym (complete_without_interval first.value f.value none) ∙ e) others parts.0 in
-        absurd (cc)
+          let complete : list_all (has_value_of first) others ≡ true = all_implied (are_consistent first) (has_value_of first) (λ f e. sym (complete_without_interval first.value f.value none) ∙ e) others parts.0 in
+          absurd (cc)
       | Some i ↦ λ number.
-        let (x, (here, rest)) = common_number first others consistent in
-        (x, (in_its_interval first.value i x number here, in_all first others i x number parts.0 rest))
+          let (x, (here, rest)) = common_number first others consistent in
+          (x, (in_its_interval first.value i x number here, in_all first others i x number parts.0 rest))
     ] refl
 
 -- ---- what a tally tells
@@ -115,7 +112,7 @@ mixed t first [] told differ = absurd (let e = told.together in cc)
 mixed t first (second ∷ others) told differ =
     let some : list_all (has_dims first.dims) (second ∷ others) ≡ false = sym told.together ∙ differ in
     let fails : (test : Pair → Bool) → test pair.Apart ≡ false → every_pair (λ f g. test (pair_of f g)) (first ∷ second ∷ others) ≡ false =
-        λ test apart. ap (λ b. b && every_pair (λ f g. test (pair_of f g)) (second ∷ others)) (fails_apart test apart first (second ∷ others) some) in
+    λ test apart. ap (λ b. b && every_pair (λ f g. test (pair_of f g)) (second ∷ others)) (fails_apart test apart first (second ∷ others) some) in
     class_of_more_if first second others false false false (fails is_complete refl) (fails is_consistent refl) (fails (λ p. not (is_apart p)) refl)
 
 if_not_apart : (a b : Bool) → not (is_apart (cond a pair.Complete (cond b pair.Consistent pair.Inconsistent))) ≡ true
@@ -184,10 +181,10 @@ one_more old new first fact others several together complete part told = record 
   complete = complete ∙ ap (λ b. b && has_value_of first fact) told.complete ∙ sym (at_the_end (has_value_of first) others fact);
   filled = part.filled;
   shared = λ x.
-  let last = in_all_and_last (first ∷ others) fact x in (
-    λ here. let both = (part.numbers x).0 here in last.1 ((told.shared x).0 both.0, both.1),
-    λ numbers. let both = last.0 numbers in (part.numbers x).1 ((told.shared x).1 both.0, both.1),
-  );
+      let last = in_all_and_last (first ∷ others) fact x in (
+        λ here. let both = (part.numbers x).0 here in last.1 ((told.shared x).0 both.0, both.1),
+        λ numbers. let both = last.0 numbers in (part.numbers x).1 ((told.shared x).1 both.0, both.1),
+      );
 }
 
 -- a flag that was true takes the test's answer, and one that was false stays

@@ -1,15 +1,14 @@
 -- Pairs of values: complete ones are alike, and consistent ones have intervals that meet.
-use Rattle.std.proofs.Common.{arith, ◌≡◌, ◌≢◌, ◌↔◌, IsTrue, Bool, true, false, cond, not, ◌&&◌, ◌||◌, ℤ, pos, ◌≤ℤ◌, List, [], ◌∷◌, map, Option, None, Some, refl, ap, sym, ◌∙◌}
+use Rattle.std.proofs.Common.{arith, ◌≡◌, Bool, true, false, cond, ◌&&◌, ◌||◌, ℤ, pos, ◌≤ℤ◌, [], Option, None, Some, refl, ap, sym, ◌∙◌}
 use Rattle.std.specs.Bool.{Decides}
 use Rattle.std.proofs.lemmas.Int.{ints}
 use Rattle.std.specs.Ordering.{int_eq}
 use Rattle.std.specs.Option.{option_eq}
 use Rattle.std.proofs.lemmas.Bool.Decides.{Decides-int_eq}
-use Rattle.filing_model.specs.Text.{Text, text_eq}
-use Rattle.filing_model.specs.Facts.{Fact, FactValue, Nil, Written, Number}
-use Rattle.filing_model.specs.Intervals.{Interval, IsWithin, ShareANumber, interval_of, meets}
-use Rattle.filing_model.specs.Duplicates.{value_pair, number_pair, is_complete, is_consistent}
-use Rattle.filing_model.specs.declared.duplicates.Pair.{Pair}
+use Rattle.filing_model.specs.Text.{text_eq}
+use Rattle.filing_model.specs.Facts.{FactValue, Nil, Written, Number}
+use Rattle.filing_model.specs.Intervals.{Interval, IsWithin, interval_of, meets}
+use Rattle.filing_model.specs.Duplicates.{value_pair, is_complete, is_consistent}
 use Rattle.filing_model.specs.declared.duplicates.Pair.TheVariants as pair
 use Rattle.filing_model.proofs.Tests.{both, all_hold}
 use Rattle.filing_model.proofs.Texts.{text_decides}

@@ -16,7 +16,7 @@ mod tally;
 pub use classes::{class_of, class_over};
 pub use dims::DimSet;
 pub use fact::{Fact, FactValue, RawFact};
-pub use filing_model::{Allowed, Class, DimFault, FactFault, NamesFault, Pair};
+pub use filing_model::{Allowed, Class, DimFault, FactFault, NamesFault, Pair, allows};
 pub use fitting::fit;
 pub use names::Names;
 pub use pairs::compare;

@@ -30,7 +30,11 @@ pub(crate) fn compare_values(one: &FactValue, other: &FactValue) -> Pair
         (FactValue::Nil, FactValue::Nil) => Pair::Complete,
         (FactValue::Text(text), FactValue::Text(other)) => compare_texts(text, other),
         (
-            FactValue::Number { value, accuracy, .. },
+            FactValue::Number {
+                value,
+                accuracy,
+                ..
+            },
             FactValue::Number {
                 value: other_value,
                 accuracy: other_accuracy,
@@ -52,12 +56,20 @@ fn compare_texts(text: &str, other: &str) -> Pair
 }
 
 /// Equal numbers with the same accuracy are complete, others consistent where some number is in the intervals of both.
-fn compare_numbers(value: Decimal, accuracy: Accuracy, other: Decimal, other_accuracy: Accuracy) -> Pair
+fn compare_numbers(
+    value: Decimal,
+    accuracy: Accuracy,
+    other: Decimal,
+    other_accuracy: Accuracy,
+) -> Pair
     ensures { result ≡ number_pair value (decimals_of accuracy) other (decimals_of other_accuracy) }
 {
     if value == other && accuracy == other_accuracy {
         Pair::Complete
-    } else if value.interval(accuracy).meets(&other.interval(other_accuracy)) {
+    } else if value
+        .interval(accuracy)
+        .meets(&other.interval(other_accuracy))
+    {
         Pair::Consistent
     } else {
         Pair::Inconsistent

@@ -75,7 +75,11 @@ fn interval_in(value: &FactValue) -> Option<Interval>
     ensures filled { IfSome result IsFilled }
 {
     match value {
-        FactValue::Number { value, accuracy, .. } => Some(value.interval(*accuracy)),
+        FactValue::Number {
+            value,
+            accuracy,
+            ..
+        } => Some(value.interval(*accuracy)),
         _ => None,
     }
 }
@@ -85,5 +89,9 @@ fn common_part(one: Option<Interval>, other: Option<Interval>) -> Option<Interva
     ensures { IsCommonPart one other result }
 {
     let mut part = one?;
-    if part.narrow(&other?) { Some(part) } else { None }
+    if part.narrow(&other?) {
+        Some(part)
+    } else {
+        None
+    }
 }

@@ -1,5 +1,5 @@
 -- What is in the fields decides the class of all pairs.
-use Rattle.std.proofs.Common.{sym, ◌∙◌}
+use Rattle.std.proofs.Common.{sym}
 use Rattle.oim_fact.proofs.Tallying.{mixed, complete, shared_or_not}
 use Rattle.oim_fact.proofs.tally.Tally.class.Goals as goal
 
