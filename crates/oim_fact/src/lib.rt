@@ -9,6 +9,8 @@ mod fact;
 mod fitting;
 mod names;
 mod table;
+#[cfg(test)]
+mod tests;
 
 pub use dims::DimSet;
 pub use fact::{Fact, FactValue, RawFact};
