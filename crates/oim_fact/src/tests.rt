@@ -73,25 +73,46 @@ fn orders_dimension_sets(rt: HostRuntime) -> Result<(), Fail> {
     Ok(())
 }
 
+const LISTED: &[(&str, Option<&str>)] = &[
+    ("concept", Some("ex:A")),
+    ("unit", Some("u")),
+    ("ex:d", None),
+];
+
+const MOVED: &[(&str, Option<&str>)] = &[
+    ("ex:d", None),
+    ("unit", Some("u")),
+    ("concept", Some("ex:A")),
+];
+
 #[test]
 fn takes_dimensions_in_any_order(rt: HostRuntime) -> Result<(), Fail> {
-    let alloc = rt.alloc();
-    let here = dims(alloc, &[A, ("unit", Some("u")), ("ex:d", None)])?;
-    let there = dims(alloc, &[("ex:d", None), ("unit", Some("u")), A])?;
+    let here = dims(rt.alloc(), LISTED)?;
+    let there = dims(rt.alloc(), MOVED)?;
     assert!(rt; here == there);
     assert_eq!(rt; hash_of(&here), hash_of(&there));
-    assert!(rt; here.clone()? == there);
-    assert_eq!(rt; here.concept(), "ex:A");
-    assert_eq!(rt; here.unit(), Some("u"));
-    assert_eq!(rt; here.period(), None);
-    let dated = dims(alloc, &[("period", Some("2024")), A])?;
-    assert_eq!(rt; dated.period(), Some("2024"));
-    assert!(rt; hash_of(&dated) != hash_of(&here));
+    Ok(())
+}
+
+#[test]
+fn lists_dimensions_by_name(rt: HostRuntime) -> Result<(), Fail> {
+    let copy = dims(rt.alloc(), LISTED)?.clone()?;
     let names = ["concept", "ex:d", "unit"];
-    assert_eq!(rt; here.pairs().len(), names.len());
-    for ((name, _), expected) in here.pairs().iter().zip(names) {
+    assert_eq!(rt; copy.pairs().len(), names.len());
+    for ((name, _), expected) in copy.pairs().iter().zip(names) {
         assert_eq!(rt; name.as_str(), expected);
     }
+    Ok(())
+}
+
+#[test]
+fn looks_up_core_dimensions(rt: HostRuntime) -> Result<(), Fail> {
+    let measured = dims(rt.alloc(), LISTED)?;
+    assert_eq!(rt; measured.concept(), "ex:A");
+    assert_eq!(rt; measured.unit(), Some("u"));
+    assert_eq!(rt; measured.period(), None);
+    let dated = dims(rt.alloc(), &[("period", Some("2024")), A])?;
+    assert_eq!(rt; dated.period(), Some("2024"));
     Ok(())
 }
 
@@ -155,12 +176,23 @@ fn named(alloc: Global, prefixes: Rows) -> Result<Result<Names, NamesFault>, Fai
 }
 
 #[test]
-fn has_the_numeric_concepts_it_is_made_of(rt: HostRuntime) -> Result<(), Fail> {
+fn has_one_pair_and_no_other(rt: HostRuntime) -> Result<(), Fail> {
     let one = table(rt.alloc(), TABLE)?;
-    assert!(rt; one.has("http://e.org/t", "Assets"));
-    assert!(rt; !one.has("http://e.org/t", "Asset"));
-    assert!(rt; !one.has("http://e.org/", "Assets"));
-    assert!(rt; !one.has("Assets", "http://e.org/t"));
+    let cases = [
+        ("http://e.org/t", "Assets", true),
+        ("http://e.org/t", "Asset", false),
+        ("http://e.org/", "Assets", false),
+        ("Assets", "http://e.org/t", false),
+        ("", "", false),
+    ];
+    for (uri, local, is_there) in cases {
+        assert_eq!(rt; one.has(uri, local), is_there, "{uri} {local}");
+    }
+    Ok(())
+}
+
+#[test]
+fn has_each_pair_once(rt: HostRuntime) -> Result<(), Fail> {
     let listed: Rows = &[("v", "b"), ("u", "c"), ("v", "b"), ("u", "a"), ("v", "a")];
     let more = table(rt.alloc(), listed)?;
     for &(uri, local) in listed {
@@ -169,7 +201,6 @@ fn has_the_numeric_concepts_it_is_made_of(rt: HostRuntime) -> Result<(), Fail> {
     for (uri, local) in [("u", "b"), ("v", "c"), ("w", "a"), ("", ""), ("t", "a")] {
         assert!(rt; !more.has(uri, local), "{uri} {local}");
     }
-    assert!(rt; !table(rt.alloc(), &[])?.has("u", "a"));
     Ok(())
 }
 
@@ -355,6 +386,18 @@ fn refuses_facts_that_do_not_fit(rt: HostRuntime) -> Result<(), Fail> {
     Ok(())
 }
 
+// Whether the value is this number, with its text and its accuracy.
+fn has_number(fact: &Fact, text: &str, value: Decimal, accuracy: Accuracy) -> bool {
+    match &fact.value {
+        FactValue::Number {
+            text: read,
+            value: number,
+            accuracy: place,
+        } => read.as_str() == text && *number == value && *place == accuracy,
+        _ => false,
+    }
+}
+
 #[test]
 fn fits_numbers(rt: HostRuntime) -> Result<(), Fail> {
     let cases = [
@@ -369,44 +412,41 @@ fn fits_numbers(rt: HostRuntime) -> Result<(), Fail> {
             value: Some(read),
             decimals,
         };
-        let FactValue::Number {
-            text,
-            value,
-            accuracy,
-        } = fit(&names, raw(rt.alloc(), written)?)?.value
-        else {
-            return Err(Fail::from("no number"));
-        };
-        assert_eq!(rt; text.as_str(), read);
-        assert_eq!(rt; value, Decimal::read(number)?);
-        assert_eq!(rt; accuracy, Accuracy::of(decimals)?);
+        let fact = fit(&names, raw(rt.alloc(), written)?)?;
+        let value = Decimal::read(number)?;
+        let accuracy = Accuracy::of(decimals)?;
+        assert!(rt; has_number(&fact, read, value, accuracy), "at {read}");
     }
     Ok(())
 }
 
+const ACME: Written = Written {
+    dims: &[("concept", Some("ex:Name"))],
+    value: Some("Acme"),
+    decimals: None,
+};
+
 #[test]
-fn fits_texts_and_null(rt: HostRuntime) -> Result<(), Fail> {
-    let alloc = rt.alloc();
-    let names = named(alloc, PREFIXES)??;
-    let acme = Written {
-        dims: NAME,
-        value: Some("Acme"),
-        decimals: None,
-    };
+fn keeps_texts_and_links(rt: HostRuntime) -> Result<(), Fail> {
     let linked = RawFact {
-        links: Some(text(alloc, "{}")?),
-        ..raw(alloc, acme)?
+        links: Some(text(rt.alloc(), "{}")?),
+        ..raw(rt.alloc(), ACME)?
     };
-    let fact = fit(&names, linked.clone()?)?;
+    let fact = fit(&named(rt.alloc(), PREFIXES)??, linked.clone()?)?;
     assert!(rt; matches!(&fact.value, FactValue::Text(text) if text.as_str() == "Acme"));
     assert_eq!(rt; fact.links.as_deref(), Some("{}"));
     assert!(rt; fact.dims == linked.dims);
+    Ok(())
+}
+
+#[test]
+fn drops_decimals_of_null(rt: HostRuntime) -> Result<(), Fail> {
     let null = Written {
+        dims: ASSETS,
         value: None,
         decimals: Some(99),
-        dims: ASSETS,
     };
-    let fact = fit(&names, raw(alloc, null)?.clone()?)?;
+    let fact = fit(&named(rt.alloc(), PREFIXES)??, raw(rt.alloc(), null)?)?;
     assert!(rt; matches!(fact.value, FactValue::Nil));
     Ok(())
 }
