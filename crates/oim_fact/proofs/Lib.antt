@@ -6,5 +6,4 @@ pub mod NumericRows
 pub mod NamedRows
 pub mod CommonNumbers
 pub mod ValuePairs
-pub mod EveryPair
 pub mod Tallying

@@ -3,11 +3,8 @@ use Rattle.std.proofs.Common.{◌≡◌, ◌∙◌, ap, sym, refl, ◌↔◌, Bo
 use Rattle.std.specs.List.{list_all}
 use Rattle.std.proofs.lemmas.Int.{ints}
 use Rattle.std.proofs.lemmas.List.Folds.{list_all-append}
-use Rattle.std.specs.Ordering.{int_eq}
-use Rattle.std.specs.Option.{option_eq}
-use Rattle.filing_model.specs.Text.{text_eq}
-use Rattle.filing_model.specs.Facts.{Fact, FactValue, Nil, Written, Number}
-use Rattle.filing_model.specs.Intervals.{Interval, interval_of, meets}
+use Rattle.filing_model.specs.Facts.{Fact}
+use Rattle.filing_model.specs.Intervals.{Interval, meets}
 use Rattle.filing_model.specs.Duplicates.{every_pair, pair_of, value_pair, is_apart, is_complete, is_consistent, has_dims, class_of}
 use Rattle.filing_model.specs.declared.duplicates.Class.TheVariants as class
 use Rattle.filing_model.specs.declared.duplicates.Pair.{Pair}
@@ -17,16 +14,17 @@ use Rattle.filing_model.proofs.DimensionSets.{dims_decides}
 use Rattle.oim_fact.specs.declared.tally.Tally.{Tally}
 use Rattle.oim_fact.specs.Tallies.{Describes, IsCommonPart, IsFilled, IsIn, IsInAll, interval_in, has_value_of, is_empty}
 use Rattle.oim_fact.proofs.CommonNumbers.{IsInEach, number_in_common}
-use Rattle.oim_fact.proofs.EveryPair.{all_implied, pairs_implied, pairs_same, every_pair_with_the_first}
+use Rattle.filing_model.proofs.MixedFacts.{have_same_dims, mixed_where_dims_differ, together as together_in_cell}
+use Rattle.filing_model.proofs.EveryPair.{all_implied, pairs_implied, pairs_same, every_pair_with_the_first}
 use Rattle.oim_fact.proofs.ValuePairs.{complete_with_one, interval_for, filled_for, consistent_meet, consistent_at, in_its_interval, number_with_number, complete_without_interval}
 
 -- ---- pairs in one cell
 
-abbrev have_same_dims : Fact → Fact → Bool
-have_same_dims f g = has_dims f.dims g
-
 same_dims_through : (f g h : Fact) → have_same_dims f g ≡ true → have_same_dims f h ≡ true → have_same_dims g h ≡ true
 same_dims_through f g h p q = (dims_decides g.dims h.dims).1 (sym ((dims_decides f.dims g.dims).0 p) ∙ (dims_decides f.dims h.dims).0 q)
+
+all_of_one_cell : (first : Fact) (others : List Fact) → every_pair have_same_dims (first ∷ others) ≡ list_all (has_dims first.dims) others
+all_of_one_cell first others = every_pair_with_the_first have_same_dims same_dims_through first others
 
 abbrev are_complete : Fact → Fact → Bool
 are_complete f g = is_complete (value_pair f.value g.value)
@@ -39,7 +37,7 @@ of_values : (test : Pair → Bool) (first : Fact) (others : List Fact) → list_
 of_values test first others together =
     pairs_same have_same_dims (λ f g. test (pair_of f g)) (λ f g. test (value_pair f.value g.value))
     (λ f g same. ap (λ b. test (cond b (value_pair f.value g.value) pair.Apart)) same)
-    (first ∷ others) (every_pair_with_the_first have_same_dims same_dims_through first others ∙ together)
+    (first ∷ others) (all_of_one_cell first others ∙ together)
 
 every_complete : (first : Fact) (others : List Fact) → list_all (has_dims first.dims) others ≡ true → every_pair (λ f g. is_complete (pair_of f g)) (first ∷ others) ≡ list_all (has_value_of first) others
 every_complete first others together =
@@ -94,45 +92,8 @@ consistent_where_shared first others (Some i) filled same some =
 class_of_more_if : (first second : Fact) (others : List Fact) (complete consistent together : Bool) → every_pair (λ f g. is_complete (pair_of f g)) (first ∷ second ∷ others) ≡ complete → every_pair (λ f g. is_consistent (pair_of f g)) (first ∷ second ∷ others) ≡ consistent → every_pair (λ f g. not (is_apart (pair_of f g))) (first ∷ second ∷ others) ≡ together → class_of (first ∷ second ∷ others) ≡ cond complete class.Complete (cond consistent class.Consistent (cond together class.Inconsistent class.Mixed))
 class_of_more_if first second others complete consistent together p q r = λ i. cond (p i) class.Complete (cond (q i) class.Consistent (cond (r i) class.Inconsistent class.Mixed))
 
-ends_false : (a b : Bool) → b ≡ false → (a && b) ≡ false
-ends_false true b e = e
-ends_false false b e = refl
-
--- a test that no pair apart passes fails for some pair where the dimensions of some fact are not the first one's
-fails_apart : (test : Pair → Bool) → test pair.Apart ≡ false → (first : Fact) (others : List Fact) → list_all (has_dims first.dims) others ≡ false → list_all (λ g. test (pair_of first g)) others ≡ false
-fails_apart test apart first [] differ = differ
-fails_apart test apart first (g ∷ others) differ =
-    elim (has_dims first.dims g) as (λ b. (b && list_all (has_dims first.dims) others) ≡ false → (test (cond b (value_pair first.value g.value) pair.Apart) && list_all (λ g. test (pair_of first g)) others) ≡ false) [
-      | true ↦ λ later. ends_false (test (value_pair first.value g.value)) (list_all (λ g. test (pair_of first g)) others) (fails_apart test apart first others later)
-      | false ↦ λ e. ap (λ b. b && list_all (λ g. test (pair_of first g)) others) apart
-    ] differ
-
 pub mixed : (t : Tally) (first : Fact) (others : List Fact) → Describes t first others → t.together ≡ false → class_of (first ∷ others) ≡ class.Mixed
-mixed t first [] told differ = absurd (let e = told.together in cc)
-mixed t first (second ∷ others) told differ =
-    let some : list_all (has_dims first.dims) (second ∷ others) ≡ false = sym told.together ∙ differ in
-    let fails : (test : Pair → Bool) → test pair.Apart ≡ false → every_pair (λ f g. test (pair_of f g)) (first ∷ second ∷ others) ≡ false =
-    λ test apart. ap (λ b. b && every_pair (λ f g. test (pair_of f g)) (second ∷ others)) (fails_apart test apart first (second ∷ others) some) in
-    class_of_more_if first second others false false false (fails is_complete refl) (fails is_consistent refl) (fails (λ p. not (is_apart p)) refl)
-
-if_not_apart : (a b : Bool) → not (is_apart (cond a pair.Complete (cond b pair.Consistent pair.Inconsistent))) ≡ true
-if_not_apart true b = refl
-if_not_apart false true = refl
-if_not_apart false false = refl
-
-not_apart : (v w : FactValue) → not (is_apart (value_pair v w)) ≡ true
-not_apart Nil Nil = refl
-not_apart (Written s) (Written t) = if_not_apart (text_eq s t) false
-not_apart (Number s n d) (Number t m e) = if_not_apart (int_eq n m && option_eq int_eq d e) (meets (interval_of n d) (interval_of m e))
-not_apart v w = refl
-
-all_not_apart : (f : Fact) (facts : List Fact) → list_all (λ (g : Fact). not (is_apart (value_pair f.value g.value))) facts ≡ true
-all_not_apart f [] = refl
-all_not_apart f (g ∷ facts) = all_hold (not (is_apart (value_pair f.value g.value))) (list_all (λ (g : Fact). not (is_apart (value_pair f.value g.value))) facts) (not_apart f.value g.value) (all_not_apart f facts)
-
-none_apart : (facts : List Fact) → every_pair (λ (f g : Fact). not (is_apart (value_pair f.value g.value))) facts ≡ true
-none_apart [] = refl
-none_apart (f ∷ facts) = all_hold (list_all (λ (g : Fact). not (is_apart (value_pair f.value g.value))) facts) (every_pair (λ (f g : Fact). not (is_apart (value_pair f.value g.value))) facts) (all_not_apart f facts) (none_apart facts)
+mixed t first others told differ = mixed_where_dims_differ (first ∷ others) (all_of_one_cell first others ∙ sym told.together ∙ differ)
 
 -- the class of several facts in one cell
 in_one_cell : (t : Tally) (first : Fact) (others : List Fact) (complete consistent : Bool) → Describes t first others → t.alone ≡ false → t.together ≡ true → list_all (has_value_of first) others ≡ complete → every_pair are_consistent (first ∷ others) ≡ consistent → class_of (first ∷ others) ≡ cond complete class.Complete (cond consistent class.Consistent class.Inconsistent)
@@ -142,7 +103,7 @@ in_one_cell t first (second ∷ others) complete consistent told several togethe
     class_of_more_if first second others complete consistent true
     (every_complete first (second ∷ others) same ∙ p)
     (of_values is_consistent first (second ∷ others) same ∙ q)
-    (of_values (λ p. not (is_apart p)) first (second ∷ others) same ∙ none_apart (first ∷ second ∷ others))
+    (together_in_cell (first ∷ second ∷ others) (all_of_one_cell first (second ∷ others) ∙ same))
 
 pub complete : (t : Tally) (first : Fact) (others : List Fact) → Describes t first others → t.alone ≡ false → t.together ≡ true → t.complete ≡ true → class_of (first ∷ others) ≡ class.Complete
 complete t first others told several together all = in_one_cell t first others true (every_pair are_consistent (first ∷ others)) told several together (sym told.complete ∙ all) refl

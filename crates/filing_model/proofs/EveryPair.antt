@@ -1,6 +1,9 @@
 -- Tests of every pair of a list.
-use Rattle.std.proofs.Common.{◌≡◌, ap, refl, Bool, true, false, ◌&&◌, List, [], ◌∷◌}
-use Rattle.std.specs.List.{list_all}
+use Rattle.std.proofs.Common.{◌≡◌, ap, refl, Bool, true, false, cond, ◌&&◌, suc, List, [], ◌∷◌, filter, arith}
+use Rattle.std.specs.Bool.{Decides}
+use Rattle.std.specs.List.{list_all, AllPairs}
+use Rattle.std.proofs.lemmas.Bool.Decides.{Decides-by_and}
+use Rattle.std.proofs.lemmas.List.Kept.{AllPairs-cons}
 use Rattle.filing_model.specs.Duplicates.{every_pair}
 use Rattle.filing_model.proofs.Tests.{both, all_hold}
 
@@ -28,6 +31,31 @@ pairs_same f g h same (x ∷ xs) holds =
     let parts = both (list_all (f x) xs) (every_pair f xs) holds in
     λ i. all_same (f x) (g x) (h x) (same x) xs parts.0 i && pairs_same f g h same xs parts.1 i
 
+pub all_filter : {A : Type 0} (f p : A → Bool) (xs : List A) → list_all f xs ≡ true → list_all f (filter p xs) ≡ true
+all_filter f p [] holds = refl
+all_filter f p (x ∷ xs) holds =
+    let parts = both (f x) (list_all f xs) holds in
+    let rest = all_filter f p xs parts.1 in
+    elim (p x) as (λ b. list_all f (cond b (x ∷ filter p xs) (filter p xs)) ≡ true) [ true ↦ all_hold (f x) (list_all f (filter p xs)) parts.0 rest | false ↦ rest ]
+
+pub pairs_filter : {A : Type 0} (f : A → A → Bool) (p : A → Bool) (xs : List A) → every_pair f xs ≡ true → every_pair f (filter p xs) ≡ true
+pairs_filter f p [] holds = refl
+pairs_filter f p (x ∷ xs) holds =
+    let parts = both (list_all (f x) xs) (every_pair f xs) holds in
+    let rest = pairs_filter f p xs parts.1 in
+    elim (p x) as (λ b. every_pair f (cond b (x ∷ filter p xs) (filter p xs)) ≡ true) [
+      | true ↦ all_hold (list_all (f x) (filter p xs)) (every_pair f (filter p xs)) (all_filter (f x) p xs parts.0) rest
+      | false ↦ rest
+    ]
+
+pub pairs_always : {A : Type 0} (test : A → A → Bool) → ((x y : A) → test x y ≡ true) → (xs : List A) → every_pair test xs ≡ true
+pairs_always test always [] = refl
+pairs_always {A = A} test always (x ∷ xs) = all_hold (list_all (test x) xs) (every_pair test xs) (each xs) (pairs_always test always xs)
+  where
+    each : (ys : List A) → list_all (test x) ys ≡ true
+    each [] = refl
+    each (y ∷ ys) = all_hold (test x y) (list_all (test x) ys) (always x y) (each ys)
+
 -- a test that two elements pass where both pass it with a third: every pair passes where all pass it with the first
 module _ {A : Type 0} (test : A → A → Bool) (through : (x y z : A) → test x y ≡ true → test x z ≡ true → test y z ≡ true) where
   all_with_one : (x : A) (xs : List A) → list_all (test x) xs ≡ true → every_pair test xs ≡ true
@@ -42,3 +70,15 @@ module _ {A : Type 0} (test : A → A → Bool) (through : (x y z : A) → test 
 
   pub every_pair_with_the_first : (x : A) (xs : List A) → every_pair test (x ∷ xs) ≡ list_all (test x) xs
   every_pair_with_the_first x xs = with_the_first x xs (list_all (test x) xs) refl
+
+-- a test of every pair decides what its answers decide of two elements
+pub every_pair_decides : {A : Type 0} (test : A → A → Bool) (R : A → A → Type 0) → ((x y : A) → Decides (test x y) (R x y)) → (xs : List A) → Decides (every_pair test xs) (AllPairs R xs)
+every_pair_decides test R decides [] = (λ e i j d before within. absurd (omega arith), λ r. refl)
+every_pair_decides {A = A} test R decides (x ∷ xs) =
+    let with_first = Decides-by_and (test x) (R x) (list_all (test x)) (decides x) refl (λ _ _. refl) xs in
+    let later = every_pair_decides test R decides xs in (
+      λ e. let parts = both (list_all (test x) xs) (every_pair test xs) e in AllPairs-cons R x xs (with_first.0 parts.0) (later.0 parts.1),
+      λ r. all_hold (list_all (test x) xs) (every_pair test xs)
+          (with_first.1 (λ k d within. r 0 (suc k) d (omega arith) (omega arith)))
+          (later.1 (λ i j d before within. r (suc i) (suc j) d (omega arith) (omega arith))),
+    )
