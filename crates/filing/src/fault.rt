@@ -1,3 +1,6 @@
+ghost use Rattle.std.specs.Prelude.{◌≡◌};
+ghost use Rattle.filing.specs.Faults.{status_of};
+
 use filing_cli::ScriptFault;
 use std::alloc::{AllocError, AllocFailed};
 use std::process::ExitCode;
@@ -13,32 +16,58 @@ pub(crate) enum Fault {
 }
 
 impl Fault {
+    /// The exit status.
+    pub(crate) fn status(self) -> u8
+        ensures { result ≡ status_of self }
+    {
+        match self {
+            Fault::Read | Fault::Write => 1,
+            Fault::Words => 2,
+            Fault::NoMemory => 3,
+        }
+    }
+
     /// Tells the fault in one line on standard error, and gives its status.
     pub(crate) fn tell(self, rt: &impl Eprint) -> ExitCode {
-        let (line, status) = match self {
-            Fault::Words => return ExitCode::from(2),
-            Fault::Read => ("filing: read fault", 1),
-            Fault::Write => ("filing: write fault", 1),
-            Fault::NoMemory => ("filing: no memory", 3),
+        let told = match self {
+            Fault::Words => Ok(()),
+            Fault::Read => rt.eprintln("filing: read fault"),
+            Fault::Write => rt.eprintln("filing: write fault"),
+            Fault::NoMemory => rt.eprintln("filing: no memory"),
         };
-        let _ = rt.eprintln(line);
-        ExitCode::from(status)
+        let _ = told;
+        ExitCode::from(self.status())
     }
 }
 
 impl From<AllocError> for Fault {
+    ghost use Rattle.std.specs.Prelude.{◌≡◌};
+    ghost use Rattle.filing.specs.declared.fault.Fault.TheVariants.{NoMemory};
+
+    ghost from_gives = { λ _ e. e ≡ NoMemory };
+
     fn from(_error: AllocError) -> Fault {
         Fault::NoMemory
     }
 }
 
 impl<T: Drop> From<AllocFailed<T>> for Fault {
+    ghost use Rattle.std.specs.Prelude.{◌≡◌};
+    ghost use Rattle.filing.specs.declared.fault.Fault.TheVariants.{NoMemory};
+
+    ghost from_gives = { λ _ e. e ≡ NoMemory };
+
     fn from(_error: AllocFailed<T>) -> Fault {
         Fault::NoMemory
     }
 }
 
 impl From<ScriptFault> for Fault {
+    ghost use Rattle.std.specs.Prelude.{◌≡◌};
+    ghost use Rattle.filing.specs.Faults.{fault_of};
+
+    ghost from_gives = { λ fault e. e ≡ fault_of fault };
+
     fn from(fault: ScriptFault) -> Fault {
         match fault {
             ScriptFault::Read | ScriptFault::Endless => Fault::Read,

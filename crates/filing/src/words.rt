@@ -1,3 +1,6 @@
+ghost use Rattle.std.specs.Prelude.{◌≡◌, IfOk};
+ghost use Rattle.filing.specs.declared.words.Order.TheVariants.{Shown};
+
 use crate::fault::Fault;
 use clap::error::ErrorKind;
 use clap::{Command, Error};
@@ -35,7 +38,9 @@ pub(crate) fn read_words<'a, R: Print + Eprint + AllocGlobal>(
 }
 
 /// Tells an error of the words, or shows help, and answers what is left to do.
-fn shown<R: Print + Eprint>(rt: &R, error: &Error) -> Result<Order, Fault> {
+fn shown<R: Print + Eprint>(rt: &R, error: &Error) -> Result<Order, Fault>
+    ensures { IfOk result (λ o. o ≡ Shown) }
+{
     if error.kind() == ErrorKind::OutOfMemory {
         return Err(Fault::NoMemory);
     }

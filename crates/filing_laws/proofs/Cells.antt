@@ -43,7 +43,7 @@ in_one_cell dims f g in_f in_g =
     ap (λ b. not (is_apart (cond b (value_pair f.value g.value) pair.Apart))) (subst (λ d. dims_eq d g.dims ≡ true) (dims_same dims f.dims in_f) in_g)
     ∙ ap not (values_not_apart f.value g.value)
 
-passes_each : {A : Type 0} (p : A → Bool) (xs : List A) → Each (λ x. p x ≡ true) (filter p xs)
+pub passes_each : {A : Type 0} (p : A → Bool) (xs : List A) → Each (λ x. p x ≡ true) (filter p xs)
 passes_each p [] = tt
 passes_each p (x ∷ xs) = by (p x) refl (passes_each p xs)
   where
@@ -131,7 +131,7 @@ obeys_where_each_cell_is_allowed a entries = (
 -- ---- the disallowed cells
 
 -- whether a dimension set is one of these
-abbrev has_these : Dims → List Dims → Bool
+abbrev pub has_these : Dims → List Dims → Bool
 has_these dims ds = list_any (dims_eq dims) ds
 
 no_facts_at : (dims : Dims) (facts : List Fact) → has_these dims (map (λ f. f.dims) facts) ≡ false → facts_at dims facts ≡ []
@@ -141,14 +141,14 @@ no_facts_at dims (f ∷ fs) none =
     ap (λ b. cond b (f ∷ facts_at dims fs) (facts_at dims fs)) parts.0 ∙ no_facts_at dims fs parts.1
 
 -- a cell that is disallowed is that of a fact
-disallowed_is_there : (a : Allowed) (facts : List Fact) (dims : Dims) → is_disallowed a facts dims ≡ true → has_these dims (map (λ f. f.dims) facts) ≡ true
+pub disallowed_is_there : (a : Allowed) (facts : List Fact) (dims : Dims) → is_disallowed a facts dims ≡ true → has_these dims (map (λ f. f.dims) facts) ≡ true
 disallowed_is_there a facts dims disallowed = by (has_these dims (map (λ f. f.dims) facts)) refl
   where
     by : (b : Bool) → has_these dims (map (λ f. f.dims) facts) ≡ b → b ≡ true
     by true is = refl
     by false is = absurd (true≢false (sym disallowed ∙ ap (λ fs. not (allows a (class_of fs))) (no_facts_at dims facts is) ∙ ap not (empty_is_allowed a)))
 
-kept_where_passed : (p : Dims → Bool) (dims : Dims) (ds : List Dims) → p dims ≡ true → has_these dims ds ≡ true → has_these dims (filter p ds) ≡ true
+pub kept_where_passed : (p : Dims → Bool) (dims : Dims) (ds : List Dims) → p dims ≡ true → has_these dims ds ≡ true → has_these dims (filter p ds) ≡ true
 kept_where_passed p dims [] passes there = there
 kept_where_passed p dims (d ∷ ds) passes there = by (kept_where_passed p dims ds passes) (dims_eq dims d) refl (p d) refl there
   where
@@ -166,7 +166,7 @@ lesser_fold : (d : Dims) (ds : List Dims) → fold lesser_dims (Some d) ds ≡ S
 lesser_fold d [] = refl
 lesser_fold d (e ∷ ds) = lesser_fold (ord_min dims_cmp d e) ds
 
-nothing_least : (ds : List Dims) → least_dims ds ≡ None → ds ≡ []
+pub nothing_least : (ds : List Dims) → least_dims ds ≡ None → ds ≡ []
 nothing_least [] none = refl
 nothing_least (d ∷ ds) none = let some : Some (fold (ord_min dims_cmp) d ds) ≡ None = sym (lesser_fold d ds) ∙ none in cc
 
@@ -187,7 +187,7 @@ allowed_back true e = refl
 allowed_back false e = absurd (true≢false e)
 
 -- by the cell of the facts and by that of the entries
-entries_allowed : (a : Allowed) (entries : List (Text × Fact)) (dims : Dims) → is_allowed a entries dims ≡ allows a (class_of (facts_at dims (facts_of entries)))
+pub entries_allowed : (a : Allowed) (entries : List (Text × Fact)) (dims : Dims) → is_allowed a entries dims ≡ allows a (class_of (facts_at dims (facts_of entries)))
 entries_allowed a entries dims = ap (λ fs. allows a (class_of fs)) (facts-cell_of dims entries)
 
 pub obeys_where_no_cell_is_disallowed : ObeysWhereNoCellIsDisallowed
@@ -235,7 +235,7 @@ module _ {A : Type 0} (R : A → A → Ordering) (o : IsTotalOrder R) where
   least_is_one P x [] px each = px
   least_is_one P x (y ∷ ys) px each = least_is_one P (ord_min R x y) ys (lesser_is_one P x y px each.0) each.1
 
-each_has : (P : Dims → Type 0) (dims : Dims) (ds : List Dims) → Each P ds → has_these dims ds ≡ true → P dims
+pub each_has : (P : Dims → Type 0) (dims : Dims) (ds : List Dims) → Each P ds → has_these dims ds ≡ true → P dims
 each_has P dims [] each there = absurd (true≢false (sym there))
 each_has P dims (d ∷ ds) each there = by (each_has P dims ds each.1) (dims_eq dims d) refl there
   where
@@ -243,7 +243,7 @@ each_has P dims (d ∷ ds) each there = by (each_has P dims ds each.1) (dims_eq 
     by rest true same there = subst P (sym (dims_same dims d same)) each.0
     by rest false same there = rest there
 
-least_of : (P : Dims → Type 0) (ds : List Dims) (dims : Dims) → Each P ds → least_dims ds ≡ Some dims → P dims × Each (λ d. is_gt (dims_cmp dims d) ≡ false) ds
+pub least_of : (P : Dims → Type 0) (ds : List Dims) (dims : Dims) → Each P ds → least_dims ds ≡ Some dims → P dims × Each (λ d. is_gt (dims_cmp dims d) ≡ false) ds
 least_of P [] dims each is = let apart : None ≡ Some dims = is in cc
 least_of P (d ∷ ds) dims each is =
     let same : fold (ord_min dims_cmp) d ds ≡ dims = some_same (fold (ord_min dims_cmp) d ds) dims (sym (lesser_fold d ds) ∙ is) in

@@ -28,7 +28,7 @@ each_found P key x (e ∷ es) each found = by (each_found P key x es each.1) (te
     by later true same is = let value : e.1 ≡ x = cc in subst P (λ i. (sym (text_same key e.0 same) i, value i)) each.0
     by later false other is = later is
 
-ids_at : (change : Change) (name id : Text) (o : Option (TextMap (Option Fact))) → get change name ≡ o → get (unwrap_or o empty) id ≡ option_map_or (λ ids. get ids id) o None
+pub ids_at : (change : Change) (name id : Text) (o : Option (TextMap (Option Fact))) → get change name ≡ o → get (unwrap_or o empty) id ≡ option_map_or (λ ids. get ids id) o None
 ids_at change name id None is = refl
 ids_at change name id (Some ids) is = refl
 

@@ -1,42 +1,33 @@
 -- The laws at worked histories and reports: each premise is met there, and what the law says of them computes.
 use Rattle.std.proofs.Common.{◌≡◌, ◌∙◌, sym, refl, subst, ℕ, List, [], ◌∷◌, Option, Some, None, true}
 use Rattle.std.specs.Prelude.{codes, All}
-use Rattle.std.specs.Option.{option_map_or}
 use Rattle.filing_model.specs.Dimensions.{Dims}
 use Rattle.filing_model.specs.Repository.{Repository, nothing, with_report, with_fact_at}
 use Rattle.filing_model.specs.Duplicates.{obeys}
 use Rattle.filing_model.specs.Replies.{Reply, Absent, Found, Staged, Loaded, NameTaken, Disallowed, Opened, Committed}
 use Rattle.filing_model.specs.Sessions.{solo_replies, repository_obeys, refusal_of}
 use Rattle.filing_model.specs.History.{Step, Load, Open, Commit, History, Live, status_of, calls_of, replies_of, base_of, repository}
-use Rattle.filing_model.specs.Lawful.{IsLawful, next_reply, after_step, entered_under}
+use Rattle.filing_model.specs.Lawful.{IsLawful, next_reply}
 use Rattle.filing_model.specs.Versions.{versions, IsChain}
 use Rattle.filing_model.specs.declared.kind.Kind.TheVariants.{Review, Amend}
 use Rattle.filing_model.specs.declared.duplicates.Allowed.TheVariants as allowed
 use Rattle.filing_model.specs.declared.duplicates.Class.TheVariants as class
-use Rattle.filing_model.proofs.Examples.Setting.{Line, played, played_on, fact}
+use Rattle.filing_model.proofs.Examples.Setting.{Line, played, fact}
 use Rattle.filing_model.proofs.Examples.Histories.{r1, blank, no_net_change_before, no_net_change_lines, no_duplicates_before, newest_version_lines, stored_run_lines}
 use Rattle.filing_model.proofs.Examples.Duplicates.{assets, entries, neighbours_obey_consistent, no_cell_is_disallowed, the_cell_of_the_neighbours_is_disallowed}
 use Rattle.filing_laws.specs.NextReply.{MayBeTaken, IsOneNextReply, FollowsLawfully}
 use Rattle.filing_laws.specs.Untouched.{RepliesAlone, ReadsAreUntouched}
 use Rattle.filing_laws.specs.Obeying.{is_allowed, IsLeastDisallowed}
+use Rattle.filing_laws.proofs.Playing as playing
 use Rattle.filing_laws.proofs.OwnReplies.{own_replies}
-use Rattle.filing_laws.proofs.Serial.{serial, next_reply_is_lawful, each_step_has_one_reply, each_entry_follows_lawfully}
+use Rattle.filing_laws.proofs.Serial.{serial, each_step_has_one_reply, each_entry_follows_lawfully}
 use Rattle.filing_laws.proofs.Cells.{obeys_where_each_cell_is_allowed, obeys_where_no_cell_is_disallowed, least_disallowed_is_the_least, repository_obeys_where_not_refused}
 use Rattle.filing_laws.proofs.Chain.{each_version_obeys, versions_are_a_chain}
 
 -- ---- whatever is played is lawful
 
-stepped : (h : History) (session : Option ℕ) (step : Step) → IsLawful h → (o : Option Reply) → next_reply h session step ≡ o
-    → IsLawful (option_map_or (λ r. record { session = entered_under h session step; step = step; reply = r } ∷ h) o h)
-stepped h session step lawful None e = lawful
-stepped h session step lawful (Some r) e = next_reply_is_lawful h session step r lawful e
-
-played_on_is_lawful : (lines : List Line) (h : History) → IsLawful h → IsLawful (played_on h lines)
-played_on_is_lawful [] h lawful = lawful
-played_on_is_lawful (l ∷ ls) h lawful = played_on_is_lawful ls (after_step h l.0 l.1) (stepped h l.0 l.1 lawful (next_reply h l.0 l.1) refl)
-
 pub played_is_lawful : (lines : List Line) → IsLawful (played lines)
-played_is_lawful lines = played_on_is_lawful lines [] tt
+played_is_lawful lines = playing.played_is_lawful lines
 
 -- ---- an untouched session: what it read was added and removed again by another
 

@@ -12,15 +12,15 @@ abbrev pub only : (Fact → Bool) → Option Fact → Option Fact
 only test None = None
 only test (Some fact) = cond (test fact) (Some fact) None
 
-both : (a b : Bool) → T a → T b → T (a && b)
+pub both : (a b : Bool) → T a → T b → T (a && b)
 both true b p q = q
 both false b p q = absurd p
 
-first : (a b : Bool) → T (a && b) → T a
+pub first : (a b : Bool) → T (a && b) → T a
 first true b p = tt
 first false b p = absurd p
 
-second : (a b : Bool) → T (a && b) → T b
+pub second : (a b : Bool) → T (a && b) → T b
 second true b p = p
 second false b p = absurd p
 
@@ -29,7 +29,7 @@ not_tied Less p = refl
 not_tied Equal p = absurd p
 not_tied Greater p = absurd p
 
-below_is_not_found : (q : Text) (es : List (Text × Fact)) → T (below_all text_cmp q es) → find text_cmp q es ≡ None
+pub below_is_not_found : {X : Type 0} (q : Text) (es : List (Text × X)) → T (below_all text_cmp q es) → find text_cmp q es ≡ None
 below_is_not_found q [] h = refl
 below_is_not_found q (e ∷ es) h =
     ap (λ b. cond b (Some e.1) (find text_cmp q es)) (not_tied (text_cmp q e.0) (first (is_lt (text_cmp q e.0)) (below_all text_cmp q es) h))

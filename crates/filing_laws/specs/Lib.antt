@@ -1,4 +1,10 @@
+pub mod Numbers
+pub mod Played
+pub mod WholeRuns
 pub mod NextReply
 pub mod Untouched
 pub mod Obeying
 pub mod Versions
+pub mod NetChange
+pub mod SameReplies
+pub mod ReadingOrder

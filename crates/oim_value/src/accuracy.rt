@@ -29,6 +29,7 @@ impl Model for Decimals {
 }
 
 impl Decimals {
+    /// The place, from -20 to 12.
     pub fn place(self) -> i8
         ensures value { result ≡ self }
         ensures least { neg_ℤ (pos most_whole_digits) ≤ℤ self }

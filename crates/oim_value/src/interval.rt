@@ -1,6 +1,6 @@
 //! The intervals that rounded numbers stand for, in half units of 10^-12, so that their ends are whole.
 
-ghost use Rattle.std.specs.Prelude.{◌≡◌, ◌≤◌, ℤ, pos, ◌-ℤ◌, ◌*ℤ◌, nat_abs, ◌↔◌, IsTrue};
+ghost use Rattle.std.specs.Prelude.{◌≡◌, ◌≤◌, ℤ, pos, ◌-ℤ◌, ◌*ℤ◌, nat_abs, ◌↔◌, IsTrue, IsSome, IfSome};
 ghost use Rattle.std.specs.Bool.{OnTrue, OnFalse};
 ghost use Rattle.filing_model.specs.Intervals.{interval_of, IsWithin, ShareANumber, meets};
 ghost use Rattle.oim_value.specs.Accuracies.{decimals_of, half_width_of};
@@ -61,11 +61,6 @@ fn half_width(accuracy: Accuracy) -> i128
 }
 
 impl Interval {
-    #[cfg(test)]
-    pub(crate) fn ends(&self) -> (i128, i128) {
-        (self.low, self.high)
-    }
-
     /// Whether some number is in both.
     pub fn meets(&self, other: &Interval) -> bool
         ensures shared { IsTrue result ↔ ShareANumber self.now other.now }
@@ -82,13 +77,31 @@ impl Interval {
         ensures unchanged { OnFalse result (self.new ≡ self.old) }
         ensures ends { HasBoundedEnds self.new }
     {
-        if !self.meets(other) {
+        let Some(common) = self.common_part(other) else {
             return false;
+        };
+        *self = common;
+        true
+    }
+
+    /// What is in both, where anything is.
+    fn common_part(&self, other: &Interval) -> Option<Interval>
+        ensures shared { IsSome result ↔ ShareANumber self.now other.now }
+        ensures common { IfSome result (λ i. (x : ℤ) → IsWithin i x ↔ (IsWithin self.now x × IsWithin other.now x)) }
+        ensures ends { IfSome result HasBoundedEnds }
+        ensures own_ends { HasBoundedEnds self.now }
+    {
+        if !self.meets(other) {
+            return None;
         }
-        *self = Interval {
+        Some(Interval {
             low: self.low.max(other.low),
             high: self.high.min(other.high),
-        };
-        true
+        })
+    }
+
+    #[cfg(test)]
+    pub(crate) fn ends(&self) -> (i128, i128) {
+        (self.low, self.high)
     }
 }

@@ -53,7 +53,7 @@ pub close_is_closed : ¬ IsLawful (with_last_reply (Staged) (played stored_run_l
 close_is_closed = not_lawful (with_last_reply (Staged) (played stored_run_lines)) (λ same. let told_otherwise : Some (Closed) ≡ Some (Staged) = same in cc)
 
 -- two sessions each read the cell into which the other writes
-abbrev write_skew_lines : List Line
+abbrev pub write_skew_lines : List Line
 write_skew_lines = loads blank ∷ amend ∷ amend ∷ looks 1 r1 (codes "ex:A") ∷ looks 2 r1 (codes "ex:B") ∷ adds 1 r1 (codes "b") (raw_of (codes "ex:B") (codes "1")) ∷ adds 2 r1 (codes "a") (raw_of (codes "ex:A") (codes "1")) ∷ commits 1 ∷ commits 2 ∷ []
 
 pub write_skew : told write_skew_lines ≡ Loaded 1 ∷ Opened ∷ Opened ∷ Cell Empty [] ∷ Cell Empty [] ∷ Staged ∷ Staged ∷ Committed 2 ∷ Conflict 2 (thing.Cell r1 (of_concept (codes "ex:B"))) ∷ []
@@ -73,7 +73,7 @@ pub phantom_is_refused : ¬ IsLawful (with_last_reply (Committed 3) (played phan
 phantom_is_refused = not_lawful (with_last_reply (Committed 3) (played phantom_lines)) (λ same. let told_otherwise : Some (Conflict 2 (thing.Query r1 (codes "ex:Name") None)) ≡ Some (Committed 3) = same in cc)
 
 -- a review reads the version of its opening, and a later one the amended version
-abbrev snapshot_lines : List Line
+abbrev pub snapshot_lines : List Line
 snapshot_lines = loads (holding All ((codes "f1", fact (codes "old")) ∷ [])) ∷ review ∷ amend ∷ removes 2 r1 (codes "f1") ∷ adds 2 r1 (codes "f1") (raw (codes "new")) ∷ commits 2 ∷ gets 1 r1 (codes "f1") ∷ review ∷ gets 3 r1 (codes "f1") ∷ commits 1 ∷ []
 
 pub snapshot : told snapshot_lines ≡ Loaded 1 ∷ Opened ∷ Opened ∷ Staged ∷ Staged ∷ Committed 2 ∷ Found (fact (codes "old")) ∷ Opened ∷ Found (fact (codes "new")) ∷ Closed ∷ []
@@ -176,7 +176,7 @@ pub name_is_taken_once : ¬ IsLawful (with_last_reply (Loaded 2) (played name_ta
 name_is_taken_once = not_lawful (with_last_reply (Loaded 2) (played name_taken_lines)) (λ same. let told_otherwise : Some (NameTaken) ≡ Some (Loaded 2) = same in cc)
 
 -- the earliest thing that was read is told, with the number of its last touch
-abbrev earliest_thing_lines : List Line
+abbrev pub earliest_thing_lines : List Line
 earliest_thing_lines = loads (holding All ((codes "f1", fact (codes "x")) ∷ (codes "f2", fact (codes "x")) ∷ [])) ∷ amend ∷ gets 1 r1 (codes "f1") ∷ gets 1 r1 (codes "f2") ∷ amend ∷ removes 2 r1 (codes "f2") ∷ commits 2 ∷ amend ∷ removes 3 r1 (codes "f1") ∷ commits 3 ∷ amend ∷ adds 4 r1 (codes "f1") (raw (codes "y")) ∷ commits 4 ∷ commits 1 ∷ []
 
 pub earliest_thing : told earliest_thing_lines ≡ Loaded 1 ∷ Opened ∷ Found (fact (codes "x")) ∷ Found (fact (codes "x")) ∷ Opened ∷ Staged ∷ Committed 2 ∷ Opened ∷ Staged ∷ Committed 3 ∷ Opened ∷ Staged ∷ Committed 4 ∷ Conflict 4 (thing.Id r1 (codes "f1")) ∷ []
@@ -239,7 +239,7 @@ pub left_query_is_touched : ¬ IsLawful (with_last_reply (Committed 3) (played l
 left_query_is_touched = not_lawful (with_last_reply (Committed 3) (played left_query_lines)) (λ same. let told_otherwise : Some (Conflict 2 (thing.Query r1 (codes "ex:Name") None)) ≡ Some (Committed 3) = same in cc)
 
 -- a refused and a closed session leave nothing behind, and do not count
-abbrev refused_leaves_nothing_lines : List Line
+abbrev pub refused_leaves_nothing_lines : List Line
 refused_leaves_nothing_lines = loads blank ∷ amend ∷ amend ∷ adds 1 r1 (codes "a") (raw (codes "x")) ∷ commits 1 ∷ adds 2 r1 (codes "a") (raw (codes "y")) ∷ commits 2 ∷ amend ∷ adds 3 r1 (codes "c") (raw (codes "z")) ∷ closes 3 ∷ amend ∷ gets 4 r1 (codes "a") ∷ gets 4 r1 (codes "c") ∷ commits 4 ∷ []
 
 pub refused_leaves_nothing : told refused_leaves_nothing_lines ≡ Loaded 1 ∷ Opened ∷ Opened ∷ Staged ∷ Committed 2 ∷ Staged ∷ Conflict 2 (thing.Id r1 (codes "a")) ∷ Opened ∷ Staged ∷ Closed ∷ Opened ∷ Found (fact (codes "x")) ∷ Absent ∷ Committed 3 ∷ []

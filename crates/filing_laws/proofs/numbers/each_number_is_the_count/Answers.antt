@@ -1,0 +1,5 @@
+use Rattle.filing_laws.proofs.Counting.{each_number_is_the_count}
+use Rattle.filing_laws.proofs.numbers.each_number_is_the_count.Goals as goal
+
+pub returns : goal.returns
+returns c = each_number_is_the_count

@@ -1,0 +1,5 @@
+use Rattle.filing_laws.proofs.ReadingOrders.{lawful_in_order_is_lawful}
+use Rattle.filing_laws.proofs.reading_order.lawful_in_order_is_lawful.Goals as goal
+
+pub returns : goal.returns
+returns c = lawful_in_order_is_lawful

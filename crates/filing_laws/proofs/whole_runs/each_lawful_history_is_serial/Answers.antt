@@ -1,0 +1,5 @@
+use Rattle.filing_laws.proofs.Serially.{each_lawful_history_is_serial}
+use Rattle.filing_laws.proofs.whole_runs.each_lawful_history_is_serial.Goals as goal
+
+pub returns : goal.returns
+returns c = each_lawful_history_is_serial

@@ -1,0 +1,5 @@
+use Rattle.filing_laws.proofs.Serially.{each_order_of_steps_is_serial}
+use Rattle.filing_laws.proofs.whole_runs.each_order_of_steps_is_serial.Goals as goal
+
+pub returns : goal.returns
+returns c = each_order_of_steps_is_serial
