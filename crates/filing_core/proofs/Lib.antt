@@ -4,6 +4,7 @@ pub mod StagedFacts
 pub mod NextVersions
 pub mod Keeping
 pub mod Laying
+pub mod Refusing
 pub mod Committing
 pub mod Standing
 pub mod Entering
