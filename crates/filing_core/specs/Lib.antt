@@ -6,3 +6,4 @@ pub mod Kept
 pub mod Outcomes
 pub mod Answers
 pub mod OpenSession
+pub mod Cells

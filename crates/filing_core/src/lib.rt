@@ -3,6 +3,7 @@
 //! It knows nothing of JSON, of devices, of locks or of threads.
 #![tactic(auto)]
 
+mod cells;
 mod engine;
 mod fact_map;
 mod fault;
