@@ -9,3 +9,5 @@ pub mod Committing
 pub mod Standing
 pub mod Entering
 pub mod Entered
+pub mod LeastDims
+pub mod SortedCells

@@ -7,3 +7,4 @@ pub mod Outcomes
 pub mod Answers
 pub mod OpenSession
 pub mod Refusals
+pub mod Cells

@@ -4,6 +4,7 @@
 #![tactic(auto)]
 
 mod disallowed;
+mod cells;
 mod engine;
 mod fact_map;
 mod fault;
