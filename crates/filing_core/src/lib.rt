@@ -3,8 +3,8 @@
 //! It knows nothing of JSON, of devices, of locks or of threads.
 #![tactic(auto)]
 
-mod disallowed;
 mod cells;
+mod disallowed;
 mod engine;
 mod fact_map;
 mod fault;
