@@ -10,3 +10,5 @@ pub mod Entering
 pub mod Entered
 pub mod LeastDims
 pub mod SortedCells
+pub mod FoundCell
+pub mod Refusals
