@@ -11,3 +11,5 @@ pub mod Entering
 pub mod Entered
 pub mod LeastDims
 pub mod SortedCells
+pub mod FoundCell
+pub mod Refusals

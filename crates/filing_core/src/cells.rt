@@ -1,18 +1,19 @@
 //! The cells of a report: the least one that is not allowed, and what is told of a cell.
 
-ghost use Rattle.std.specs.Prelude.{◌≡◌, not, length, option_map, ◌≤◌, IfOk, IsTrue};
+ghost use Rattle.std.specs.Prelude.{◌≡◌, ◌≤◌, not, map, length, option_map, string_bytes, IfOk, IsTrue};
 ghost use Rattle.std.specs.List.{position_or_len};
 ghost use Rattle.std.specs.Arc.{arc_value};
-ghost use Rattle.filing_model.specs.Duplicates.{class_of, facts_of, has_dims, least_dims, disallowed_dims, least_disallowed};
+ghost use Rattle.filing_model.specs.Duplicates.{class_of, facts_of, cell_of, has_dims, least_dims, disallowed_dims, least_disallowed};
+ghost use Rattle.filing_model.specs.Reports.{Report};
 ghost use Rattle.oim_fact.specs.SharedFacts.{facts_behind};
 ghost use Rattle.filing_core.specs.Keyed.{keyed};
-ghost use Rattle.filing_core.specs.Cells.{dims_rise};
+ghost use Rattle.filing_core.specs.Cells.{dims_rise, IsRefusedFor};
 
 use oim_fact::{Allowed, Class, DimSet, Fact, allows, class_over};
 use std::alloc::{AllocError, Global};
 use std::sync::Arc;
 
-/// The least dimensions of a report's facts whose cell is not allowed. Time n log n in the facts; the memory that it wants is a reference to each.
+/// The least dimensions of a report's facts whose cell is not allowed. It takes time n log n in the facts, and memory for a reference to each.
 pub(crate) fn least_disallowed<'a>(
     alloc: Global,
     allowed: Allowed,
@@ -25,6 +26,40 @@ pub(crate) fn least_disallowed<'a>(
     }
     let sorted = sorted_by_dims(references(alloc, facts)?)?;
     Ok(first_disallowed(allowed, &sorted))
+}
+
+/// The class of the facts with these dimensions, and their identifiers in the order of the facts. It takes time linear in the facts.
+pub(crate) fn cell(
+    alloc: Global,
+    dims: &DimSet,
+    facts: &[(String, Arc<Fact>)],
+) -> Result<(Class, Vec<String>), AllocError>
+    ensures class { IfOk result (λ told. told.0 ≡ class_of (facts_of (cell_of dims.now (keyed arc_value facts.now)))) }
+    ensures ids { IfOk result (λ told. map string_bytes told.1.items ≡ map (λ e. e.0) (cell_of dims.now (keyed arc_value facts.now))) }
+{
+    let mut ids = Vec::new(alloc);
+    let mut held = Vec::new(alloc);
+    for (id, fact) in facts {
+        if *dims == fact.dims {
+            ids.push(id.clone()?)?;
+            held.push(fact)?;
+        }
+    }
+    Ok((class_behind(&held), ids))
+}
+
+/// What a report with these facts is refused for: the class and the identifiers of its least disallowed cell, or nothing where it obeys.
+pub(crate) fn refusal_in(
+    alloc: Global,
+    allowed: Allowed,
+    facts: &[(String, Arc<Fact>)],
+) -> Result<Option<(Class, Vec<String>)>, AllocError>
+    ensures { IfOk result (λ o. (r : Report) → r.allowed ≡ allowed → r.facts.entries ≡ keyed arc_value facts.now → IsRefusedFor r (option_map (λ told. (told.0, map string_bytes told.1.items)) o)) }
+{
+    match least_disallowed(alloc, allowed, facts)? {
+        None => Ok(None),
+        Some(dims) => Ok(Some(cell(alloc, dims, facts)?)),
+    }
 }
 
 /// The facts without their identifiers.
