@@ -1,3 +1,4 @@
 pub mod Faults
 pub mod Parts
 pub mod Readable
+pub mod Readings
