@@ -9,6 +9,7 @@ mod fault;
 mod info;
 mod reading;
 mod report;
+mod table;
 mod values;
 
 pub use fact::raw_fact;
@@ -16,4 +17,5 @@ pub use fault::ReportFault;
 pub use filing_model::{TableFault, Trouble};
 pub use reading::{read_report, report_of};
 pub use report::{Report, ReportParts};
+pub use table::read_table;
 pub use values::json_value;
