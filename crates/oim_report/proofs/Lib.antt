@@ -1,2 +1,2 @@
-pub mod Values
-pub mod RawFacts
+pub mod WrittenValues
+pub mod WrittenFacts

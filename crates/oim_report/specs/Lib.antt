@@ -1,3 +1,6 @@
-pub mod Nesting
+pub mod Faults
+pub mod Parts
 pub mod Readable
+pub mod ReadableFact
+pub mod Nesting
 pub mod ReadBack

@@ -8,7 +8,7 @@ use Rattle.filing_model.specs.Facts.{RawFact}
 use Rattle.filing_model.specs.ReadFact.{raw_fact_of}
 use Rattle.filing_model.specs.Writing.{raw_fact_text}
 use Rattle.oim_report.specs.Nesting.{NestsWithin}
-use Rattle.oim_report.specs.Readable.{IsReadableFact}
+use Rattle.oim_report.specs.ReadableFact.{IsReadableFact}
 
 -- a value without fractions is read from its compact text
 abbrev pub ValuesAreReadBack : Type 0

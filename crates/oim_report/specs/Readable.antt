@@ -1,17 +1,18 @@
--- What a reader makes, and so can be written and read again.
-use Rattle.std.specs.Prelude.{◌<◌, ◌^◌, ℤ, pos, negsuc, Option, Some, None, ⊤}
+-- What is known of a report that was read. The project's own.
+use Rattle.std.specs.Prelude.{List, [], ◌∷◌, ⊤}
+use Rattle.filing_model.specs.Text.{Text}
 use Rattle.filing_model.specs.Dimensions.{AreDims}
-use Rattle.filing_model.specs.Facts.{RawFact}
-use Rattle.filing_model.specs.Fitted.{AreLinks}
+use Rattle.filing_model.specs.Facts.{Fact, Names}
+use Rattle.filing_model.specs.Fitted.{IsFitted}
+use Rattle.filing_model.specs.Reports.{Report}
+use Rattle.oim_report.specs.Parts.{IsInfo}
 
--- a whole number of 64 bits with its sign, or none
-abbrev pub AreWholeDecimals : Option ℤ → Type 0
-AreWholeDecimals None = ⊤
-AreWholeDecimals (Some (pos n)) = n < 2 ^ 63
-AreWholeDecimals (Some (negsuc n)) = n < 2 ^ 63
+-- each fact has a dimension set and is fitted to these names
+abbrev pub AreFitted : Names → List (Text × Fact) → Type 0
+AreFitted names [] = ⊤
+AreFitted names (e ∷ es) = AreDims e.1.dims × IsFitted names e.1 × AreFitted names es
 
--- a raw fact as it is read of JSON
-pub record IsReadableFact (raw : RawFact) : Type 0 where
-  pub dims : AreDims raw.dims
-  pub decimals : AreWholeDecimals raw.decimals
-  pub links : AreLinks raw.links
+-- the facts are fitted to the report's names, and its info is that of its prefixes and its declared value
+pub record IsReadable (report : Report) : Type 0 where
+  pub facts : AreFitted report.names report.facts.entries
+  pub info : IsInfo report.info report.names.prefixes report.allowed

@@ -1,7 +1,7 @@
 use Rattle.serde_json.specs.Data.{object}
 use Rattle.filing_model.specs.Writing.{raw_fact_text}
-use Rattle.oim_report.proofs.Values.{read_back}
-use Rattle.oim_report.proofs.RawFacts.{fact_members, stands_for}
+use Rattle.oim_report.proofs.WrittenValues.{read_back}
+use Rattle.oim_report.proofs.WrittenFacts.{fact_members, stands_for}
 use Rattle.oim_report.proofs.read_back.raw_facts_are_read_back.Goals as goal
 
 pub returns : goal.returns

@@ -20,8 +20,8 @@ use Rattle.filing_model.specs.declared.faults.Trouble.{Trouble}
 use Rattle.filing_model.specs.declared.faults.Trouble.TheVariants as trouble
 use Rattle.filing_model.proofs.JsonTexts.{whole-IsWritable}
 use Rattle.filing_model.proofs.DimensionSets.{Ok-from_AreDims}
-use Rattle.oim_report.specs.Readable.{AreWholeDecimals, IsReadableFact}
-use Rattle.oim_report.proofs.Values.{Reads, EachReads, Reads-number, Reads-object, Reads-writable}
+use Rattle.oim_report.specs.ReadableFact.{AreWholeDecimals, IsReadableFact}
+use Rattle.oim_report.proofs.WrittenValues.{Reads, EachReads, Reads-number, Reads-object, Reads-writable}
 
 -- ---- the object
 

@@ -1,0 +1,115 @@
+ghost use Rattle.std.specs.Prelude.{◌≡◌};
+ghost use Rattle.oim_report.specs.Parts.{AreParts, facts_view, parts_of, whole};
+
+use filing_model::Allowed;
+use oim_fact::{Fact, Names};
+use std::marker::Model;
+use std::sync::Arc;
+
+/// The parts of a report: the compact text of `documentInfo`, the prefixes with the numeric table, the allowed duplicates that it declares, and facts under their identifiers.
+#[derive(Debug, Drop)]
+pub struct ReportParts {
+    pub info: String,
+    pub names: Names,
+    pub allowed: Allowed,
+    pub facts: Vec<(String, Arc<Fact>)>,
+}
+
+impl Model for ReportParts {
+    ghost use Rattle.std.specs.Prelude.{string_bytes};
+    ghost use Rattle.oim_report.specs.Parts.{Parts, facts_view};
+
+    ghost Value = { Parts };
+
+    ghost view = { λ p. record { info = string_bytes p.info; names = p.names; allowed = p.allowed; facts = facts_view p.facts.items } };
+}
+
+/// A report of xBRL-JSON 1.0. It need not obey the allowed duplicates that it declares.
+#[derive(Debug, Drop)]
+pub struct Report {
+    info: String,
+    names: Names,
+    allowed: Allowed,
+    facts: Vec<(String, Arc<Fact>)>,
+}
+
+impl Model for Report {
+    ghost use Rattle.std.specs.Prelude.{string_bytes};
+    ghost use Rattle.filing_model.specs.Reports.{Report as PlainReport};
+    ghost use Rattle.oim_report.specs.Parts.{AreParts, facts_view, whole};
+
+    ghost Value = { PlainReport };
+
+    ghost view = { λ r. whole (record { info = string_bytes r.info; names = r.names; allowed = r.allowed; facts = facts_view r.facts.items }) };
+
+    ghost invariant = { λ r. AreParts (record { info = string_bytes r.info; names = r.names; allowed = r.allowed; facts = facts_view r.facts.items }) };
+}
+
+impl Report {
+    /// The report of these parts. Its facts stand in byte order of their identifiers, none twice, and its info is that of a report with these prefixes and this declared value.
+    pub fn of(parts: ReportParts) -> Report
+        requires { AreParts parts }
+        ensures { result ≡ whole parts }
+    {
+        let ReportParts {
+            info,
+            names,
+            allowed,
+            facts,
+        } = parts;
+        Report {
+            info,
+            names,
+            allowed,
+            facts,
+        }
+    }
+
+    /// What `of` makes the same report of.
+    pub fn into_parts(self) -> ReportParts
+        ensures parts { result ≡ parts_of self }
+        ensures again { AreParts result }
+    {
+        let Report {
+            info,
+            names,
+            allowed,
+            facts,
+        } = self;
+        ReportParts {
+            info,
+            names,
+            allowed,
+            facts,
+        }
+    }
+
+    /// The compact text of `documentInfo`, with its members in byte order of their names.
+    pub fn info(&self) -> &str
+        ensures info { result.now ≡ self.now.info }
+        ensures parts { AreParts (parts_of self.now) }
+    {
+        &self.info
+    }
+
+    /// The prefixes with their URIs, and the numeric table by which the facts were read.
+    pub fn names(&self) -> &Names
+        ensures { result.now ≡ self.now.names }
+    {
+        &self.names
+    }
+
+    /// The allowed duplicates that it declares; all, where it declares none.
+    pub fn allowed(&self) -> Allowed
+        ensures { result ≡ self.now.allowed }
+    {
+        self.allowed
+    }
+
+    /// The facts in byte order of their identifiers, none twice.
+    pub fn facts(&self) -> &[(String, Arc<Fact>)]
+        ensures { facts_view result.now ≡ self.now.facts.entries }
+    {
+        &self.facts
+    }
+}
