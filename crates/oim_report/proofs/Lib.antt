@@ -1,2 +1,3 @@
 pub mod WrittenValues
 pub mod WrittenFacts
+pub mod WrittenPieces

@@ -174,7 +174,7 @@ same_json i j h =
     let one : json.value n (json_tokens i ++ []) ≡ Some (i, []) = value-json_tokens i n [] (omega arith) in
     let other : json.value n (json_tokens j ++ []) ≡ Some (j, []) = value-json_tokens j n [] (omega arith) in
     let same : ◌≡◌ {A = Option (json.Json × List Token)} (Some (i, [])) (Some (j, [])) = sym one ∙ ap (λ ts. json.value n (ts ++ [])) h ∙ other in
-    ap (λ o. elim o as (λ _. json.Json) [ | None ↦ i | Some p ↦ p.0 ]) same
+    ap (λ o. elim o as (λ _. json.Json) [ None ↦ i | Some p ↦ p.0 ]) same
 
 pub read_back : (d : Data) (text : Text) → Reads d → text ≡ compact_text d → NestsWithin max_depth text → json_of text ≡ Some d
 read_back d text reads is nests =

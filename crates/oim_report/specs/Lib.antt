@@ -4,3 +4,4 @@ pub mod Readable
 pub mod ReadableFact
 pub mod Nesting
 pub mod ReadBack
+pub mod Pieces
