@@ -1,3 +1,5 @@
 pub mod WrittenValues
 pub mod WrittenFacts
 pub mod WrittenPieces
+pub mod WrittenReports
+pub mod ReadFacts

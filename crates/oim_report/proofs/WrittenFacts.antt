@@ -1,27 +1,28 @@
 -- The JSON object that stands for a raw fact: what is written of it, and what is read of it.
-use Rattle.std.proofs.Common.{◌≡◌, ◌<◌, ◌^◌, ℤ, pos, negsuc, T, ◌&&◌, Bool, true, false, cond, List, [], ◌∷◌, ◌++◌, codes, Option, Some, None, option_map, Result, Ok, Err, is_lt, refl, sym, ap, ◌∙◌, arith, append_assoc, subst, lt-ltb}
-use Rattle.std.specs.Prelude.{⊤, nat_lt}
+use Rattle.std.proofs.Common.{◌≡◌, ℤ, pos, negsuc, T, ◌&&◌, Bool, true, false, cond, [], ◌∷◌, ◌++◌, codes, Option, Some, None, option_map, Ok, Err, is_lt, refl, sym, ap, ◌∙◌, arith, append_assoc, subst, lt-ltb}
+use Rattle.std.specs.Prelude.{⊤}
 use Rattle.std.specs.Option.{option_and_then, ok_or}
 use Rattle.std.specs.Fmt.{signed_decimal}
 use Rattle.std.specs.FinMap.Entries.{is_sorted, below_all}
 use Rattle.json.specs.Print.{quoted, escape_byte}
-use Rattle.serde_json.specs.Data.{Num, unsigned, negative, float, Data, null, number, string, object, Members, no_members, member}
+use Rattle.serde_json.specs.Data.{Data, null, number, string, object, Members, no_members, member}
 use Rattle.serde_json.specs.Find.{get, of_integer, as_i64}
-use Rattle.serde_json.specs.Written.{has_float, number_text, comma_if, compact_text, members_text}
+use Rattle.serde_json.specs.Written.{number_text, comma_if, compact_text, members_text}
 use Rattle.filing_model.specs.Text.{Text, text_cmp}
 use Rattle.filing_model.specs.Try.{◌>>=◌, each, map_err}
-use Rattle.filing_model.specs.JsonText.{pairs, as_nullable, IsWhole, IsWritable}
+use Rattle.filing_model.specs.JsonText.{json_of, pairs, as_nullable, IsWhole, IsWritable}
 use Rattle.filing_model.specs.Dimensions.{Dims, AreDims, dims_of}
 use Rattle.filing_model.specs.Facts.{RawFact}
 use Rattle.filing_model.specs.Fitted.{AreLinks}
 use Rattle.filing_model.specs.ReadFact.{dim_of, named_dims, decimals_of, links_of, raw_fact_of}
 use Rattle.filing_model.specs.Writing.{listed, member_text, nullable_text, dims_text, decimals_text, links_text, raw_fact_text}
-use Rattle.filing_model.specs.declared.faults.Trouble.{Trouble}
 use Rattle.filing_model.specs.declared.faults.Trouble.TheVariants as trouble
 use Rattle.filing_model.proofs.JsonTexts.{whole-IsWritable}
 use Rattle.filing_model.proofs.DimensionSets.{Ok-from_AreDims}
+use Rattle.serde_json.specs.Read.{max_depth}
+use Rattle.oim_report.specs.Nesting.{NestsWithin}
 use Rattle.oim_report.specs.ReadableFact.{AreWholeDecimals, IsReadableFact}
-use Rattle.oim_report.proofs.WrittenValues.{Reads, EachReads, Reads-number, Reads-object, Reads-writable}
+use Rattle.oim_report.proofs.WrittenValues.{Reads, EachReads, Reads-number, Reads-object, Reads-writable, read_back}
 
 -- ---- the object
 
@@ -198,3 +199,9 @@ stands_for raw is =
       written = ap raw_fact_text (sym same) ∙ fact_written raw.decimals raw.dims kept.0 raw.value;
       read = fact_read raw.decimals raw.dims kept.0 raw.value is.decimals is.dims kept.1 ∙ ap (λ r. Ok r) same;
     }
+
+pub raw_fact_back : (raw : RawFact) → IsReadableFact raw → NestsWithin max_depth (raw_fact_text raw) → (d : Data) × (json_of (raw_fact_text raw) ≡ Some d) × (raw_fact_of d ≡ Ok raw)
+raw_fact_back raw is nests =
+    let stands = stands_for raw is in
+    let value = object (fact_members raw.decimals raw.dims stands.links raw.value) in
+    (value, read_back value (raw_fact_text raw) stands.reads stands.written nests, stands.read)

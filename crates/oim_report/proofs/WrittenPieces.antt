@@ -1,14 +1,11 @@
 -- Lemmas on the pieces of a text.
-use Rattle.std.proofs.Common.{◌≡◌, OnOk, Result, Ok, Err, is_ok, List, ℕ, [], ◌∷◌, ◌++◌, codes, Option, string_bytes, append_assoc, append-nil, ◌∙◌, ap, sym, refl, ℤ, Some, None, false}
+use Rattle.std.proofs.Common.{◌≡◌, OnOk, Result, Ok, Err, is_ok, List, ℕ, [], ◌∷◌, ◌++◌, codes, Option, append_assoc, append-nil, ◌∙◌, ap, ℤ}
 use Rattle.std.specs.Bool.{if◌then◌else◌}
 use Rattle.json.specs.Token.{string}
 use Rattle.json.specs.Print.{print, print_from, quoted}
 use Rattle.filing_model.specs.Text.{Text}
-use Rattle.filing_model.specs.TextMap.{TextMap}
 use Rattle.filing_model.specs.Dimensions.{Dims}
-use Rattle.filing_model.specs.Facts.{RawFact, Fact}
-use Rattle.filing_model.specs.Reports.{Report}
-use Rattle.filing_model.specs.Writing.{decimals_in, decimals_text, dims_text, links_text, listed, member_text, nullable_text, text_of, raw_fact_text, fact_text, report_text}
+use Rattle.filing_model.specs.Writing.{decimals_in, decimals_text, dims_text, links_text, nullable_text, text_of, raw_fact_text, fact_text}
 use Rattle.oim_fact.specs.declared.fact.FactValue.{FactValue}
 use Rattle.oim_fact.specs.Facts.{value_view}
 use Rattle.oim_report.specs.Pieces.{before_value}

@@ -1,15 +1,13 @@
 -- Values that are read back from their compact text.
-use Rattle.std.proofs.Common.{◌≡◌, ℕ, suc, ◌≤◌, ◌<◌, ◌^◌, max, pos, negsuc, T, ◌&&◌, List, [], ◌∷◌, ◌++◌, Option, Some, None, option_map, option_and_then, Ordering, Less, Equal, Greater, is_lt, refl, sym, ap, ap₂, ◌∙◌, arith, rules, append-nil, subst, inl, inr, eq-or-lt_of_le, Bool, true, false}
+use Rattle.std.proofs.Common.{◌≡◌, ℕ, ◌≤◌, ◌<◌, ◌^◌, max, pos, negsuc, T, ◌&&◌, List, [], ◌++◌, Option, Some, None, option_map, option_and_then, Ordering, Less, Equal, Greater, is_lt, refl, sym, ap, ◌∙◌, arith, append-nil, subst, inl, inr, eq-or-lt_of_le, Bool, true, false}
 use Rattle.std.proofs.lemmas.Cmp.{nat_list_cmp_total}
 use Rattle.std.specs.Prelude.{⊤}
 use Rattle.std.specs.Fmt.{digits, signed_decimal}
-use Rattle.std.specs.List.{list_all}
-use Rattle.std.specs.Ordering.{nat_cmp, match_ordering, ordering_reverse}
-use Rattle.std.specs.Cmp.Lexicographic.{slice_cmp}
+use Rattle.std.specs.Ordering.{ordering_reverse}
 use Rattle.std.specs.FinMap.Entries.{is_sorted, below_all}
 use Rattle.json.specs.Token.{Token}
 use Rattle.json.specs.Lex.{tokens}
-use Rattle.json.specs.Print.{print, IsNumber}
+use Rattle.json.specs.Print.{IsNumber}
 use Rattle.json.specs.Word.{after_number}
 use Rattle.json.specs.Json as json
 use Rattle.json.specs.Tree.{json_tokens, HasNumbers, ItemsHaveNumbers, MembersHaveNumbers}
@@ -18,7 +16,7 @@ use Rattle.json.proofs.Printed.Decimals.{IsNumber-decimal, IsNumber-signed_decim
 use Rattle.json.proofs.Printed.Tokens.{tokens-print}
 use Rattle.json.proofs.Printed.Trees.{value-json_tokens, ArePrintable-json_tokens}
 use Rattle.serde_json.specs.Data.{Num, unsigned, negative, float, Data, null, boolean, number, string, array, object, Items, no_items, item, Members, no_members, member, put}
-use Rattle.serde_json.specs.Read.{read, of_json, of_items, of_members, number_of, max_depth}
+use Rattle.serde_json.specs.Read.{of_json, of_items, of_members, number_of, max_depth}
 use Rattle.serde_json.specs.Written.{outline, items_outline, members_outline, number_text, compact_text}
 use Rattle.serde_json.proofs.Numbers.{number_of-decimal, number_of-negative}
 use Rattle.serde_json.proofs.Texts.{print-outline}

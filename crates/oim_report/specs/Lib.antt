@@ -3,5 +3,6 @@ pub mod Parts
 pub mod Readable
 pub mod ReadableFact
 pub mod Nesting
+pub mod JsonValues
 pub mod ReadBack
 pub mod Pieces
