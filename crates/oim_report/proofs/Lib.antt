@@ -3,3 +3,4 @@ pub mod WrittenFacts
 pub mod WrittenPieces
 pub mod WrittenReports
 pub mod ReadFacts
+pub mod ReadBackInstances

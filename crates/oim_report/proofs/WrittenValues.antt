@@ -166,7 +166,7 @@ mutual
 -- ---- texts
 
 -- the tokens of a value are those of no other
-same_json : (i j : json.Json) → json_tokens i ≡ json_tokens j → i ≡ j
+pub same_json : (i j : json.Json) → json_tokens i ≡ json_tokens j → i ≡ j
 same_json i j h =
     let n = max (tree.depth i) (tree.depth j) in
     let one : json.value n (json_tokens i ++ []) ≡ Some (i, []) = value-json_tokens i n [] (omega arith) in
