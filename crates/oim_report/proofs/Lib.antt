@@ -1,3 +1,9 @@
+pub mod EachMember
+pub mod FactList
+pub mod Members
+pub mod Reports
+pub mod Whole
+pub mod Taken
 pub mod WrittenValues
 pub mod WrittenFacts
 pub mod WrittenPieces

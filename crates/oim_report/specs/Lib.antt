@@ -1,6 +1,7 @@
 pub mod Faults
 pub mod Parts
 pub mod Readable
+pub mod Readings
 pub mod ReadableFact
 pub mod Nesting
 pub mod JsonValues
