@@ -10,6 +10,8 @@ mod info;
 mod reading;
 mod report;
 mod table;
+#[cfg(test)]
+mod tests;
 mod values;
 
 pub use fact::raw_fact;
