@@ -14,6 +14,8 @@ mod reading;
 mod report;
 mod report_text;
 mod table;
+#[cfg(test)]
+mod tests;
 mod values;
 
 pub use fact::raw_fact;
