@@ -1,5 +1,5 @@
 -- A loop over the members of an object that reads them one by one.
-use Rattle.std.proofs.Common.{◌≡◌, ◌∙◌, ap, sym, List, [], ◌∷◌, ◌++◌, map, Option, Some, Result, Ok, Err, String, string_bytes, unwrap_or, is_some, true≢false}
+use Rattle.std.proofs.Common.{◌≡◌, ◌∙◌, ap, sym, List, [], ◌∷◌, ◌++◌, map, Some, Result, Ok, Err, String, string_bytes, unwrap_or, is_some, true≢false}
 use Rattle.std.proofs.lemmas.List.{map-append}
 use Rattle.std.specs.Result.{result_ok}
 use Rattle.std.specs.declared.alloc.Global.{Global}

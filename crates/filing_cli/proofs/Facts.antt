@@ -1,25 +1,18 @@
 -- A plain fact by its parts.
-use Rattle.std.proofs.Common.{◌≡◌, ◌∙◌, ap, sym, refl, Bool, true, false, cond, List, [], ◌∷◌, Option, None, Some, Result, Ok, Err, codes, String, string_bytes, ◌++◌, unwrap_or, is_some, true≢false}
-use Rattle.std.proofs.lemmas.List.{map-append}
+use Rattle.std.proofs.Common.{◌≡◌, ◌∙◌, refl, Bool, true, false, cond, List, Option, None, Some, Result, Ok, Err, codes}
 use Rattle.std.specs.Option.{option_and_then, ok_or}
 use Rattle.std.specs.Result.{result_ok}
 use Rattle.serde_json.specs.Data.{Data, null, boolean, number, string, array, object}
 use Rattle.serde_json.specs.Find.{get}
 use Rattle.filing_model.specs.Text.{Text}
-use Rattle.filing_model.specs.Try.{◌>>=◌, map_err, each, with_front}
-use Rattle.filing_model.specs.JsonText.{as_nullable, pairs}
+use Rattle.filing_model.specs.Try.{◌>>=◌, map_err}
+use Rattle.filing_model.specs.JsonText.{as_nullable}
 use Rattle.filing_model.specs.Dimensions.{Dims, dims_of}
 use Rattle.filing_model.specs.Facts.{RawFact}
-use Rattle.filing_model.specs.ReadFact.{dim_of, named_dims, decimals_of, links_of, raw_fact_of}
+use Rattle.filing_model.specs.ReadFact.{named_dims, decimals_of, links_of, raw_fact_of}
 use Rattle.filing_model.specs.declared.faults.DimFault.{DimFault}
 use Rattle.filing_model.specs.declared.faults.Trouble.{Trouble}
 use Rattle.filing_model.specs.declared.faults.Trouble.TheVariants as trouble
-use Rattle.std.specs.declared.alloc.Global.{Global}
-use Rattle.serde_json.specs.View.{view, members_view}
-use Rattle.serde_json.specs.declared.value.Value.{Value}
-use Rattle.filing_model.proofs.Tries.{each_more}
-use Rattle.oim_fact.specs.Dims.{dims_view}
-use Rattle.filing_cli.specs.Parts.{dim_view}
 use Rattle.filing_cli.specs.Reading.{plain_fact_of, is_plain_fact}
 use Rattle.filing_cli.proofs.Members.{no_third}
 

@@ -1,7 +1,6 @@
 -- Lemmas on the pieces of a text.
-use Rattle.std.specs.Prelude.{◌≡◌, List, ℕ, [], ◌∷◌, ◌++◌, codes, Option, string_bytes}
+use Rattle.std.specs.Prelude.{◌≡◌, List, ℕ, [], ◌∷◌, ◌++◌, codes, Option}
 use Rattle.std.proofs.Common.{append_assoc, ◌∙◌, ap, refl, ℤ, Some, None}
-use Rattle.std.specs.Fmt.{signed_decimal}
 use Rattle.std.proofs.lemmas.List.{append-nil}
 use Rattle.json.specs.Token.{string}
 use Rattle.json.specs.Print.{print, print_from, quoted}

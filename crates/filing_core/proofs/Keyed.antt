@@ -1,5 +1,5 @@
 -- What the contracts of `BTreeMap` say of the finite map that it is.
-use Rattle.std.proofs.Common.{◌≡◌, ◌∙◌, ap, sym, refl, subst, T, List, [], ◌∷◌, Option, Some, None, Bool, ◌&&◌, cond, true, false, is_some}
+use Rattle.std.proofs.Common.{◌≡◌, ◌∙◌, ap, sym, refl, subst, T, List, [], ◌∷◌, Some, Bool, ◌&&◌, cond, true, false, is_some}
 use Rattle.std.specs.Prelude.{String, string_bytes, option_map}
 use Rattle.std.specs.declared.alloc.Global.{Global}
 use Rattle.std.specs.declared.cmp.Ordering.{Ordering}

@@ -1,15 +1,14 @@
 -- Maps laid over one another, as functions.
-use Rattle.std.proofs.Common.{◌≡◌, ◌∙◌, ap, sym, refl, subst, T, List, [], ◌∷◌, ◌++◌, Option, Some, None, cond, true, false, Bool, ◌&&◌}
+use Rattle.std.proofs.Common.{◌≡◌, ◌∙◌, ap, sym, refl, subst, T, List, [], ◌∷◌, ◌++◌, Some, None, cond, true, false, Bool, ◌&&◌}
 use Rattle.std.specs.declared.cmp.Ordering.{Ordering}
 use Rattle.std.specs.declared.cmp.Ordering.TheVariants.{Less, Equal, Greater}
 use Rattle.std.specs.Ordering.{is_lt, is_eq}
 use Rattle.std.specs.Option.{option_or}
-use Rattle.std.specs.Cmp.{IsTotalOrder}
 use Rattle.std.specs.Cmp.Lexicographic.{nat_list_cmp_total}
 use Rattle.std.specs.FinMap.Entries.{find, put, is_sorted, below_all, by_order}
 use Rattle.filing_model.specs.Text.{Text, text_cmp, text_eq}
 use Rattle.filing_model.specs.TextMap.{TextMap, get, insert, from_entries}
-use Rattle.filing_model.proofs.TextMaps.{get-insert, same_list}
+use Rattle.filing_model.proofs.TextMaps.{get-insert}
 use Rattle.filing_core.specs.Laid.{laid, laid_entries}
 
 pub first : (a b : Bool) → T (a && b) → T a

@@ -1,5 +1,5 @@
 -- A version whose reports are made one by one from those of the version before.
-use Rattle.std.proofs.Common.{◌≡◌, ◌∙◌, ap, sym, refl, subst, T, List, [], ◌∷◌, Option, Some, None, Bool, ◌&&◌, cond, true, false, map}
+use Rattle.std.proofs.Common.{◌≡◌, ◌∙◌, ap, sym, refl, subst, T, List, [], ◌∷◌, Option, Some, None, ◌&&◌, cond, true, false, map}
 use Rattle.std.specs.Prelude.{String, string_bytes, option_map}
 use Rattle.std.specs.declared.alloc.Global.{Global}
 use Rattle.std.specs.Option.{option_or}
@@ -10,7 +10,7 @@ use Rattle.std.specs.List.Sorted.{IsStrictlySortedBy}
 use Rattle.std.specs.BTreeMap.{insert_entry}
 use Rattle.std.specs.FinMap.Entries.{find, is_sorted, below_all}
 use Rattle.filing_model.specs.Text.{Text, text_cmp, text_eq}
-use Rattle.filing_model.specs.TextMap.{TextMap, empty, get, insert, from_entries}
+use Rattle.filing_model.specs.TextMap.{TextMap, empty, get, insert}
 use Rattle.filing_model.specs.Reports.{Report}
 use Rattle.filing_model.proofs.TextMaps.{get-from_entries}
 use Rattle.filing_core.specs.Keyed.{keyed, keyed_map}

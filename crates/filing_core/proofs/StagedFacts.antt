@@ -1,5 +1,5 @@
 -- Staged facts after one more is staged.
-use Rattle.std.proofs.Common.{◌≡◌, ◌∙◌, ap, sym, refl, subst, List, Option, Some, None, Bool, cond, true, false, is_some}
+use Rattle.std.proofs.Common.{◌≡◌, ◌∙◌, ap, sym, refl, List, Some, cond, true, false, is_some}
 use Rattle.std.specs.Prelude.{String, string_bytes, option_map, unwrap_or}
 use Rattle.std.specs.declared.alloc.Global.{Global}
 use Rattle.std.specs.Map.{lookup, set_value}
@@ -9,7 +9,7 @@ use Rattle.filing_model.specs.TextMap.{TextMap, empty, get, insert}
 use Rattle.filing_model.specs.Facts.{Fact}
 use Rattle.filing_model.proofs.TextMaps.{get-insert, same_map}
 use Rattle.filing_core.specs.Keyed.{keyed_map}
-use Rattle.filing_core.specs.Staged.{StagedFacts, staged_in, staged_with}
+use Rattle.filing_core.specs.Staged.{staged_with}
 use Rattle.filing_core.proofs.Keyed.{get_keyed_map, keyed_map-set_value, same_text}
 
 -- to put in what is there changes nothing

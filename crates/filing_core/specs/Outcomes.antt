@@ -1,5 +1,5 @@
 -- What the open session is told, in terms of the current version and of what it has staged.
-use Rattle.std.specs.Prelude.{cond, Option, Some, None, Result, Ok, Err, is_some}
+use Rattle.std.specs.Prelude.{cond, Option, Result, Ok, Err, is_some}
 use Rattle.std.specs.Option.{option_or, option_map_or}
 use Rattle.filing_model.specs.Text.{Text}
 use Rattle.filing_model.specs.Facts.{Fact, RawFact, fit_of}

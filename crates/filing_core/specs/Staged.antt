@@ -1,5 +1,5 @@
 -- The facts that a session has staged, by report and identifier, and what a report is with them laid over it.
-use Rattle.std.specs.Prelude.{ℕ, ◌+◌, Option, Some, None, option_and_then, option_map, unwrap_or, ◌≡◌}
+use Rattle.std.specs.Prelude.{◌+◌, Option, option_map, unwrap_or, ◌≡◌}
 use Rattle.filing_model.specs.Text.{Text}
 use Rattle.filing_model.specs.TextMap.{TextMap, empty, get, insert}
 use Rattle.filing_model.specs.Facts.{Fact}

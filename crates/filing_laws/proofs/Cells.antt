@@ -19,7 +19,8 @@ use Rattle.filing_model.specs.declared.duplicates.Pair.TheVariants as pair
 use Rattle.filing_laws.specs.Obeying.{is_allowed, ObeysWhereEachCellIsAllowed, ObeysWhereNoCellIsDisallowed, LeastDisallowedIsTheLeast, RepositoryObeysWhereNotRefused}
 use Rattle.filing_laws.proofs.Each.{Each, neither}
 use Rattle.filing_laws.proofs.Equal.{dims_same, dims_eq_itself, dims_total}
-use Rattle.filing_laws.proofs.Classes.{AreTogether, allows-class_by, empty_is_allowed, pairs_filter, shut}
+use Rattle.filing_laws.proofs.Classes.{AreTogether, allows-class_by, empty_is_allowed, shut}
+use Rattle.filing_model.proofs.EveryPair.{pairs_filter}
 
 -- ---- the pairs of a cell
 

@@ -1,45 +1,15 @@
 -- A class is allowed exactly where each pair of its cell is.
-use Rattle.std.proofs.Common.{◌≡◌, ◌∙◌, ap, sym, refl, Bool, true, false, cond, not, ◌&&◌, ◌||◌, List, [], ◌∷◌, filter, true≢false}
+use Rattle.std.proofs.Common.{◌≡◌, ◌∙◌, ap, sym, refl, Bool, true, false, cond, not, ◌&&◌, ◌||◌, List, [], ◌∷◌, true≢false}
 use Rattle.std.specs.List.{list_all}
-use Rattle.std.proofs.lemmas.Bool.{and_parts, and_from}
+use Rattle.std.proofs.lemmas.Bool.{and_parts}
 use Rattle.filing_model.specs.Duplicates.{every_pair, is_apart, is_complete, is_consistent, class_by, allows, permits}
+use Rattle.filing_model.proofs.EveryPair.{pairs_same, pairs_implied, pairs_always}
 use Rattle.filing_model.specs.declared.duplicates.Allowed.{Allowed}
 use Rattle.filing_model.specs.declared.duplicates.Allowed.TheVariants as allowed
 use Rattle.filing_model.specs.declared.duplicates.Class.{Class}
 use Rattle.filing_model.specs.declared.duplicates.Class.TheVariants as class
 use Rattle.filing_model.specs.declared.duplicates.Pair.{Pair}
 use Rattle.filing_model.specs.declared.duplicates.Pair.TheVariants as pair
-
--- ---- every pair
-
-pub all_same : {A : Type 0} (f g h : A → Bool) → ((x : A) → f x ≡ true → g x ≡ h x) → (xs : List A) → list_all f xs ≡ true → list_all g xs ≡ list_all h xs
-all_same f g h same [] holds = refl
-all_same f g h same (x ∷ xs) holds =
-    let parts = and_parts (f x) (list_all f xs) holds in
-    λ i. same x parts.0 i && all_same f g h same xs parts.1 i
-
-pub pairs_same : {A : Type 0} (f g h : A → A → Bool) → ((x y : A) → f x y ≡ true → g x y ≡ h x y) → (xs : List A) → every_pair f xs ≡ true → every_pair g xs ≡ every_pair h xs
-pairs_same f g h same [] holds = refl
-pairs_same f g h same (x ∷ xs) holds =
-    let parts = and_parts (list_all (f x) xs) (every_pair f xs) holds in
-    λ i. all_same (f x) (g x) (h x) (same x) xs parts.0 i && pairs_same f g h same xs parts.1 i
-
-pub all_filter : {A : Type 0} (f p : A → Bool) (xs : List A) → list_all f xs ≡ true → list_all f (filter p xs) ≡ true
-all_filter f p [] holds = refl
-all_filter f p (x ∷ xs) holds =
-    let parts = and_parts (f x) (list_all f xs) holds in
-    let rest = all_filter f p xs parts.1 in
-    elim (p x) as (λ b. list_all f (cond b (x ∷ filter p xs) (filter p xs)) ≡ true) [ true ↦ and_from (f x) (list_all f (filter p xs)) parts.0 rest | false ↦ rest ]
-
-pub pairs_filter : {A : Type 0} (f : A → A → Bool) (p : A → Bool) (xs : List A) → every_pair f xs ≡ true → every_pair f (filter p xs) ≡ true
-pairs_filter f p [] holds = refl
-pairs_filter f p (x ∷ xs) holds =
-    let parts = and_parts (list_all (f x) xs) (every_pair f xs) holds in
-    let rest = pairs_filter f p xs parts.1 in
-    elim (p x) as (λ b. every_pair f (cond b (x ∷ filter p xs) (filter p xs)) ≡ true) [
-      | true ↦ and_from (list_all (f x) (filter p xs)) (every_pair f (filter p xs)) (all_filter (f x) p xs parts.0) rest
-      | false ↦ rest
-    ]
 
 -- ---- the class of a cell
 
@@ -48,14 +18,6 @@ implied pair.Apart e = absurd (true≢false (sym e))
 implied pair.Complete e = refl
 implied pair.Consistent e = refl
 implied pair.Inconsistent e = absurd (true≢false (sym e))
-
-all_true : {A : Type 0} (xs : List A) → list_all (λ (x : A). true) xs ≡ true
-all_true [] = refl
-all_true (x ∷ xs) = all_true xs
-
-every_true : {A : Type 0} (xs : List A) → every_pair (λ (x y : A). true) xs ≡ true
-every_true [] = refl
-every_true (x ∷ xs) = and_from (list_all (λ y. true) xs) (every_pair (λ x y. true) xs) (all_true xs) (every_true xs)
 
 pub shut : (b : Bool) → not b ≡ true → b ≡ false
 shut true e = absurd (true≢false (sym e))
@@ -105,18 +67,6 @@ empty_is_allowed allowed.Complete = refl
 empty_is_allowed allowed.Consistent = refl
 empty_is_allowed allowed.All = refl
 
-all_implied : {A : Type 0} (f g : A → Bool) → ((x : A) → f x ≡ true → g x ≡ true) → (xs : List A) → list_all f xs ≡ true → list_all g xs ≡ true
-all_implied f g follows [] holds = refl
-all_implied f g follows (x ∷ xs) holds =
-    let parts = and_parts (f x) (list_all f xs) holds in
-    and_from (g x) (list_all g xs) (follows x parts.0) (all_implied f g follows xs parts.1)
-
-pairs_implied : {A : Type 0} (f g : A → A → Bool) → ((x y : A) → f x y ≡ true → g x y ≡ true) → (xs : List A) → every_pair f xs ≡ true → every_pair g xs ≡ true
-pairs_implied f g follows [] holds = refl
-pairs_implied f g follows (x ∷ xs) holds =
-    let parts = and_parts (list_all (f x) xs) (every_pair f xs) holds in
-    and_from (list_all (g x) xs) (every_pair g xs) (all_implied (f x) (g x) (follows x) xs parts.0) (pairs_implied f g follows xs parts.1)
-
 module _ {A : Type 0} (pairing : A → A → Pair) where
   abbrev pub AreTogether : List A → Type 0
   AreTogether xs = every_pair (λ x y. not (is_apart (pairing x y))) xs ≡ true
@@ -133,7 +83,7 @@ module _ {A : Type 0} (pairing : A → A → Pair) where
       ∙ sym (ap (λ b. (b && list_all (λ z. is_apart (pairing x z)) xs) && every_pair (λ x y. is_apart (pairing x y)) (y ∷ xs)) (first_not_apart x y xs together))
   several allowed.All x y xs together =
       all_allows (every_pair (λ x y. is_complete (pairing x y)) (x ∷ y ∷ xs)) (every_pair (λ x y. is_consistent (pairing x y)) (x ∷ y ∷ xs)) (every_pair (λ x y. not (is_apart (pairing x y))) (x ∷ y ∷ xs)) together
-      ∙ sym (every_true (x ∷ y ∷ xs))
+      ∙ sym (pairs_always (λ x y. true) (λ x y. refl) (x ∷ y ∷ xs))
   several allowed.Complete x y xs together =
       complete_allows (every_pair (λ x y. is_complete (pairing x y)) (x ∷ y ∷ xs)) (every_pair (λ x y. is_consistent (pairing x y)) (x ∷ y ∷ xs)) (every_pair (λ x y. not (is_apart (pairing x y))) (x ∷ y ∷ xs))
       ∙ sym (pairs_same (λ x y. not (is_apart (pairing x y))) (λ x y. is_apart (pairing x y) || is_complete (pairing x y)) (λ x y. is_complete (pairing x y))

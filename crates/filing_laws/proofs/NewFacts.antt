@@ -23,7 +23,7 @@ use Rattle.filing_laws.specs.Obeying.{is_allowed}
 use Rattle.filing_laws.specs.NetChange.{with_facts, laid_over, new_facts, IsDisallowedCell, find_map, least_among, first_disallowed, least_disallowed_of, refusal_at, IsDecidedByNewFacts, EachDisallowedCellHoldsANewFact, EachDisallowedCellOfACopyHoldsANewFact, EachChangeIsDecidedByItsNewFacts, EachCopyIsDecidedByItsNewFacts}
 use Rattle.filing_laws.proofs.Each.{Each, OnEach, IsNever, never_parts}
 use Rattle.filing_laws.proofs.Equal.{text_tied, dims_same, dims_tied, dims_total}
-use Rattle.filing_laws.proofs.Classes.{pairs_filter}
+use Rattle.filing_model.proofs.EveryPair.{pairs_filter}
 use Rattle.filing_laws.proofs.Those.{only, those_same}
 use Rattle.filing_laws.proofs.Changes.{each_found, ids_at}
 use Rattle.filing_laws.proofs.Cells.{has_these, passes_each, kept_where_passed, nothing_least, disallowed_is_there, entries_allowed, each_has, least_of, obeys_where_each_cell_is_allowed, obeys_where_no_cell_is_disallowed}

@@ -16,6 +16,7 @@ use Rattle.filing_model.specs.declared.duplicates.Class.TheVariants as class
 use Rattle.filing_model.specs.declared.duplicates.Pair.{Pair}
 use Rattle.filing_model.specs.declared.duplicates.Pair.TheVariants as pair
 use Rattle.filing_model.proofs.Tests.{both, all_hold, is_false}
+use Rattle.filing_model.proofs.EveryPair.{all_implied, pairs_implied, pairs_filter, pairs_always}
 
 -- ---- dimensions
 
@@ -31,39 +32,9 @@ same_dims d e f p q = ap is_eq (sym (dims_total.congr d e f ((Equal-is (dims_cmp
 -- ---- lists
 
 module _ {A : Type 0} where
-  list_all_weaker : (p q : A → Bool) → ((x : A) → p x ≡ true → q x ≡ true) → (xs : List A) → list_all p xs ≡ true → list_all q xs ≡ true
-  list_all_weaker p q weaker [] e = refl
-  list_all_weaker p q weaker (x ∷ xs) e = let t = both (p x) (list_all p xs) e in all_hold (q x) (list_all q xs) (weaker x t.0) (list_all_weaker p q weaker xs t.1)
-
   list_all_same : (p q : A → Bool) → ((x : A) → p x ≡ q x) → (xs : List A) → list_all p xs ≡ list_all q xs
   list_all_same p q same [] = refl
   list_all_same p q same (x ∷ xs) = ap (λ b. b && list_all p xs) (same x) ∙ ap (λ b. q x && b) (list_all_same p q same xs)
-
-  list_all_filter : (p q : A → Bool) (xs : List A) → list_all p xs ≡ true → list_all p (filter q xs) ≡ true
-  list_all_filter p q [] e = refl
-  list_all_filter p q (x ∷ xs) e =
-      let t = both (p x) (list_all p xs) e in
-      let rest = list_all_filter p q xs t.1 in
-      elim (q x) as (λ b. list_all p (cond b (x ∷ filter q xs) (filter q xs)) ≡ true) [ true ↦ all_hold (p x) (list_all p (filter q xs)) t.0 rest | false ↦ rest ]
-
-  every_pair_filter : (test : A → A → Bool) (q : A → Bool) (xs : List A) → every_pair test xs ≡ true → every_pair test (filter q xs) ≡ true
-  every_pair_filter test q [] e = refl
-  every_pair_filter test q (x ∷ xs) e =
-      let t = both (list_all (test x) xs) (every_pair test xs) e in
-      let rest = every_pair_filter test q xs t.1 in
-      elim (q x) as (λ b. every_pair test (cond b (x ∷ filter q xs) (filter q xs)) ≡ true) [ true ↦ all_hold (list_all (test x) (filter q xs)) (every_pair test (filter q xs)) (list_all_filter (test x) q xs t.0) rest | false ↦ rest ]
-
-  every_pair_weaker : (s t : A → A → Bool) → ((x y : A) → s x y ≡ true → t x y ≡ true) → (xs : List A) → every_pair s xs ≡ true → every_pair t xs ≡ true
-  every_pair_weaker s t weaker [] e = refl
-  every_pair_weaker s t weaker (x ∷ xs) e = let b = both (list_all (s x) xs) (every_pair s xs) e in all_hold (list_all (t x) xs) (every_pair t xs) (list_all_weaker (s x) (t x) (weaker x) xs b.0) (every_pair_weaker s t weaker xs b.1)
-
-  every_pair_always : (test : A → A → Bool) → ((x y : A) → test x y ≡ true) → (xs : List A) → every_pair test xs ≡ true
-  every_pair_always test always [] = refl
-  every_pair_always test always (x ∷ xs) = all_hold (list_all (test x) xs) (every_pair test xs) (each xs) (every_pair_always test always xs)
-    where
-      each : (ys : List A) → list_all (test x) ys ≡ true
-      each [] = refl
-      each (y ∷ ys) = all_hold (test x y) (list_all (test x) ys) (always x y) (each ys)
 
   -- a list none of whose elements is kept
   none_kept : (q : A → Bool) (xs : List A) → list_all (λ x. not (q x)) xs ≡ true → filter q xs ≡ []
@@ -83,7 +54,7 @@ of_texts : (b : Bool) → is_apart (cond b pair.Complete pair.Inconsistent) ≡ 
 of_texts true = refl
 of_texts false = refl
 
-values_are_not_apart : (v w : FactValue) → is_apart (value_pair v w) ≡ false
+pub values_are_not_apart : (v w : FactValue) → is_apart (value_pair v w) ≡ false
 values_are_not_apart Nil Nil = refl
 values_are_not_apart Nil (Written t) = refl
 values_are_not_apart Nil (Number t m e) = refl
@@ -214,7 +185,7 @@ cell_is_allowed a [] e = (few_are_allowed a).0
 cell_is_allowed a (f ∷ []) e = (few_are_allowed a).1
 cell_is_allowed allowed.All (f ∷ g ∷ facts) e =
     by_all (every_pair (λ f g. is_complete (pair_of f g)) (f ∷ g ∷ facts)) (every_pair (λ f g. is_consistent (pair_of f g)) (f ∷ g ∷ facts)) (every_pair together (f ∷ g ∷ facts)) e
-    ∙ sym (every_pair_always (λ f g. true) (λ f g. refl) (f ∷ g ∷ facts))
+    ∙ sym (pairs_always (λ f g. true) (λ f g. refl) (f ∷ g ∷ facts))
 cell_is_allowed allowed.Never (f ∷ g ∷ facts) e =
     by_never (every_pair (λ f g. is_complete (pair_of f g)) (f ∷ g ∷ facts)) (every_pair (λ f g. is_consistent (pair_of f g)) (f ∷ g ∷ facts)) (every_pair together (f ∷ g ∷ facts))
     ∙ sym (some_pair f g facts e)
@@ -222,14 +193,14 @@ cell_is_allowed allowed.Complete (f ∷ g ∷ facts) e =
     let cell = f ∷ g ∷ facts in
     by_complete (every_pair (λ f g. is_complete (pair_of f g)) cell) (every_pair (λ f g. is_consistent (pair_of f g)) cell) (every_pair together cell)
     ∙ both_ways (every_pair (λ f g. is_complete (pair_of f g)) cell) (every_pair (permitted allowed.Complete) cell)
-    (every_pair_weaker (λ f g. is_complete (pair_of f g)) (permitted allowed.Complete) (λ f g h. either (is_apart (pair_of f g)) (is_complete (pair_of f g)) h) cell)
+    (pairs_implied (λ f g. is_complete (pair_of f g)) (permitted allowed.Complete) (λ f g h. either (is_apart (pair_of f g)) (is_complete (pair_of f g)) h) cell)
     (every_pair_given together (permitted allowed.Complete) (λ f g. is_complete (pair_of f g)) (λ f g n h. permitted_complete (pair_of f g) n h) cell e)
 cell_is_allowed allowed.Consistent (f ∷ g ∷ facts) e =
     let cell = f ∷ g ∷ facts in
     by_consistent (every_pair (λ f g. is_complete (pair_of f g)) cell) (every_pair (λ f g. is_consistent (pair_of f g)) cell) (every_pair together cell)
-    (every_pair_weaker (λ f g. is_complete (pair_of f g)) (λ f g. is_consistent (pair_of f g)) (λ f g h. complete_is_consistent (pair_of f g) h) cell)
+    (pairs_implied (λ f g. is_complete (pair_of f g)) (λ f g. is_consistent (pair_of f g)) (λ f g h. complete_is_consistent (pair_of f g) h) cell)
     ∙ both_ways (every_pair (λ f g. is_consistent (pair_of f g)) cell) (every_pair (permitted allowed.Consistent) cell)
-    (every_pair_weaker (λ f g. is_consistent (pair_of f g)) (permitted allowed.Consistent) (λ f g h. either (is_apart (pair_of f g)) (is_consistent (pair_of f g)) h) cell)
+    (pairs_implied (λ f g. is_consistent (pair_of f g)) (permitted allowed.Consistent) (λ f g h. either (is_apart (pair_of f g)) (is_consistent (pair_of f g)) h) cell)
     (every_pair_given together (permitted allowed.Consistent) (λ f g. is_consistent (pair_of f g)) (λ f g n h. permitted_consistent (pair_of f g) n h) cell e)
 
 -- ---- all pairs of a report, cell by cell
@@ -263,12 +234,12 @@ from_cells test other (f ∷ facts) e =
     let first = (both (list_all (test f) (filter (has_dims f.dims) facts)) (every_pair test (filter (has_dims f.dims) facts)) cell).0 in
     all_hold (list_all (test f) facts) (every_pair test facts)
     (others_pass test other f facts first)
-    (from_cells test other facts (list_all_weaker (within_cell test (f ∷ facts)) (within_cell test facts) (behind test f facts) (map (λ f. f.dims) facts) t.1))
+    (from_cells test other facts (all_implied (within_cell test (f ∷ facts)) (within_cell test facts) (behind test f facts) (map (λ f. f.dims) facts) t.1))
 
 to_cells : (test : Fact → Fact → Bool) (facts : List Fact) (dims : List Dims) → every_pair test facts ≡ true → list_all (within_cell test facts) dims ≡ true
 unfolding within_cell
 to_cells test facts [] e = refl
-to_cells test facts (d ∷ dims) e = all_hold (within_cell test facts d) (list_all (within_cell test facts) dims) (every_pair_filter test (has_dims d) facts e) (to_cells test facts dims e)
+to_cells test facts (d ∷ dims) e = all_hold (within_cell test facts d) (list_all (within_cell test facts) dims) (pairs_filter test (has_dims d) facts e) (to_cells test facts dims e)
 
 apart_is_permitted : (a : Allowed) → permits a pair.Apart ≡ true
 apart_is_permitted allowed.Never = refl

@@ -8,6 +8,7 @@ pub mod Tries
 pub mod JsonTexts
 pub mod Examples
 pub mod Tests
+pub mod EveryPair
 pub mod ByPairs
 pub mod NextReply
 pub mod OnLiterals
@@ -15,4 +16,5 @@ pub mod Trimming
 pub mod Numerals
 pub mod Bounds
 pub mod DisallowedCells
+pub mod MixedFacts
 pub mod Intervals

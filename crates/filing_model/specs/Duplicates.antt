@@ -1,6 +1,6 @@
 -- Duplicate facts (Open Information Model 1.0, `xbrl:allowedDuplicates`). Which pairs are complete, consistent or inconsistent is the project's own.
 use Rattle.std.specs.Prelude.{◌≡◌, ◌↔◌, IsTrue, Bool, true, false, cond, not, ◌&&◌, ◌||◌, List, [], ◌∷◌, map, ℤ, Option, Some, None}
-use Rattle.std.specs.List.{list_all, filter, fold}
+use Rattle.std.specs.List.{list_all, filter, fold, AllPairs}
 use Rattle.std.specs.Option.{option_eq}
 use Rattle.std.specs.Ordering.{int_eq, ord_min}
 use Rattle.filing_model.specs.Text.{Text, text_eq}
@@ -126,3 +126,7 @@ least_disallowed a entries = least_dims (disallowed_dims a (facts_of entries))
 
 abbrev pub ObeysWhereNoCellIsDisallowed : Type 0
 ObeysWhereNoCellIsDisallowed = (a : Allowed) (entries : List (Text × Fact)) → IsTrue (obeys a entries) ↔ (least_disallowed a entries ≡ None)
+
+-- facts are mixed exactly where not every two have the same dimensions
+abbrev pub MixedWhereDimensionsDiffer : Type 0
+MixedWhereDimensionsDiffer = (facts : List Fact) → (class_of facts ≡ class.Mixed) ↔ (¬ AllPairs (λ f g. f.dims ≡ g.dims) facts)

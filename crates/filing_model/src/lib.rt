@@ -19,9 +19,9 @@ pub use fact_laws::{
 pub use faults::{DimFault, FactFault, NamesFault, NumberFault, TableFault, Trouble};
 pub use kind::Kind;
 pub use number_laws::{
-    intervals_hold_what_is_near, intervals_meet_where_a_number_is_shared,
-    long_spellings_are_too_large, numbers_are_bounded, numbers_have_their_interval,
-    only_spellings_are_numbers, reports_obey_where_no_cell_is_disallowed,
-    short_spellings_have_their_number,
+    facts_are_mixed_where_dimensions_differ, intervals_hold_what_is_near,
+    intervals_meet_where_a_number_is_shared, long_spellings_are_too_large, numbers_are_bounded,
+    numbers_have_their_interval, only_spellings_are_numbers,
+    reports_obey_where_no_cell_is_disallowed, short_spellings_have_their_number,
 };
 pub use text::is_same_text;

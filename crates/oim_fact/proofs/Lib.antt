@@ -4,3 +4,6 @@ pub mod ComparedDims
 pub mod SearchedEntries
 pub mod NumericRows
 pub mod NamedRows
+pub mod CommonNumbers
+pub mod ValuePairs
+pub mod Tallying

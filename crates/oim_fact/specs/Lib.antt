@@ -3,3 +3,5 @@ pub mod Dims
 pub mod Tables
 pub mod Names
 pub mod Facts
+pub mod Tallies
+pub mod SharedFacts

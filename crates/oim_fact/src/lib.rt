@@ -3,16 +3,25 @@
 //! It knows nothing of JSON, of reports as a whole, or of versions.
 #![tactic(auto)]
 
+#[cfg(test)]
+mod class_tests;
+mod classes;
 mod compared_dims;
 mod dims;
 mod fact;
 mod fitting;
 mod names;
+mod pairs;
 mod table;
+mod tally;
+#[cfg(test)]
+mod tests;
 
+pub use classes::{class_of, class_over};
 pub use dims::DimSet;
 pub use fact::{Fact, FactValue, RawFact};
-pub use filing_model::{Allowed, Class, DimFault, FactFault, NamesFault, Pair};
+pub use filing_model::{Allowed, Class, DimFault, FactFault, NamesFault, Pair, allows};
 pub use fitting::fit;
 pub use names::Names;
+pub use pairs::compare;
 pub use table::NumericTable;

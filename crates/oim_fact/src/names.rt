@@ -8,6 +8,7 @@ ghost use Rattle.oim_fact.specs.Names.{names_of, text_in, column};
 
 use crate::table::NumericTable;
 use filing_model::{NamesFault, is_same_text};
+use std::alloc::AllocError;
 use std::marker::Model;
 use std::sync::Arc;
 
@@ -32,6 +33,21 @@ impl Model for Names {
     ghost view = { λ n. record { prefixes = from_entries (rows_view n.prefixes.items); table = arc_value n.table } };
 
     ghost invariant = { λ n. T (is_sorted text_cmp (rows_view n.prefixes.items)) };
+}
+
+impl Clone for Names {
+    ghost is_clone = { λ old new. new ≡ old };
+
+    fn clone(&self) -> Result<Names, AllocError> {
+        let mut prefixes = Vec::with_capacity(*self.prefixes.allocator(), self.prefixes.len())?;
+        for (prefix, uri) in &self.prefixes {
+            prefixes.push((prefix.clone()?, uri.clone()?))?;
+        }
+        Ok(Names {
+            prefixes,
+            table: self.table.clone()?,
+        })
+    }
 }
 
 /// Which text of a prefix and its URI.

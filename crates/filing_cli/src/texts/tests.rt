@@ -1,5 +1,5 @@
 //! The lines of replies, beside what the formats say of them.
-use super::facts::{push_dims, push_links, push_value};
+use super::facts::{push_dims, push_fact, push_links, push_value};
 use super::pieces::push_quoted;
 use super::{
     bad_fact_reply, bad_line_reply, name_in_use_reply, no_session_reply, reply_text,
@@ -7,7 +7,9 @@ use super::{
 };
 use filing_core::Reply;
 use filing_model::{DimFault, FactFault, Trouble};
-use oim_fact::FactValue;
+use oim_fact::{DimSet, Fact, FactValue};
+use oim_value::{Accuracy, Decimal};
+use std::alloc::Global;
 use std::test::Fail;
 
 #[test]
@@ -80,6 +82,45 @@ fn parts_of_a_fact_are_written(rt: HostRuntime) -> Result<(), Fail> {
     assert_eq!(rt;
         out.as_str(),
         "{\"concept\":\"ex:Name\",\"ex:d\":null},\"links\":{\"a\":1}null\"Acme\""
+    );
+    Ok(())
+}
+
+// A fact of one concept with this value.
+fn fact_with(alloc: Global, value: FactValue) -> Result<Fact, Fail> {
+    let concept = String::from_str(alloc, "concept")?;
+    let assets = String::from_str(alloc, "ex:Assets")?;
+    let mut pairs = Vec::new(alloc);
+    pairs.push((concept, Some(assets)))?;
+    Ok(Fact {
+        dims: DimSet::of(pairs)?,
+        value,
+        links: None,
+    })
+}
+
+// The fact of a thousand, written.
+fn thousand(alloc: Global, decimals: Option<i64>) -> Result<String, Fail> {
+    let value = FactValue::Number {
+        text: String::from_str(alloc, " 1000.0")?,
+        value: Decimal::read("1000")?,
+        accuracy: Accuracy::of(decimals)?,
+    };
+    let mut out = String::new(alloc);
+    push_fact(&mut out, &fact_with(alloc, value)?)?;
+    Ok(out)
+}
+
+// A number keeps its text as it was read, and its decimals where it is not exact.
+#[test]
+fn numbers_are_written_as_they_were_read(rt: HostRuntime) -> Result<(), Fail> {
+    assert_eq!(rt;
+        thousand(rt.alloc(), Some(-3))?.as_str(),
+        "{\"decimals\":-3,\"dimensions\":{\"concept\":\"ex:Assets\"},\"value\":\" 1000.0\"}"
+    );
+    assert_eq!(rt;
+        thousand(rt.alloc(), None)?.as_str(),
+        "{\"dimensions\":{\"concept\":\"ex:Assets\"},\"value\":\" 1000.0\"}"
     );
     Ok(())
 }

@@ -1,4 +1,3 @@
-use Rattle.std.proofs.Common.{refl}
 use Rattle.filing_cli.proofs.Scripts.{script_ended, script_stopped, stopped_at_once}
 use Rattle.filing_cli.proofs.script.run_script.Goals as goal
 

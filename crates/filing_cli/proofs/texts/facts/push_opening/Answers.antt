@@ -1,4 +1,4 @@
-use Rattle.std.proofs.Common.{◌≡◌, ◌∙◌, ◌++◌, ap, sym, codes, string_bytes, Some}
+use Rattle.std.proofs.Common.{◌∙◌, ◌++◌, ap, sym, codes, string_bytes}
 use Rattle.std.specs.Fmt.{signed_decimal}
 use Rattle.filing_cli.specs.Parts.{opening_text}
 use Rattle.filing_cli.proofs.Pieces.{three_pieces}

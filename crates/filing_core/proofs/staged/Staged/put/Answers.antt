@@ -1,8 +1,7 @@
-use Rattle.std.proofs.Common.{◌≡◌, ◌∙◌, ap, Result, Ok, Err, OnOk, OnErr}
+use Rattle.std.proofs.Common.{◌∙◌, ap, Result, Ok, Err, OnOk, OnErr}
 use Rattle.std.specs.Prelude.{string_bytes}
 use Rattle.std.specs.Arc.{arc_value}
-use Rattle.filing_model.specs.TextMap.{TextMap}
-use Rattle.filing_core.specs.Staged.{StagedFacts, staged_with}
+use Rattle.filing_core.specs.Staged.{staged_with}
 use Rattle.filing_core.proofs.StagedFacts.{staged_more, staged_same}
 use Rattle.filing_core.proofs.staged.Staged.put.Goals as goal
 
