@@ -3,6 +3,7 @@ pub mod FactList
 pub mod Members
 pub mod Reports
 pub mod Whole
+pub mod TableLines
 pub mod Taken
 pub mod WrittenValues
 pub mod WrittenFacts

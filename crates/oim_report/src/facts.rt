@@ -1,8 +1,9 @@
 //! The facts of a report as JSON says them.
 
-ghost use Rattle.std.specs.Prelude.{◌≡◌, T, Option, option_map, string_bytes, IfOk};
+ghost use Rattle.std.specs.Prelude.{◌≡◌, T, codes, Option, option_map, string_bytes, IfOk};
 ghost use Rattle.std.specs.Arc.{arc_value};
 ghost use Rattle.std.specs.FinMap.Entries.{is_sorted};
+ghost use Rattle.serde_json.specs.Find.{get};
 ghost use Rattle.serde_json.specs.View.{view, members_view};
 ghost use Rattle.filing_model.specs.Text.{text_cmp};
 ghost use Rattle.filing_model.specs.TextMap.{from_entries};
@@ -71,6 +72,20 @@ fn entry(
     }
 }
 
+/// The same of members that stay.
+fn entry_copied(
+    alloc: Global,
+    names: &Names,
+    id: &String,
+    value: &Value,
+) -> Result<(String, Arc<Fact>), ReportFault>
+    ensures entry { Gives report_fault fact_view result (entry_of names.now (string_bytes id.now, view value.now)) }
+    ensures dims { IfOk result (λ e. AreDims (arc_value e.1).dims) }
+    ensures fitted { IfOk result (λ e. IsFitted names.now (arc_value e.1)) }
+{
+    entry(alloc, names, id.clone()?, value.clone()?)
+}
+
 /// The facts that these members are, each under its identifier.
 fn facts_in(
     alloc: Global,
@@ -103,6 +118,42 @@ pub(crate) fn facts(
     };
     match members_of(value) {
         Some(members) => facts_in(alloc, names, members),
+        None => Err(ReportFault::WrongShape),
+    }
+}
+
+/// The facts that these members are, of which one value at a time is copied.
+fn facts_among(
+    alloc: Global,
+    names: &Names,
+    members: &Map<String, Value>,
+) -> Result<Vec<(String, Arc<Fact>)>, ReportFault>
+    ensures facts { Gives report_fault (λ v. facts_view v.items) result (each (entry_of names.now) (pairs (members_view members.now.entries))) }
+    ensures rise { IfOk result (λ v. T (is_sorted text_cmp (facts_view v.items))) }
+    ensures fitted { IfOk result (λ v. AreFitted names.now (facts_view v.items)) }
+{
+    let mut facts = Vec::with_capacity(alloc, members.len())?;
+    for (id, value) in members {
+        facts.push(entry_copied(alloc, names, id, value)?)?;
+    }
+    Ok(facts)
+}
+
+/// The facts of a report, which keeps its member `facts`.
+pub(crate) fn facts_at(
+    alloc: Global,
+    names: &Names,
+    value: &Value,
+) -> Result<Vec<(String, Arc<Fact>)>, ReportFault>
+    ensures facts { Gives report_fault (λ v. from_entries (facts_view v.items)) result (facts_of names.now (get (codes "facts") (view value.now))) }
+    ensures rise { IfOk result (λ v. T (is_sorted text_cmp (facts_view v.items))) }
+    ensures fitted { IfOk result (λ v. AreFitted names.now (facts_view v.items)) }
+{
+    let Some(member) = value.get("facts") else {
+        return Ok(Vec::new(alloc));
+    };
+    match member.as_object() {
+        Some(members) => facts_among(alloc, names, members),
         None => Err(ReportFault::WrongShape),
     }
 }

@@ -13,6 +13,9 @@ mod read_back;
 mod reading;
 mod report;
 mod report_text;
+mod table;
+#[cfg(test)]
+mod tests;
 mod values;
 
 pub use fact::raw_fact;
@@ -27,4 +30,5 @@ pub use read_back::{
 pub use reading::{read_report, report_of};
 pub use report::{Report, ReportParts};
 pub use report_text::{push_report, write_report};
+pub use table::read_table;
 pub use values::json_value;

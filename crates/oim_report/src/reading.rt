@@ -1,23 +1,26 @@
 //! Whole reports as JSON says them.
 
-ghost use Rattle.std.specs.Prelude.{◌≡◌, codes, Option, option_map, IfOk};
+ghost use Rattle.std.specs.Prelude.{◌≡◌, T, codes, Option, option_map, IfOk};
+ghost use Rattle.std.specs.FinMap.Entries.{is_sorted};
 ghost use Rattle.std.specs.Arc.{arc_value};
 ghost use Rattle.serde_json.specs.Find.{get};
 ghost use Rattle.serde_json.specs.View.{view};
+ghost use Rattle.filing_model.specs.Text.{text_cmp};
+ghost use Rattle.filing_model.specs.TextMap.{from_entries};
 ghost use Rattle.filing_model.specs.Try.{Gives};
 ghost use Rattle.filing_model.specs.ReadReport.{read_report_of, report_of};
 ghost use Rattle.oim_report.specs.Faults.{report_fault};
-ghost use Rattle.oim_report.specs.Parts.{IsInfo};
-ghost use Rattle.oim_report.specs.Readable.{IsReadable};
+ghost use Rattle.oim_report.specs.Parts.{IsInfo, facts_view};
+ghost use Rattle.oim_report.specs.Readable.{AreFitted, IsReadable};
 ghost use Rattle.oim_report.specs.Readings.{declared_by, report_at, same};
 
-use crate::facts::facts;
+use crate::facts::{facts, facts_at};
 use crate::fault::ReportFault;
 use crate::info::{allowed, document_info, info_text, names};
 use crate::report::{Report, ReportParts};
-use crate::values::{json_value, take_member, without_mark};
+use crate::values::{copy_at, json_value, take_member, without_mark};
 use filing_model::Allowed;
-use oim_fact::{Names, NumericTable};
+use oim_fact::{Fact, Names, NumericTable};
 use serde_json::Value;
 use std::alloc::Global;
 use std::marker::Model;
@@ -87,6 +90,27 @@ fn declaration(
     })
 }
 
+/// The report of what it says of itself and of its facts.
+fn assembled(declared: Declared, facts: Vec<(String, Arc<Fact>)>) -> Report
+    requires info { IsInfo declared.info declared.names.prefixes declared.allowed }
+    requires rise { T (is_sorted text_cmp (facts_view facts.items)) }
+    requires fitted { AreFitted declared.names (facts_view facts.items) }
+    ensures report { result ≡ record { info = declared.info; names = declared.names; allowed = declared.allowed; facts = from_entries (facts_view facts.items) } }
+    ensures readable { IsReadable result }
+{
+    let Declared {
+        info,
+        names,
+        allowed,
+    } = declared;
+    Report::of(ReportParts {
+        info,
+        names,
+        allowed,
+        facts,
+    })
+}
+
 /// The report of these members: each part of them is dropped as soon as it is read.
 fn report_of_members(
     alloc: Global,
@@ -96,18 +120,9 @@ fn report_of_members(
     ensures report { Gives report_fault same result (report_at (arc_value table.now) (option_map view members.document_info) (option_map view members.facts)) }
     ensures readable { IfOk result IsReadable }
 {
-    let Declared {
-        info,
-        names,
-        allowed,
-    } = declaration(alloc, members.document_info, table)?;
-    let facts = facts(alloc, &names, members.facts)?;
-    Ok(Report::of(ReportParts {
-        info,
-        names,
-        allowed,
-        facts,
-    }))
+    let declared = declaration(alloc, members.document_info, table)?;
+    let facts = facts(alloc, &declared.names, members.facts)?;
+    Ok(assembled(declared, facts))
 }
 
 /// The report that a value is, out of it.
@@ -124,6 +139,7 @@ fn report_from(
 }
 
 /// The report that a JSON value is (xBRL-JSON 1.0) by this numeric table, or the first fault, in this order: not the shape of a report, the document type, the features, the namespaces, a number in `documentInfo` that is not whole, the shape of `facts`, and the first refused fact in byte order of the identifiers.
+#[tactic(auto, using(crate::proofs::Reports::report_by_members))]
 pub fn report_of(
     alloc: Global,
     value: &Value,
@@ -132,7 +148,10 @@ pub fn report_of(
     ensures report { Gives report_fault same result (report_of (arc_value table.now) (view value.now)) }
     ensures readable { IfOk result IsReadable }
 {
-    report_from(alloc, value.clone()?, table)
+    let document_info = copy_at(value, "documentInfo")?;
+    let declared = declaration(alloc, document_info, table)?;
+    let facts = facts_at(alloc, &declared.names, value)?;
+    Ok(assembled(declared, facts))
 }
 
 /// The report that a text is, after one byte order mark, or the first fault: no JSON, or as `report_of`.

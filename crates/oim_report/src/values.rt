@@ -1,7 +1,7 @@
 //! JSON values, and what is looked for in them.
 
 ghost use Rattle.std.specs.Prelude.{◌≡◌, not, false, if◌then◌else◌, Option, option_map, IfOk, IfSome, IsTrue, IsUtf8, string_bytes};
-ghost use Rattle.serde_json.specs.Find.{as_object, get_member};
+ghost use Rattle.serde_json.specs.Find.{as_object, get, get_member};
 ghost use Rattle.serde_json.specs.View.{view, number_view, items_view, members_view};
 ghost use Rattle.serde_json.specs.Written.{compact_text, has_float, items_have_float, members_have_float};
 ghost use Rattle.filing_model.specs.Text.{Text, text_eq};
@@ -54,6 +54,16 @@ pub(crate) fn take_member(members: &mut Map<String, Value>, name: &str) -> Optio
     ensures others { (other : Text) → text_eq other name.now ≡ false → get_member other (members_view members.new.entries) ≡ get_member other (members_view members.old.entries) }
 {
     members.remove(name)
+}
+
+/// A copy of the member of this name, where there is one.
+pub(crate) fn copy_at(value: &Value, name: &str) -> Result<Option<Value>, AllocError>
+    ensures { IfOk result (λ o. option_map view o ≡ get name.now (view value.now)) }
+{
+    match value.get(name) {
+        Some(member) => Ok(Some(member.clone()?)),
+        None => Ok(None),
+    }
 }
 
 fn is_whole_number(number: &Number) -> bool
