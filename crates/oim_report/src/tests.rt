@@ -4,6 +4,7 @@ mod facts;
 mod refused;
 mod tables;
 mod wholes;
+mod written;
 
 use crate::{Report, ReportFault, Trouble, json_value, read_report, read_table, report_of};
 use filing_model::{DimFault, FactFault};

@@ -8,9 +8,10 @@ use std::alloc::Global;
 use std::sync::Arc;
 use std::test::Fail;
 
-const TABLE: &str = "http://example.com/taxonomy Assets\r\nhttp://example.com/taxonomy Margin\n";
+pub(super) const TABLE: &str =
+    "http://example.com/taxonomy Assets\r\nhttp://example.com/taxonomy Margin\n";
 
-const TEXT: &str = "\u{feff}{
+pub(super) const TEXT: &str = "\u{feff}{
   \"generator\": {\"version\": 1.5},
   \"documentInfo\": {
     \"documentType\": \"https://xbrl.org/2021/xbrl-json\",
@@ -59,7 +60,7 @@ const TEXT: &str = "\u{feff}{
   }
 }";
 
-const INFO: &str =
+pub(super) const INFO: &str =
     "{\"documentType\":\"https://xbrl.org/2021/xbrl-json\",\"features\":{\"ex:level\":-2,\"xbrl:allowedDuplicates\":\"consistent\",\"xbrl:canonicalValues\":true},\"linkGroups\":{\"_\":\"http://www.xbrl.org/2003/role/link\"},\"linkTypes\":{\"footnote\":\"http://www.xbrl.org/2003/arcrole/fact-footnote\"},\"namespaces\":{\"ex\":\"http://example.com/taxonomy\",\"iso4217\":\"http://www.xbrl.org/2003/iso4217\",\"lei\":\"http://standards.iso.org/iso/17442\",\"xbrl\":\"https://xbrl.org/2021\"},\"taxonomy\":[\"http://example.com/entry.xsd\"]}";
 
 // What a fact is: its identifier, its dimensions in byte order, its value and its links.
