@@ -1,13 +1,12 @@
 //! JSON values, and what is looked for in them.
 
 ghost use Rattle.std.specs.Prelude.{◌≡◌, not, false, if◌then◌else◌, Option, option_map, IfOk, IfSome, IsTrue, IsUtf8, string_bytes};
-ghost use Rattle.serde_json.specs.Find.{as_object, get, get_member};
+ghost use Rattle.serde_json.specs.Data.{object};
+ghost use Rattle.serde_json.specs.Find.{as_object, get, get_member, is_float};
 ghost use Rattle.serde_json.specs.View.{view, number_view, items_view, members_view};
 ghost use Rattle.serde_json.specs.Written.{compact_text, has_float, items_have_float, members_have_float};
 ghost use Rattle.filing_model.specs.Text.{Text, text_eq};
 ghost use Rattle.filing_model.specs.JsonText.{json_of, without_mark, IsWhole, IsWritable, AreWritable, AreMembersWritable};
-ghost use Rattle.serde_json.specs.Find.{is_float};
-ghost use Rattle.serde_json.specs.Data.{object};
 
 use serde_json::{Map, Number, Value};
 use std::alloc::{AllocError, Global};
@@ -66,15 +65,12 @@ pub(crate) fn copy_at(value: &Value, name: &str) -> Result<Option<Value>, AllocE
     }
 }
 
+/// Whether a number is one that an i64 or a u64 holds.
 fn is_whole_number(number: &Number) -> bool
     ensures whole { result ≡ not (is_float (number_view number.now)) }
     ensures bounds { IsTrue result → IsWhole (number_view number.now) }
 {
-    if let Some(natural) = number.as_u64() {
-        let _ = natural;
-        return true;
-    }
-    number.as_i64().is_some()
+    number.as_u64().is_some() || number.as_i64().is_some()
 }
 
 /// The text of a name, which is UTF-8.
@@ -103,6 +99,7 @@ pub(crate) fn is_whole(value: &Value) -> bool
     }
 }
 
+/// The same of each item.
 #[cycle(whole)]
 fn are_whole(items: &Vec<Value>) -> bool
     ensures whole { result ≡ not (items_have_float (items_view items.now.items)) }
@@ -116,6 +113,7 @@ fn are_whole(items: &Vec<Value>) -> bool
     true
 }
 
+/// The same of each member's value.
 #[cycle(whole)]
 fn are_members_whole(members: &Map<String, Value>) -> bool
     ensures whole { result ≡ not (members_have_float (members_view members.now.entries)) }
