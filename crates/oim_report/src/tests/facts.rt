@@ -7,7 +7,7 @@ use std::alloc::Global;
 use std::test::Fail;
 
 // A fact object and the word of its trouble, by itself and then fitted. In most rows a later fault stands beside the one that is told.
-const FACTS: [(&str, &str, &str); 32] = [
+const FACTS: &[(&str, &str, &str)] = &[
     ("1", "wrong-shape", "wrong-shape"),
     ("{}", "wrong-shape", "wrong-shape"),
     (
@@ -182,7 +182,7 @@ fn with_facts(alloc: Global, facts: &[&str]) -> Result<String, Fail> {
 
 #[test]
 fn the_first_fault_of_a_fact_is_told(rt: HostRuntime) -> Result<(), Fail> {
-    for (text, word, _) in FACTS {
+    for &(text, word, _) in FACTS {
         let value = json_value(rt.alloc(), text.as_bytes())?.ok_or("no JSON")?;
         assert!(rt; raw_word(&raw_fact(rt.alloc(), &value)) == word, "{text}");
     }
@@ -191,7 +191,7 @@ fn the_first_fault_of_a_fact_is_told(rt: HostRuntime) -> Result<(), Fail> {
 
 #[test]
 fn a_report_names_the_refused_fact(rt: HostRuntime) -> Result<(), Fail> {
-    for (text, _, word) in FACTS {
+    for &(text, _, word) in FACTS {
         let report = with_facts(rt.alloc(), &["\"f\":", text])?;
         let wanted = if word == "read" {
             ("read", "", "")

@@ -6,7 +6,7 @@ use std::alloc::Global;
 use std::test::Fail;
 
 // What stands in `documentInfo` beside the document type, what stands beside that at the top, and the answer.
-const DECLARED: [(&str, &str, &str); 26] = [
+const DECLARED: &[(&str, &str, &str)] = &[
     ("", "", "read"),
     (",\"features\":1,\"namespaces\":1", "", "wrong-shape"),
     (
@@ -80,7 +80,7 @@ const DECLARED: [(&str, &str, &str); 26] = [
 ];
 
 // Texts that are refused before `documentInfo` is looked into.
-const SHAPES: [(&str, &str); 12] = [
+const SHAPES: &[(&str, &str)] = &[
     ("{\"documentInfo\":", "not-json"),
     ("{\"documentInfo\":1,}", "not-json"),
     ("{\"documentInfo\":{}} x", "not-json"),
@@ -102,7 +102,7 @@ const SHAPES: [(&str, &str); 12] = [
 ];
 
 // The document type, and a fault of the features.
-const TYPES: [(&str, &str); 4] = [
+const TYPES: &[(&str, &str)] = &[
     ("\"x\"", "wrong-document-type"),
     ("null", "wrong-document-type"),
     (
@@ -114,7 +114,7 @@ const TYPES: [(&str, &str); 4] = [
 
 #[test]
 fn what_is_declared_is_looked_at_in_order(rt: HostRuntime) -> Result<(), Fail> {
-    for (declared, beside, word) in DECLARED {
+    for &(declared, beside, word) in DECLARED {
         let mut text = String::from_str(
             rt.alloc(),
             "{\"documentInfo\":{\"documentType\":\"https://xbrl.org/2021/xbrl-json\"",
@@ -130,7 +130,7 @@ fn what_is_declared_is_looked_at_in_order(rt: HostRuntime) -> Result<(), Fail> {
 
 #[test]
 fn the_shape_comes_first(rt: HostRuntime) -> Result<(), Fail> {
-    for (text, word) in SHAPES {
+    for &(text, word) in SHAPES {
         reads_as(&rt, rt.alloc(), text, (word, "", ""))?;
     }
     Ok(())
@@ -138,7 +138,7 @@ fn the_shape_comes_first(rt: HostRuntime) -> Result<(), Fail> {
 
 #[test]
 fn the_document_type_comes_before_the_features(rt: HostRuntime) -> Result<(), Fail> {
-    for (kind, word) in TYPES {
+    for &(kind, word) in TYPES {
         let mut text = String::from_str(
             rt.alloc(),
             "{\"documentInfo\":{\"features\":1,\"documentType\":",

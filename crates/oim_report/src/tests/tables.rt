@@ -5,7 +5,7 @@ use oim_fact::NumericTable;
 use std::test::Fail;
 
 // Texts with the number of their first bad line, or 0.
-const TABLES: [(&str, u64); 16] = [
+const TABLES: &[(&str, u64)] = &[
     ("", 0),
     ("\n\r\n\n", 0),
     ("http://e.org/t Assets", 0),
@@ -34,7 +34,7 @@ fn first_bad_line(answer: &Result<NumericTable, TableFault>) -> Option<u64> {
 
 #[test]
 fn the_first_bad_line_is_told(rt: HostRuntime) -> Result<(), Fail> {
-    for (text, number) in TABLES {
+    for &(text, number) in TABLES {
         assert!(rt;
             first_bad_line(&read_table(rt.alloc(), text)) == Some(number),
             "{text}"

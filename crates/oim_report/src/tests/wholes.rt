@@ -79,7 +79,7 @@ enum Told {
     Number(&'static str, &'static str, Option<i64>),
 }
 
-const FACTS: [Row; 4] = [
+const FACTS: &[Row] = &[
     (
         "f1",
         &[
@@ -172,7 +172,7 @@ fn is_whole(report: &Report) -> Result<bool, Fail> {
     if report.facts().len() != FACTS.len() {
         return Ok(false);
     }
-    for (found, wanted) in report.facts().iter().zip(&FACTS) {
+    for (found, wanted) in report.facts().iter().zip(FACTS) {
         if !is_fact(found.0.as_str(), &found.1, wanted)? {
             return Ok(false);
         }
