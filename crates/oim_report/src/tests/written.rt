@@ -15,6 +15,38 @@ const PLAIN_WRITTEN: &str =
 const FACTS: &str =
     "{\"f1\":{\"dimensions\":{\"concept\":\"ex:Margin\",\"ex:Product\":\"P-17\",\"ex:Region\":\"ex:Europe\",\"ex:SerialNumber\":null},\"links\":{\"ex:order\":{\"_\":[7,-1]},\"footnote\":{\"_\":[\"n1\"]}},\"value\":\" +0012.50\\n\"},\"f10\":{\"dimensions\":{\"concept\":\"ex:Assets\",\"period\":\"2024-01-01T00:00:00\",\"unit\":\"iso4217:EUR\"},\"value\":null},\"f2\":{\"decimals\":-3,\"dimensions\":{\"concept\":\"ex:Assets\",\"entity\":\"lei:5493000IBP32UQZ0KL24\",\"period\":\"2025-01-01T00:00:00\",\"unit\":\"iso4217:EUR\"},\"value\":\"1230000\"},\"n1\":{\"dimensions\":{\"concept\":\"xbrl:note\",\"language\":\"en\",\"noteId\":\"n1\"},\"value\":\"A <b>note</b>, café\"}}";
 
+// Texts of facts, and what is written of each.
+const FITTED: &[(&str, &str)] = &[
+    (
+        "{\"value\":\"1000\",\"dimensions\":{\"concept\":\"ex:Assets\"},\"decimals\":-3}",
+        "{\"decimals\":-3,\"dimensions\":{\"concept\":\"ex:Assets\"},\"value\":\"1000\"}",
+    ),
+    (
+        "{\"value\":\" +01.0 \",\"decimals\":null,\"dimensions\":{\"concept\":\"ex:Assets\"}}",
+        "{\"dimensions\":{\"concept\":\"ex:Assets\"},\"value\":\" +01.0 \"}",
+    ),
+    (
+        "{\"value\":null,\"decimals\":0,\"dimensions\":{\"concept\":\"ex:Name\"}}",
+        "{\"dimensions\":{\"concept\":\"ex:Name\"},\"value\":null}",
+    ),
+    (
+        "{\"value\":\"a \\\"b\\\"\\n\\u00e9\\u0001\\/\",\"links\":{\"b\":1,\"a\":[]},\"dimensions\":{\"concept\":\"ex:Name\"}}",
+        "{\"dimensions\":{\"concept\":\"ex:Name\"},\"links\":{\"a\":[],\"b\":1},\"value\":\"a \\\"b\\\"\\né\\u0001/\"}",
+    ),
+];
+
+// Texts of raw facts, and what is written of each.
+const RAW: &[(&str, &str)] = &[
+    (
+        "{\"value\":null,\"decimals\":0,\"dimensions\":{\"concept\":\"ex:Name\"}}",
+        "{\"decimals\":0,\"dimensions\":{\"concept\":\"ex:Name\"},\"value\":null}",
+    ),
+    (
+        "{\"value\":\"x\",\"decimals\":-9223372036854775808,\"links\":{\"b\":18446744073709551615,\"a\":{}},\"dimensions\":{\"ex:d\":null,\"concept\":\"\"}}",
+        "{\"decimals\":-9223372036854775808,\"dimensions\":{\"concept\":\"\",\"ex:d\":null},\"links\":{\"a\":{},\"b\":18446744073709551615},\"value\":\"x\"}",
+    ),
+];
+
 // The prefix `ex` is bound, and Assets alone is numeric.
 fn names(alloc: Global) -> Result<Names, Fail> {
     let mut prefixes = Vec::new(alloc);
@@ -60,24 +92,7 @@ fn whole_written(alloc: Global) -> Result<String, AllocError> {
 #[test]
 fn facts_have_their_text(rt: HostRuntime) -> Result<(), Fail> {
     let alloc = rt.alloc();
-    for (fact, written) in [
-        (
-            "{\"value\":\"1000\",\"dimensions\":{\"concept\":\"ex:Assets\"},\"decimals\":-3}",
-            "{\"decimals\":-3,\"dimensions\":{\"concept\":\"ex:Assets\"},\"value\":\"1000\"}",
-        ),
-        (
-            "{\"value\":\" +01.0 \",\"decimals\":null,\"dimensions\":{\"concept\":\"ex:Assets\"}}",
-            "{\"dimensions\":{\"concept\":\"ex:Assets\"},\"value\":\" +01.0 \"}",
-        ),
-        (
-            "{\"value\":null,\"decimals\":0,\"dimensions\":{\"concept\":\"ex:Name\"}}",
-            "{\"dimensions\":{\"concept\":\"ex:Name\"},\"value\":null}",
-        ),
-        (
-            "{\"value\":\"a \\\"b\\\"\\n\\u00e9\\u0001\\/\",\"links\":{\"b\":1,\"a\":[]},\"dimensions\":{\"concept\":\"ex:Name\"}}",
-            "{\"dimensions\":{\"concept\":\"ex:Name\"},\"links\":{\"a\":[],\"b\":1},\"value\":\"a \\\"b\\\"\\né\\u0001/\"}",
-        ),
-    ] {
+    for &(fact, written) in FITTED {
         assert_eq!(rt; fact_again(alloc, fact)?.as_str(), written);
         assert_eq!(rt; fact_again(alloc, written)?.as_str(), written);
     }
@@ -87,16 +102,7 @@ fn facts_have_their_text(rt: HostRuntime) -> Result<(), Fail> {
 #[test]
 fn raw_facts_have_their_text(rt: HostRuntime) -> Result<(), Fail> {
     let alloc = rt.alloc();
-    for (fact, written) in [
-        (
-            "{\"value\":null,\"decimals\":0,\"dimensions\":{\"concept\":\"ex:Name\"}}",
-            "{\"decimals\":0,\"dimensions\":{\"concept\":\"ex:Name\"},\"value\":null}",
-        ),
-        (
-            "{\"value\":\"x\",\"decimals\":-9223372036854775808,\"links\":{\"b\":18446744073709551615,\"a\":{}},\"dimensions\":{\"ex:d\":null,\"concept\":\"\"}}",
-            "{\"decimals\":-9223372036854775808,\"dimensions\":{\"concept\":\"\",\"ex:d\":null},\"links\":{\"a\":{},\"b\":18446744073709551615},\"value\":\"x\"}",
-        ),
-    ] {
+    for &(fact, written) in RAW {
         assert_eq!(rt; raw_again(alloc, fact)?.as_str(), written);
         assert_eq!(rt; raw_again(alloc, written)?.as_str(), written);
     }
