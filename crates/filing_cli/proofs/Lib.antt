@@ -15,5 +15,4 @@ pub mod Busy
 pub mod Values
 pub mod Reports
 pub mod Prefixes
-pub mod ReadingExamples
 pub mod Scripts
