@@ -1,5 +1,5 @@
 -- What the contracts of `BTreeMap` say of the finite map that it is.
-use Rattle.std.proofs.Common.{◌≡◌, ◌∙◌, ap, sym, refl, subst, T, List, [], ◌∷◌, Some, Bool, ◌&&◌, cond, true, false, is_some}
+use Rattle.std.proofs.Common.{◌≡◌, ◌∙◌, ap, sym, refl, subst, T, ℕ, suc, ◌+◌, ◌<◌, arith, length, take, get_or, List, [], ◌∷◌, ◌++◌, Some, Bool, ◌&&◌, cond, true, false, is_some}
 use Rattle.std.specs.Prelude.{String, string_bytes, option_map}
 use Rattle.std.specs.declared.alloc.Global.{Global}
 use Rattle.std.specs.declared.cmp.Ordering.{Ordering}
@@ -17,7 +17,8 @@ use Rattle.filing_model.specs.Text.{Text, text_cmp, text_eq}
 use Rattle.filing_model.specs.TextMap.{TextMap, get, insert, from_entries}
 use Rattle.filing_model.proofs.TextMaps.{get-from_entries, from_entries-put, get-insert, same_map}
 use Rattle.filing_core.proofs.Laid.{from_entries_sorted}
-use Rattle.filing_core.specs.Keyed.{keyed, keyed_map}
+use Rattle.std.proofs.Math.Seq.{take-suc}
+use Rattle.filing_core.specs.Keyed.{entry_of, keyed, keyed_map}
 use Rattle.filing_core.specs.Laid.{laid, laid_entries}
 
 pub find-keyed : {V X : Type 0} (f : V → X) (q : Text) (es : List (String Global × V)) → find text_cmp q (keyed f es) ≡ option_map f (lookup (is_at (λ k. text_cmp q (string_bytes k))) es)
@@ -94,6 +95,26 @@ laid_end f left es all base left_is rising before =
     sym (ap (λ xs. laid_entries (keyed f xs) all) left_is)
     ∙ before
     ∙ ap (λ xs. laid_entries xs base) (sym (entries-keyed_map f es rising))
+
+-- ---- a loop over a list that puts its entries into a map
+
+laid_more : {X : Type 0} (es : List (Text × X)) (e : Text × X) (base : TextMap X) → laid_entries (es ++ e ∷ []) base ≡ insert (laid_entries es base) e.0 e.1
+laid_more [] e base = refl
+laid_more (x ∷ es) e base = laid_more es e (insert base x.0 x.1)
+
+keyed_more : {V X : Type 0} (f : V → X) (es : List (String Global × V)) (e : String Global × V) → keyed f (es ++ e ∷ []) ≡ keyed f es ++ entry_of f e ∷ []
+keyed_more f [] e = refl
+keyed_more f (x ∷ es) e = λ i. entry_of f x ∷ keyed_more f es e i
+
+-- one turn: the next entry goes in
+pub put_next : {V X : Type 0} (f : V → X) (es : List (String Global × V)) (n : ℕ) (d : String Global × V) (base : TextMap X) → n < length es
+    → insert (laid_entries (keyed f (take n es)) base) (string_bytes (get_or es n d).0) (f (get_or es n d).1) ≡ laid_entries (keyed f (take (n + 1) es)) base
+put_next f es n d base low =
+    let next : suc n ≡ n + 1 = omega arith in
+    sym (laid_more (keyed f (take n es)) (entry_of f (get_or es n d)) base)
+    ∙ ap (λ xs. laid_entries xs base) (sym (keyed_more f (take n es) (get_or es n d)))
+    ∙ ap (λ xs. laid_entries (keyed f xs) base) (sym (take-suc es n d low))
+    ∙ ap (λ k. laid_entries (keyed f (take k es)) base) next
 
 -- ---- a value that is written through `get_mut`
 

@@ -1,5 +1,5 @@
 -- Maps laid over one another, as functions.
-use Rattle.std.proofs.Common.{◌≡◌, ◌∙◌, ap, sym, refl, subst, T, List, [], ◌∷◌, ◌++◌, Some, None, cond, true, false, Bool, ◌&&◌}
+use Rattle.std.proofs.Common.{◌≡◌, ◌∙◌, ap, sym, refl, subst, T, List, [], ◌∷◌, ◌++◌, Option, Some, None, cond, true, false, Bool, ◌&&◌}
 use Rattle.std.specs.declared.cmp.Ordering.{Ordering}
 use Rattle.std.specs.declared.cmp.Ordering.TheVariants.{Less, Equal, Greater}
 use Rattle.std.specs.Ordering.{is_lt, is_eq}
@@ -7,8 +7,8 @@ use Rattle.std.specs.Option.{option_or}
 use Rattle.std.specs.Cmp.Lexicographic.{nat_list_cmp_total}
 use Rattle.std.specs.FinMap.Entries.{find, put, is_sorted, below_all, by_order}
 use Rattle.filing_model.specs.Text.{Text, text_cmp, text_eq}
-use Rattle.filing_model.specs.TextMap.{TextMap, get, insert, from_entries}
-use Rattle.filing_model.proofs.TextMaps.{get-insert}
+use Rattle.filing_model.specs.TextMap.{TextMap, empty, get, insert, from_entries}
+use Rattle.filing_model.proofs.TextMaps.{get-insert, get-from_entries, same_map}
 use Rattle.filing_core.specs.Laid.{laid, laid_entries}
 
 pub first : (a b : Bool) → T (a && b) → T a
@@ -67,3 +67,15 @@ pub from_entries_sorted : {X : Type 0} (es : List (Text × X)) → T (is_sorted 
 from_entries_sorted [] h = refl
 from_entries_sorted (e ∷ es) h =
     ap (λ rest. put text_cmp e.0 e.1 rest) (from_entries_sorted es (second _ _ h)) ∙ put_first e.0 e.1 es (first _ _ h)
+
+-- ---- a map and its entries
+
+pub made_of_entries : {X : Type 0} (m : TextMap X) → from_entries m.entries ≡ m
+made_of_entries m = same_map _ _ (λ q. get-from_entries m.entries q)
+
+or_nothing : {X : Type 0} (o : Option X) → option_or o None ≡ o
+or_nothing None = refl
+or_nothing (Some x) = refl
+
+pub laid_over_nothing : {X : Type 0} (m : TextMap X) → laid_entries m.entries empty ≡ m
+laid_over_nothing m = same_map _ _ (λ q. get-laid_entries m.entries empty q m.sorted ∙ or_nothing (find text_cmp q m.entries))

@@ -4,7 +4,12 @@ pub mod StagedFacts
 pub mod NextVersions
 pub mod Keeping
 pub mod Laying
+pub mod Refusing
 pub mod Committing
 pub mod Standing
 pub mod Entering
 pub mod Entered
+pub mod LeastDims
+pub mod SortedCells
+pub mod FoundCell
+pub mod Refusals

@@ -40,24 +40,24 @@ module _ (staged : StagedFacts) where
       ] refl
 
   -- one turn: the first report that is left goes in with its facts
-  pub version_turn : (left rest : List (String Global × Report)) (k : String Global) (r : Report) (es fs : List (String Global × Report)) (goal : TextMap Report) (key : String Global) (next : Report)
-      → left ≡ (k, r) ∷ rest → fs ≡ insert_entry string_cmp es key next → string_bytes key ≡ string_bytes k → next ≡ with_facts (staged_in staged (string_bytes k)) r
-      → laid_entries (each_with (keyed (λ x. x) left)) (keyed_map (λ x. x) es) ≡ goal → laid_entries (each_with (keyed (λ x. x) rest)) (keyed_map (λ x. x) fs) ≡ goal
-  version_turn left rest k r es fs goal key next left_is fs_is key_is next_is before =
-      ap (λ m. laid_entries (each_with (keyed (λ x. x) rest)) m) (ap (λ xs. keyed_map (λ x. x) xs) fs_is ∙ keyed_map_insert_entry (λ x. x) es key next ∙ (λ i. insert (keyed_map (λ x. x) es) (key_is i) (next_is i)))
-      ∙ sym (ap (λ xs. laid_entries (each_with (keyed (λ x. x) xs)) (keyed_map (λ x. x) es)) left_is)
+  pub version_turn : {V : Type 0} (f : V → Report) (left rest : List (String Global × V)) (k : String Global) (r : V) (es fs : List (String Global × V)) (goal : TextMap Report) (key : String Global) (next : V)
+      → left ≡ (k, r) ∷ rest → fs ≡ insert_entry string_cmp es key next → string_bytes key ≡ string_bytes k → f next ≡ with_facts (staged_in staged (string_bytes k)) (f r)
+      → laid_entries (each_with (keyed f left)) (keyed_map f es) ≡ goal → laid_entries (each_with (keyed f rest)) (keyed_map f fs) ≡ goal
+  version_turn f left rest k r es fs goal key next left_is fs_is key_is next_is before =
+      ap (λ m. laid_entries (each_with (keyed f rest)) m) (ap (λ xs. keyed_map f xs) fs_is ∙ keyed_map_insert_entry f es key next ∙ (λ i. insert (keyed_map f es) (key_is i) (next_is i)))
+      ∙ sym (ap (λ xs. laid_entries (each_with (keyed f xs)) (keyed_map f es)) left_is)
       ∙ before
 
   -- the end: each report has its facts laid over it
-  pub version_end : (left es made : List (String Global × Report)) → left ≡ [] → IsStrictlySortedBy string_cmp (keys_of es)
-      → laid_entries (each_with (keyed (λ x. x) left)) (keyed_map (λ x. x) made) ≡ laid_entries (each_with (keyed (λ x. x) es)) empty
-      → (name : Text) → get (keyed_map (λ x. x) made) name ≡ option_map (with_facts (staged_in staged name)) (get (keyed_map (λ x. x) es) name)
-  version_end left es made left_is rising before name =
-      ap (λ m. get m name) (sym (ap (λ xs. laid_entries (each_with (keyed (λ x. x) xs)) (keyed_map (λ x. x) made)) left_is) ∙ before)
-      ∙ get-laid_entries (each_with (keyed (λ x. x) es)) empty name (subst T (sym (sorted-each_with (keyed (λ x. x) es))) (sorted_keyed (λ x. x) es rising))
-      ∙ or_none (find text_cmp name (each_with (keyed (λ x. x) es)))
-      ∙ find-each_with name (keyed (λ x. x) es)
-      ∙ ap (λ o. option_map (with_facts (staged_in staged name)) o) (sym (get-from_entries (keyed (λ x. x) es) name))
+  pub version_end : {V : Type 0} (f : V → Report) (left es made : List (String Global × V)) → left ≡ [] → IsStrictlySortedBy string_cmp (keys_of es)
+      → laid_entries (each_with (keyed f left)) (keyed_map f made) ≡ laid_entries (each_with (keyed f es)) empty
+      → (name : Text) → get (keyed_map f made) name ≡ option_map (with_facts (staged_in staged name)) (get (keyed_map f es) name)
+  version_end f left es made left_is rising before name =
+      ap (λ m. get m name) (sym (ap (λ xs. laid_entries (each_with (keyed f xs)) (keyed_map f made)) left_is) ∙ before)
+      ∙ get-laid_entries (each_with (keyed f es)) empty name (subst T (sym (sorted-each_with (keyed f es))) (sorted_keyed f es rising))
+      ∙ or_none (find text_cmp name (each_with (keyed f es)))
+      ∙ find-each_with name (keyed f es)
+      ∙ ap (λ o. option_map (with_facts (staged_in staged name)) o) (sym (get-from_entries (keyed f es) name))
     where
       or_none : (o : Option Report) → option_or o None ≡ o
       or_none None = refl

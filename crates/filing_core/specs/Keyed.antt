@@ -4,7 +4,11 @@ use Rattle.std.specs.declared.alloc.Global.{Global}
 use Rattle.filing_model.specs.Text.{Text}
 use Rattle.filing_model.specs.TextMap.{TextMap, from_entries}
 
--- the entries by the bytes of their keys, each value under f
+-- an entry by the bytes of its key, with its value under f
+abbrev pub entry_of : {V X : Type 0} → (V → X) → String Global × V → Text × X
+entry_of f e = (string_bytes e.0, f e.1)
+
+-- the entries so
 abbrev pub keyed : {V X : Type 0} → (V → X) → List (String Global × V) → List (Text × X)
 keyed f entries = map (λ e. (string_bytes e.0, f e.1)) entries
 

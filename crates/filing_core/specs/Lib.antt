@@ -6,3 +6,5 @@ pub mod Kept
 pub mod Outcomes
 pub mod Answers
 pub mod OpenSession
+pub mod Refusals
+pub mod Cells

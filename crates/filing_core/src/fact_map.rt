@@ -1,7 +1,8 @@
 ghost use Rattle.std.specs.Prelude.{◌≡◌, Option, option_map, string_bytes, IfOk, OnOk, OnErr};
 ghost use Rattle.std.specs.Arc.{arc_value};
 ghost use Rattle.filing_model.specs.TextMap.{empty, get, insert};
-ghost use Rattle.filing_core.specs.Laid.{laid};
+ghost use Rattle.oim_report.specs.Parts.{facts_view};
+ghost use Rattle.filing_core.specs.Laid.{laid, laid_entries};
 
 use oim_fact::Fact;
 use std::alloc::{AllocError, Global};
@@ -50,23 +51,36 @@ impl FactMap {
         Ok(())
     }
 
-    /// A copy, which shares its facts with this one.
-    pub fn try_clone(&self) -> Result<FactMap, AllocError>
-        ensures { IfOk result (λ m. m ≡ self.now) }
+    /// The facts of a report, which are shared with it.
+    pub(crate) fn of(alloc: Global, facts: &[(String, Arc<Fact>)]) -> Result<FactMap, AllocError>
+        ensures { IfOk result (λ m. m ≡ laid_entries (facts_view facts.now) empty) }
     {
-        Ok(FactMap {
-            facts: self.facts.clone()?,
-        })
+        let mut all = FactMap::new(alloc);
+        for (id, fact) in facts {
+            all.insert(id.clone()?, fact.clone()?)?;
+        }
+        Ok(all)
     }
 
     /// These facts with the others laid over them.
-    pub fn with(&self, added: &FactMap) -> Result<FactMap, AllocError>
-        ensures { IfOk result (λ m. m ≡ laid added.now self.now) }
+    pub(crate) fn with(self, added: &FactMap) -> Result<FactMap, AllocError>
+        ensures { IfOk result (λ m. m ≡ laid added.now self) }
     {
-        let mut all = self.try_clone()?;
+        let mut all = self;
         for (id, fact) in &added.facts {
             all.insert(id.clone()?, fact.clone()?)?;
         }
         Ok(all)
+    }
+
+    /// The facts in byte order of their identifiers.
+    pub(crate) fn into_entries(self, alloc: Global) -> Result<Vec<(String, Arc<Fact>)>, AllocError>
+        ensures { IfOk result (λ v. facts_view v.items ≡ self.entries) }
+    {
+        let mut entries = Vec::new(alloc);
+        for (id, fact) in self.facts {
+            entries.push((id, fact))?;
+        }
+        Ok(entries)
     }
 }

@@ -3,6 +3,8 @@
 //! It knows nothing of JSON, of devices, of locks or of threads.
 #![tactic(auto)]
 
+mod cells;
+mod disallowed;
 mod engine;
 mod fact_map;
 mod fault;
@@ -16,8 +18,6 @@ mod step;
 mod tests;
 
 pub use engine::Core;
-pub use fact_map::FactMap;
 pub use fault::CoreFault;
 pub use plain::Plain;
-pub use report::Report;
 pub use step::{Entry, Kind, Reply, Step};

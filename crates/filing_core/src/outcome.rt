@@ -8,6 +8,7 @@ ghost use Rattle.filing_core.specs.Steps.{reply_of};
 ghost use Rattle.filing_core.specs.Outcomes.{get_outcome, add_outcome};
 
 use crate::plain::Plain;
+use crate::report::fact_in;
 use crate::staged::Staged;
 use crate::step::Reply;
 use oim_fact::{Fact, RawFact, fit};
@@ -28,7 +29,7 @@ pub(crate) fn get_reply(
     };
     match staged.get(name, id) {
         Some(fact) => found(fact),
-        None => match report.get(id) {
+        None => match fact_in(report, id) {
             Some(fact) => found(fact),
             None => Ok(Reply::Absent),
         },
@@ -54,7 +55,7 @@ pub(crate) fn addition(
     let Some(report) = current.report(name) else {
         return Ok(Err(Reply::NoReport));
     };
-    if staged.get(name, id).is_some() || report.get(id).is_some() {
+    if staged.get(name, id).is_some() || fact_in(report, id).is_some() {
         return Ok(Err(Reply::Taken));
     }
     match fit(report.names(), raw.clone()?) {

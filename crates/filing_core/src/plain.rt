@@ -1,30 +1,39 @@
-ghost use Rattle.std.specs.Prelude.{◌≡◌, ◌+◌, Option, option_map, string_bytes, unwrap_or, IfOk, OnOk, OnErr, ◌<◌, ◌^◌};
+ghost use Rattle.std.specs.Prelude.{◌≡◌, ◌+◌, true, Option, option_map, string_bytes, unwrap_or, IfOk, OnOk, OnErr, ◌<◌, ◌^◌};
+ghost use Rattle.std.specs.Arc.{arc_value};
 ghost use Rattle.filing_model.specs.TextMap.{empty};
 ghost use Rattle.filing_model.specs.Repository.{nothing, report_at, with_report};
+ghost use Rattle.filing_model.specs.Sessions.{repository_obeys, refusal_of};
 ghost use Rattle.filing_core.specs.Staged.{IsNextVersion, with_facts};
+ghost use Rattle.filing_core.specs.Steps.{reply_of};
+ghost use Rattle.filing_core.specs.Refusals.{UnstagedObey, CommitMakes};
 
+use crate::disallowed::disallowed;
 use crate::fact_map::FactMap;
-use crate::report::Report;
+use crate::report::with_facts;
 use crate::staged::Staged;
+use crate::step::Reply;
+use oim_report::Report;
 use std::alloc::{AllocError, Global};
 use std::collections::BTreeMap;
 use std::marker::Model;
+use std::sync::Arc;
 
 /// The reports by their names, with the number of the version: how many loads and commits were accepted.
 #[derive(Drop)]
 pub struct Plain {
     number: u64,
-    reports: BTreeMap<String, Report>,
+    reports: BTreeMap<String, Arc<Report>>,
 }
 
 impl Model for Plain {
     ghost use Rattle.filing_model.specs.TextMap.{empty};
     ghost use Rattle.filing_model.specs.Repository.{Repository};
+    ghost use Rattle.std.specs.Arc.{arc_value};
     ghost use Rattle.filing_core.specs.Keyed.{keyed_map};
 
     ghost Value = { Repository };
 
-    ghost view = { λ p. record { count = p.number; reports = keyed_map (λ r. r) p.reports.entries } };
+    ghost view = { λ p. record { count = p.number; reports = keyed_map arc_value p.reports.entries } };
 }
 
 #[tactic(auto, using(crate::proofs::Keyed::get_keyed_map, crate::proofs::Keyed::keyed_map_insert_entry))]
@@ -48,13 +57,16 @@ impl Plain {
     pub fn report(&self, name: &str) -> Option<&Report>
         ensures { option_map (λ r. r.now) result ≡ report_at self.now name.now }
     {
-        self.reports.get(name)
+        match self.reports.get(name) {
+            Some(report) => Some(report),
+            None => None,
+        }
     }
 
     /// Puts a report in as the next version.
-    pub(crate) fn load(&mut self, name: String, report: Report) -> Result<(), AllocError>
+    pub(crate) fn load(&mut self, name: String, report: Arc<Report>) -> Result<(), AllocError>
         requires { self.old.count + 1 < 2 ^ 64 }
-        ensures ok { OnOk result (self.new ≡ with_report self.old (string_bytes name) report) }
+        ensures ok { OnOk result (self.new ≡ with_report self.old (string_bytes name) (arc_value report)) }
         ensures err { OnErr result (self.new ≡ self.old) }
     {
         self.reports.insert(name, report)?;
@@ -63,7 +75,7 @@ impl Plain {
     }
 
     /// The next version, with staged facts laid over the reports.
-    pub(crate) fn with(&self, alloc: Global, staged: &Staged) -> Result<Plain, AllocError>
+    fn with(&self, alloc: Global, staged: &Staged) -> Result<Plain, AllocError>
         requires { self.now.count + 1 < 2 ^ 64 }
         ensures { IfOk result (λ p. IsNextVersion self.now p staged.now) }
     {
@@ -77,14 +89,50 @@ impl Plain {
             reports,
         })
     }
+
+    /// The reply that refuses this version: of its least report that does not obey. Those for which nothing is staged obey, and are not looked at.
+    fn refusal(&self, alloc: Global, staged: &Staged) -> Result<Option<Reply>, AllocError>
+        requires { UnstagedObey staged.now self.now.reports.entries }
+        ensures { IfOk result (λ o. option_map reply_of o ≡ refusal_of self.now) }
+    {
+        for (name, report) in &self.reports {
+            if staged.report(name).is_some() {
+                if let Some(reply) = disallowed(alloc, name, report)? {
+                    return Ok(Some(reply));
+                }
+            }
+        }
+        Ok(None)
+    }
+
+    /// The next version, with staged facts laid over the reports, or the reply that refuses it.
+    pub(crate) fn outcome(
+        &self,
+        alloc: Global,
+        staged: &Staged,
+    ) -> Result<Result<Plain, Reply>, AllocError>
+        requires few { self.now.count + 1 < 2 ^ 64 }
+        requires obeys { repository_obeys self.now ≡ true }
+        ensures { IfOk result (CommitMakes self.now staged.now) }
+    {
+        let next = self.with(alloc, staged)?;
+        match next.refusal(alloc, staged)? {
+            None => Ok(Ok(next)),
+            Some(reply) => Ok(Err(reply)),
+        }
+    }
 }
 
-/// The report with the facts laid over it, where there are some.
-fn laid_over(alloc: Global, report: &Report, facts: Option<&FactMap>) -> Result<Report, AllocError>
-    ensures { IfOk result (λ r. r ≡ with_facts (unwrap_or (option_map (λ f. f.now) facts.entry) empty) report.now) }
+/// The report with the facts laid over it, where there are some; else another owner of it.
+fn laid_over(
+    alloc: Global,
+    report: &Arc<Report>,
+    facts: Option<&FactMap>,
+) -> Result<Arc<Report>, AllocError>
+    ensures { IfOk result (λ r. arc_value r ≡ with_facts (unwrap_or (option_map (λ f. f.now) facts.entry) empty) (arc_value report.now)) }
 {
     match facts {
         None => report.clone(),
-        Some(facts) => report.with(alloc, facts),
+        Some(facts) => Ok(Arc::new(alloc, with_facts(alloc, report, facts)?)?),
     }
 }

@@ -1,95 +1,44 @@
-ghost use Rattle.std.specs.Prelude.{◌≡◌, Option, option_map, string_bytes, IfOk};
+//! What a version asks of a report.
+
+ghost use Rattle.std.specs.Prelude.{◌≡◌, option_map, IfOk};
 ghost use Rattle.std.specs.Arc.{arc_value};
 ghost use Rattle.filing_model.specs.Repository.{fact_in};
 ghost use Rattle.filing_core.specs.Staged.{with_facts};
 
 use crate::fact_map::FactMap;
-use oim_fact::{Fact, Names};
+use oim_fact::Fact;
+use oim_report::{Report, ReportParts};
 use std::alloc::{AllocError, Global};
-use std::marker::Model;
 use std::sync::Arc;
 
-/// A report that declares nothing of its duplicates, so that it allows all. Its parts are shared between its versions.
-#[derive(Drop)]
-pub struct Report {
-    info: Arc<String>,
-    names: Arc<Names>,
-    facts: Arc<FactMap>,
-}
-
-impl Model for Report {
-    ghost use Rattle.std.specs.Prelude.{string_bytes};
-    ghost use Rattle.std.specs.Arc.{arc_value};
-    ghost use Rattle.filing_model.specs.Reports.{Report as PlainReport};
-    ghost use Rattle.filing_model.specs.declared.duplicates.Allowed.TheVariants.{All};
-
-    ghost Value = { PlainReport };
-
-    ghost view = { λ r. record { info = string_bytes (arc_value r.info); names = arc_value r.names; allowed = All; facts = arc_value r.facts } };
-}
-
-impl Clone for Report {
-    ghost is_clone = { λ old new. new ≡ old };
-
-    fn clone(&self) -> Result<Report, AllocError> {
-        Ok(Report {
-            info: self.info.clone()?,
-            names: self.names.clone()?,
-            facts: self.facts.clone()?,
-        })
+/// The fact of an identifier.
+pub(crate) fn fact_in<'a>(report: &'a Report, id: &str) -> Option<&'a Arc<Fact>>
+    ensures { option_map (λ f. arc_value f.now) result ≡ fact_in report.now id.now }
+{
+    let facts = report.facts();
+    match facts.binary_search_by(|entry| entry.0.as_str().cmp(id)) {
+        Ok(place) => Some(&facts[place].1),
+        Err(_) => None,
     }
 }
 
-impl Report {
-    ghost use Rattle.filing_model.specs.declared.duplicates.Allowed.TheVariants.{All};
-
-    /// The report of these parts. The info is the compact text of `documentInfo`.
-    pub fn of(
-        alloc: Global,
-        info: String,
-        names: Names,
-        facts: FactMap,
-    ) -> Result<Report, AllocError>
-        ensures { IfOk result (λ r. r ≡ record { info = string_bytes info; names = names; allowed = All; facts = facts }) }
-    {
-        Ok(Report {
-            info: Arc::new(alloc, info)?,
-            names: Arc::new(alloc, names)?,
-            facts: Arc::new(alloc, facts)?,
-        })
-    }
-
-    pub fn names(&self) -> &Names
-        ensures { result.now ≡ self.now.names }
-    {
-        &self.names
-    }
-
-    /// Another owner of the same parts.
-    pub(crate) fn share(&self) -> Result<Report, AllocError>
-        ensures same { IfOk result (λ r. r ≡ self.now) }
-
-        // What declares nothing allows all.
-        ensures allows_all { self.now.allowed ≡ All }
-    {
-        let _ = &self.info;
-        self.clone()
-    }
-
-    pub fn get(&self, id: &str) -> Option<&Arc<Fact>>
-        ensures { option_map (λ f. arc_value f.now) result ≡ fact_in self.now id.now }
-    {
-        self.facts.get(id)
-    }
-
-    /// The report with these facts laid over its own.
-    pub(crate) fn with(&self, alloc: Global, added: &FactMap) -> Result<Report, AllocError>
-        ensures { IfOk result (λ r. r ≡ with_facts added.now self.now) }
-    {
-        Ok(Report {
-            info: self.info.clone()?,
-            names: self.names.clone()?,
-            facts: Arc::new(alloc, self.facts.with(added)?)?,
-        })
-    }
+/// The report with these facts laid over its own, which are shared.
+pub(crate) fn with_facts(
+    alloc: Global,
+    report: &Report,
+    added: &FactMap,
+) -> Result<Report, AllocError>
+    ensures { IfOk result (λ r. r ≡ with_facts added.now report.now) }
+{
+    let info = String::from_str(alloc, report.info())?;
+    let names = report.names().clone()?;
+    let facts = FactMap::of(alloc, report.facts())?
+        .with(added)?
+        .into_entries(alloc)?;
+    Ok(Report::of(ReportParts {
+        info,
+        names,
+        allowed: report.allowed(),
+        facts,
+    }))
 }

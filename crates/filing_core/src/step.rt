@@ -1,5 +1,7 @@
-use crate::report::Report;
-use oim_fact::{Fact, FactFault, RawFact};
+ghost use Rattle.std.specs.Prelude.{◌≡◌, map, string_bytes, IfOk};
+
+use oim_fact::{Class, Fact, FactFault, RawFact};
+use oim_report::Report;
 use std::alloc::AllocError;
 use std::marker::Model;
 use std::sync::Arc;
@@ -47,10 +49,23 @@ pub enum Reply {
     /// The number of the version that the load made.
     Loaded(u64),
     NameTaken,
+    /// The report, and the class and the identifiers, in byte order, of its least cell that it does not allow.
+    Disallowed(String, Class, Vec<String>),
     Opened,
     Closed,
     /// The number of the version that the commit made.
     Committed(u64),
+}
+
+/// The clones of some texts.
+fn clone_texts(texts: &Vec<String>) -> Result<Vec<String>, AllocError>
+    ensures { IfOk result (λ v. map string_bytes v.items ≡ map string_bytes texts.now.items) }
+{
+    let mut copies = Vec::with_capacity(*texts.allocator(), texts.len())?;
+    for text in texts {
+        copies.push(text.clone()?)?;
+    }
+    Ok(copies)
 }
 
 impl Clone for Reply {
@@ -69,6 +84,9 @@ impl Clone for Reply {
             Reply::Staged => Ok(Reply::Staged),
             Reply::Loaded(number) => Ok(Reply::Loaded(*number)),
             Reply::NameTaken => Ok(Reply::NameTaken),
+            Reply::Disallowed(report, class, ids) => {
+                Ok(Reply::Disallowed(report.clone()?, *class, clone_texts(ids)?))
+            }
             Reply::Opened => Ok(Reply::Opened),
             Reply::Closed => Ok(Reply::Closed),
             Reply::Committed(number) => Ok(Reply::Committed(*number)),

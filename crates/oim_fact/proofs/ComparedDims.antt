@@ -1,5 +1,5 @@
 -- What the comparisons of pairs say of the dimension set that they are.
-use Rattle.std.proofs.Common.{◌≡◌, ◌∙◌, ap, sym, refl, Bool, ◌&&◌, ◌++◌, List, [], ◌∷◌, map, length, Option, Some, None, Ordering, Less, Equal, Greater, is_eq, String, string_bytes}
+use Rattle.std.proofs.Common.{◌≡◌, ◌∙◌, ap, sym, refl, Bool, ◌&&◌, ◌++◌, List, [], ◌∷◌, length, Option, Some, None, Ordering, Less, Equal, Greater, is_eq, String, string_bytes}
 use Rattle.std.specs.Ordering.{ordering_then}
 use Rattle.std.specs.Option.{option_cmp, option_eq}
 use Rattle.std.specs.Cmp.Lexicographic.{slice_cmp, pointwise, texts_ties, lists_ties}
@@ -9,8 +9,8 @@ use Rattle.std.specs.Hash as fed
 use Rattle.std.specs.Hash.{HashWrites}
 use Rattle.std.specs.String.{string_cmp, string_eq}
 use Rattle.std.specs.declared.alloc.Global.{Global}
-use Rattle.filing_model.specs.Text.{text_cmp, text_eq}
-use Rattle.filing_model.specs.Dimensions.{Dims, dim_cmp, dims_cmp, dims_eq}
+use Rattle.filing_model.specs.Text.{text_cmp}
+use Rattle.filing_model.specs.Dimensions.{dims_cmp, dims_eq}
 use Rattle.oim_fact.specs.Texts.{text_of}
 use Rattle.oim_fact.specs.Dims.{dims_view, dims_hash}
 

@@ -6,10 +6,9 @@ use Rattle.std.specs.Cmp.Lexicographic.{nat_list_cmp_total}
 use Rattle.std.specs.List.Sorted.{IsSortedBy, IsSearchInRange, IsBinarySearchResult}
 use Rattle.std.specs.FinMap.Entries.{is_sorted}
 use Rattle.std.specs.declared.alloc.Global.{Global}
-use Rattle.std.proofs.lemmas.List.Sorted.{IsPermutation-map, IsPermutation-trans, ranks_by}
+use Rattle.std.proofs.lemmas.List.Sorted.{IsPermutation-map, ranks_by}
 use Rattle.filing_model.specs.Text.{Text, text_cmp, has_repeats}
 use Rattle.filing_model.specs.TextMap.{TextMap, get, from_entries}
-use Rattle.filing_model.specs.Prefixes.{prefixes_of}
 use Rattle.filing_model.specs.Facts.{Names, Table}
 use Rattle.filing_model.specs.declared.faults.NamesFault.{NamesFault}
 use Rattle.filing_model.specs.declared.faults.NamesFault.TheVariants.{NameTwice, AliasTwice}

@@ -1,9 +1,9 @@
 -- A numeric table that is sorted with no row twice is the table of its rows.
 use Rattle.std.proofs.Common.{◌≡◌, ◌∙◌, ap, sym, refl, subst, ℕ, Bool, true, false, ◌&&◌, ◌||◌, cond, T, List, [], ◌∷◌, map, fold, Option, Some, None, is_some, Ordering, Less, Equal, Greater, is_eq, is_lt, true≢false, IsPermutation, String, string_bytes, Result, is_ok, length}
-use Rattle.std.specs.Cmp.{IsTotalOrder, first_so, second_so}
-use Rattle.std.specs.Cmp.Lexicographic.{nat_list_cmp_total, texts_ties, same_text}
+use Rattle.std.specs.Cmp.{first_so, second_so}
+use Rattle.std.specs.Cmp.Lexicographic.{texts_ties, same_text}
 use Rattle.std.specs.Ordering.{ordering_then, match_ordering, eq_by_cmp}
-use Rattle.std.specs.String.{string_cmp, string_eq}
+use Rattle.std.specs.String.{string_eq}
 use Rattle.std.specs.BTreeSet.{insert_key}
 use Rattle.std.specs.List.{list_any, dedup, dedup_from, AllByRecursion}
 use Rattle.std.specs.List.Sorted.{IsStrictlySortedBy, IsSearchInRange, IsBinarySearchResult}

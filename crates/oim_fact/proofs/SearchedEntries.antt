@@ -1,8 +1,8 @@
 -- What a binary search answers of entries whose keys strictly rise: what a look-up in them finds.
-use Rattle.std.proofs.Common.{◌≡◌, ◌∙◌, ap, sym, refl, subst, ℕ, zero, suc, ◌+◌, ◌<◌, ◌≤◌, arith, Bool, true, false, ◌&&◌, cond, T, List, [], ◌∷◌, map, length, get_or, Option, Some, None, Result, Ok, Err, is_ok, is_some, MatchResult, Ordering, Less, Equal, Greater, is_eq, is_lt, inl, inr}
+use Rattle.std.proofs.Common.{◌≡◌, ◌∙◌, ap, sym, refl, ℕ, zero, suc, ◌+◌, ◌<◌, arith, Bool, true, false, ◌&&◌, cond, T, List, [], ◌∷◌, map, length, get_or, Some, None, Result, Ok, Err, is_ok, is_some, MatchResult, Ordering, Less, Equal, Greater, is_eq, is_lt, inl, inr}
 use Rattle.std.specs.Cmp.{IsTotalOrder, tied_back}
-use Rattle.std.specs.Ordering.{ordering_reverse, ordering_index}
-use Rattle.std.specs.List.Sorted.{IsSortedBy, IsNonDecreasingBy, IsBinarySearchResult, IsSearchInRange}
+use Rattle.std.specs.Ordering.{ordering_reverse}
+use Rattle.std.specs.List.Sorted.{IsSortedBy, IsBinarySearchResult, IsSearchInRange}
 use Rattle.std.specs.FinMap.Entries.{find, below_all, is_sorted}
 use Rattle.std.proofs.lemmas.List.Sorted.{searchable_from_sorted}
 use Rattle.std.proofs.lemmas.Bool.{cases_lt}

@@ -1,5 +1,5 @@
 -- Dimensions that were sorted: the set is the list itself, unless a test fails.
-use Rattle.std.proofs.Common.{cond, not, None, Some, Result, Ok, Err, String, string_bytes, IsPermutation, ◌≡◌, ◌∙◌, ap, sym, subst, refl, Bool, true, false, List, [], ◌∷◌, map, Option, Ordering, Less, Equal, Greater, is_lt, IsSorted}
+use Rattle.std.proofs.Common.{cond, not, None, Some, Result, Ok, Err, String, string_bytes, IsPermutation, ◌≡◌, ◌∙◌, ap, sym, subst, refl, true, false, List, [], ◌∷◌, map, Option, Ordering, Less, Equal, Greater, is_lt, IsSorted}
 use Rattle.std.specs.Ordering.{ordering_then}
 use Rattle.std.specs.List.{list_any}
 use Rattle.std.specs.Option.{option_cmp}
@@ -7,7 +7,7 @@ use Rattle.std.specs.String.{string_cmp}
 use Rattle.std.specs.declared.alloc.Global.{Global}
 use Rattle.std.proofs.lemmas.List.Sorted.{IsPermutation-map}
 use Rattle.filing_model.specs.TextMap.{from_entries}
-use Rattle.filing_model.specs.Text.{Text, has_repeats}
+use Rattle.filing_model.specs.Text.{has_repeats}
 use Rattle.filing_model.specs.Dimensions.{Dims, dims_of, is_null_core, is_concept, is_long_dim}
 use Rattle.filing_model.specs.declared.faults.DimFault.{DimFault}
 use Rattle.filing_model.specs.declared.faults.DimFault.TheVariants.{NameTwice, NullCore, NoConcept, TooLong}

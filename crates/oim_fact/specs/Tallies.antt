@@ -20,6 +20,7 @@ abbrev pub IsInAll : List Fact → ℤ → Type 0
 IsInAll [] x = ⊤
 IsInAll (f ∷ facts) x = IsIn (interval_in f.value) x × IsInAll facts x
 
+-- some number is in it
 abbrev pub IsFilled : Interval → Type 0
 IsFilled i = i.low ≤ℤ i.high
 
@@ -32,6 +33,7 @@ pub record IsCommonPart (one other part : Option Interval) : Type 0 where
 abbrev pub has_value_of : Fact → Fact → Bool
 has_value_of first fact = is_complete (value_pair first.value fact.value)
 
+-- there is no element
 abbrev pub is_empty : {A : Type 0} → List A → Bool
 is_empty [] = true
 is_empty (x ∷ xs) = false

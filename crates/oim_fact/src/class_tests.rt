@@ -1,8 +1,10 @@
 //! Pairs and classes that were worked out by hand, and classes in one pass against classes by all pairs.
 use super::*;
+use crate::tests::{dims, text};
+use Sample::{Nil, Number, Text};
 use filing_model::class_by_pairs;
 use oim_value::{Accuracy, Decimal};
-use std::alloc::{AllocError, Global};
+use std::alloc::Global;
 use std::sync::Arc;
 use std::test::Fail;
 
@@ -15,15 +17,11 @@ enum Sample {
     Number(&'static str, Option<i64>),
 }
 
-fn text(alloc: Global, text: &str) -> Result<String, AllocError> {
-    String::from_str(alloc, text)
-}
-
 fn value(alloc: Global, sample: Sample) -> Result<FactValue, Fail> {
     Ok(match sample {
-        Sample::Nil => FactValue::Nil,
-        Sample::Text(written) => FactValue::Text(text(alloc, written)?),
-        Sample::Number(written, decimals) => FactValue::Number {
+        Nil => FactValue::Nil,
+        Text(written) => FactValue::Text(text(alloc, written)?),
+        Number(written, decimals) => FactValue::Number {
             text: text(alloc, written)?,
             value: Decimal::read(written)?,
             accuracy: Accuracy::of(decimals)?,
@@ -32,16 +30,12 @@ fn value(alloc: Global, sample: Sample) -> Result<FactValue, Fail> {
 }
 
 fn fact(alloc: Global, concept: &str, sample: Sample) -> Result<Fact, Fail> {
-    let mut pairs = Vec::new(alloc);
-    pairs.push((text(alloc, "concept")?, Some(text(alloc, concept)?)))?;
     Ok(Fact {
-        dims: DimSet::of(pairs)?,
+        dims: dims(alloc, &[("concept", Some(concept))])?,
         value: value(alloc, sample)?,
         links: None,
     })
 }
-
-use Sample::{Nil, Number, Text};
 
 const PAIRS: &[(Sample, Sample, Pair)] = &[
     (Nil, Nil, Pair::Complete),

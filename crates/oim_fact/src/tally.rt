@@ -11,10 +11,10 @@ use crate::pairs::compare_values;
 use filing_model::{Class, Pair};
 use oim_value::Interval;
 
-/// What is known of some facts, told of a first one and of each other.
+/// What some facts are to a first one, and which numbers all of them share.
 #[derive(Clone, Copy)]
 pub(crate) struct Tally {
-    /// There is no other fact.
+    /// There is no fact but the first.
     alone: bool,
     /// All have the dimensions of the first.
     together: bool,
@@ -25,6 +25,7 @@ pub(crate) struct Tally {
 }
 
 impl Tally {
+    /// Of one fact.
     pub(crate) fn of(first: &Fact) -> Tally
         ensures { Describes result first.now [] }
     {
@@ -36,7 +37,7 @@ impl Tally {
         }
     }
 
-    /// Counts one more fact in.
+    /// Counts one more fact in, beside the same first one.
     pub(crate) fn add(&mut self, first: &Fact, fact: &Fact)
         ensures { (others : List PlainFact) → Describes self.old first.now others → Describes self.new first.now (others ++ fact.now ∷ []) }
     {
@@ -46,6 +47,7 @@ impl Tally {
         self.shared = common_part(self.shared, interval_in(&fact.value));
     }
 
+    /// The class of all facts that were counted in.
     pub(crate) fn class(self) -> Class
         ensures { (first : PlainFact) (others : List PlainFact) → Describes self first others → result ≡ class_of (first ∷ others) }
     {

@@ -6,11 +6,11 @@ use std::hash::{DefaultHasher, Hash, Hasher};
 use std::sync::Arc;
 use std::test::Fail;
 
-type Pairs<'a> = &'a [(&'a str, Option<&'a str>)];
+pub(crate) type Pairs<'a> = &'a [(&'a str, Option<&'a str>)];
 
 type Rows<'a> = &'a [(&'a str, &'a str)];
 
-fn text(alloc: Global, text: &str) -> Result<String, AllocError> {
+pub(crate) fn text(alloc: Global, text: &str) -> Result<String, AllocError> {
     String::from_str(alloc, text)
 }
 
@@ -37,7 +37,7 @@ fn rows(alloc: Global, rows: Rows) -> Result<Vec<(String, String)>, AllocError> 
     Ok(all)
 }
 
-fn dims(alloc: Global, listed: Pairs) -> Result<DimSet, Fail> {
+pub(crate) fn dims(alloc: Global, listed: Pairs) -> Result<DimSet, Fail> {
     Ok(DimSet::of(pairs(alloc, listed)?)?)
 }
 

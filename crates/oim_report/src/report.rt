@@ -1,8 +1,9 @@
-ghost use Rattle.std.specs.Prelude.{◌≡◌};
+ghost use Rattle.std.specs.Prelude.{◌≡◌, IfOk};
 ghost use Rattle.oim_report.specs.Parts.{AreParts, facts_view, parts_of, whole};
 
 use filing_model::Allowed;
 use oim_fact::{Fact, Names};
+use std::alloc::AllocError;
 use std::marker::Model;
 use std::sync::Arc;
 
@@ -43,6 +44,31 @@ impl Model for Report {
     ghost view = { λ r. whole (record { info = string_bytes r.info; names = r.names; allowed = r.allowed; facts = facts_view r.facts.items }) };
 
     ghost invariant = { λ r. AreParts (record { info = string_bytes r.info; names = r.names; allowed = r.allowed; facts = facts_view r.facts.items }) };
+}
+
+/// The same facts, which are shared, under the same identifiers.
+fn clone_facts(facts: &Vec<(String, Arc<Fact>)>) -> Result<Vec<(String, Arc<Fact>)>, AllocError>
+    ensures { IfOk result (λ v. facts_view v.items ≡ facts_view facts.now.items) }
+{
+    let mut copies = Vec::with_capacity(*facts.allocator(), facts.len())?;
+    for (id, fact) in facts {
+        copies.push((id.clone()?, fact.clone()?))?;
+    }
+    Ok(copies)
+}
+
+impl Clone for Report {
+    ghost is_clone = { λ old new. new ≡ old };
+
+    /// A report with the same facts, which are shared.
+    fn clone(&self) -> Result<Report, AllocError> {
+        Ok(Report {
+            info: self.info.clone()?,
+            names: self.names.clone()?,
+            allowed: self.allowed,
+            facts: clone_facts(&self.facts)?,
+        })
+    }
 }
 
 impl Report {

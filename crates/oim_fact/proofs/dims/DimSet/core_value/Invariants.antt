@@ -1,5 +1,4 @@
 use Rattle.std.proofs.Common.{◌≡◌, drop}
-use Rattle.std.specs.Option.{option_flatten}
 use Rattle.filing_model.specs.Dimensions.{core_value}
 use Rattle.oim_fact.specs.Dims.{dims_view}
 use Rattle.oim_fact.proofs.dims.DimSet.core_value.Given as goal

@@ -1,5 +1,4 @@
-use Rattle.std.proofs.Common.{◌≡◌, ◌∙◌, ap, sym, rules}
-use Rattle.std.specs.List.Sorted.{IsSortedBy}
+use Rattle.std.proofs.Common.{◌∙◌, ap, rules}
 use Rattle.std.proofs.lemmas.Fn.{always_returns_same}
 use Rattle.oim_fact.specs.Texts.{rows_view, has_neighbours}
 use Rattle.oim_fact.specs.Names.{column}

@@ -1,8 +1,8 @@
-use Rattle.std.proofs.Common.{◌≡◌, ◌∙◌, ap, sym}
+use Rattle.std.proofs.Common.{◌∙◌, sym}
 use Rattle.std.specs.Arc.{arc_value}
 use Rattle.std.proofs.lemmas.List.Sorted.{IsPermutation-trans}
 use Rattle.oim_fact.specs.Texts.{rows_view}
-use Rattle.oim_fact.specs.declared.names.Column.TheVariants.{Prefix, Uri}
+use Rattle.oim_fact.specs.declared.names.Column.TheVariants.{Prefix}
 use Rattle.oim_fact.proofs.NamedRows.{same_repeats, name_twice, alias_twice, names_of-sorted, is_sorted-rows}
 use Rattle.oim_fact.proofs.names.Names.of.Goals as goal
 

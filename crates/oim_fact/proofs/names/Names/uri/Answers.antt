@@ -1,4 +1,4 @@
-use Rattle.std.proofs.Common.{◌≡◌, ◌∙◌, ap, sym, subst, T, Some, None, Ok, Err, string_bytes, get_or, rules}
+use Rattle.std.proofs.Common.{◌∙◌, ap, sym, subst, T, Some, Ok, Err, string_bytes, get_or, rules}
 use Rattle.std.specs.FinMap.Entries.{is_sorted}
 use Rattle.std.proofs.lemmas.Fn.{always_returns_same}
 use Rattle.filing_model.specs.Text.{text_cmp}

@@ -1,5 +1,4 @@
-use Rattle.std.proofs.Common.{◌≡◌, ◌∙◌, ap, sym, subst, T, length, rules}
-use Rattle.std.specs.List.Sorted.{IsSearchInRange}
+use Rattle.std.proofs.Common.{◌∙◌, ap, sym, subst, T, rules}
 use Rattle.std.proofs.lemmas.Fn.{always_returns_same}
 use Rattle.filing_model.specs.Text.{Text}
 use Rattle.filing_model.specs.Facts.{is_numeric}

@@ -1,7 +1,6 @@
 -- What is sorted, and of which equal neighbours are dropped, is the table.
-use Rattle.std.proofs.Common.{◌≡◌, ◌∙◌, ap, sym, subst, T, Ok}
+use Rattle.std.proofs.Common.{◌∙◌, ap, sym, subst, T, Ok}
 use Rattle.std.specs.Cmp.{on_total}
-use Rattle.std.specs.List.{dedup}
 use Rattle.std.proofs.lemmas.List.Filters.{dedup_is}
 use Rattle.std.proofs.lemmas.List.Kept.{IsStrictlySortedBy-dedup}
 use Rattle.filing_model.proofs.NumericTables.{row_cmp-total}

@@ -1,0 +1,7 @@
+use Rattle.std.specs.Arc.{arc_value}
+use Rattle.filing_core.specs.Keyed.{keyed}
+use Rattle.filing_core.proofs.Refusing.{IsLeftToRefuse}
+use Rattle.filing_core.proofs.plain.Plain.refusal.Given as goal
+
+abbrev pub invariant-loop-name : goal.invariant-loop-name
+invariant-loop-name l = IsLeftToRefuse l.staged (keyed arc_value l.name-iterator) (keyed arc_value l.initial.name-iterator)
