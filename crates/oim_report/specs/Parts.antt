@@ -15,9 +15,12 @@ use Rattle.filing_model.specs.Reports.{Report}
 use Rattle.filing_model.specs.ReadReport.{allowed_of_features, prefixes_of_namespaces}
 use Rattle.filing_model.specs.declared.duplicates.Allowed.{Allowed}
 
--- facts that are shared, under their identifiers
+-- an identifier with its fact, which is shared
+abbrev pub fact_view : String Global × Arc Fact Global → Text × Fact
+fact_view entry = (string_bytes entry.0, arc_value entry.1)
+
 abbrev pub facts_view : List (String Global × Arc Fact Global) → List (Text × Fact)
-facts_view facts = map (λ e. (string_bytes e.0, arc_value e.1)) facts
+facts_view facts = map fact_view facts
 
 -- the four parts, whose facts stand in a list
 pub record Parts : Type 0 where

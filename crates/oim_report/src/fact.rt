@@ -1,0 +1,179 @@
+//! Facts as JSON says them.
+
+ghost use Rattle.std.specs.Prelude.{◌≡◌, codes, Option, option_map, ok_or, string_bytes, IfOk};
+ghost use Rattle.std.specs.Option.{option_and_then};
+ghost use Rattle.serde_json.specs.Find.{get};
+ghost use Rattle.serde_json.specs.View.{view, members_view};
+ghost use Rattle.filing_model.specs.Try.{Gives, each};
+ghost use Rattle.filing_model.specs.Faults.{fact_trouble};
+ghost use Rattle.filing_model.specs.Fitted.{AreLinks};
+ghost use Rattle.filing_model.specs.JsonText.{pairs, as_nullable};
+ghost use Rattle.filing_model.specs.ReadFact.{dim_of, decimals_of, links_of, raw_fact_of};
+ghost use Rattle.filing_model.specs.declared.faults.Trouble.TheVariants as trouble;
+ghost use Rattle.oim_fact.specs.Dims.{dims_view};
+ghost use Rattle.oim_fact.specs.Texts.{text_of};
+ghost use Rattle.oim_report.specs.Readings.{dim_view, dims_at, raw_fact_at, same};
+
+use crate::values::{members_of, take_member, whole_text};
+use filing_model::Trouble;
+use oim_fact::{DimSet, RawFact};
+use serde_json::{Map, Value};
+use std::alloc::Global;
+
+/// The members of a fact object that are read.
+#[derive(Drop)]
+struct FactMembers {
+    dimensions: Option<Value>,
+    value: Option<Value>,
+    decimals: Option<Value>,
+    links: Option<Value>,
+}
+
+/// The members that are read, out of a value; none of one that is no object. The others are dropped.
+fn fact_members(value: Value) -> FactMembers
+    ensures dimensions { option_map view result.dimensions ≡ get (codes "dimensions") (view value) }
+    ensures value { option_map view result.value ≡ get (codes "value") (view value) }
+    ensures decimals { option_map view result.decimals ≡ get (codes "decimals") (view value) }
+    ensures links { option_map view result.links ≡ get (codes "links") (view value) }
+{
+    match value {
+        Value::Object(members) => {
+            let mut members = members;
+            FactMembers {
+                dimensions: take_member(&mut members, "dimensions"),
+                value: take_member(&mut members, "value"),
+                decimals: take_member(&mut members, "decimals"),
+                links: take_member(&mut members, "links"),
+            }
+        }
+        _ => FactMembers {
+            dimensions: None,
+            value: None,
+            decimals: None,
+            links: None,
+        },
+    }
+}
+
+/// A dimension's name with its value, a text or null.
+fn dim(name: String, value: Value) -> Result<(String, Option<String>), Trouble>
+    ensures { Gives fact_trouble dim_view result (dim_of (string_bytes name, view value)) }
+{
+    match value {
+        Value::Null => Ok((name, None)),
+        Value::String(text) => Ok((name, Some(text))),
+        _ => Err(Trouble::WrongShape),
+    }
+}
+
+/// The dimensions that these members are.
+fn dims_in(
+    alloc: Global,
+    members: Map<String, Value>,
+) -> Result<Vec<(String, Option<String>)>, Trouble>
+    ensures { Gives fact_trouble (λ v. dims_view v.items) result (each dim_of (pairs (members_view members.entries))) }
+{
+    let Ok(mut dims) = Vec::with_capacity(alloc, members.len()) else {
+        return Err(Trouble::NoMemory);
+    };
+    for (name, value) in members {
+        let Ok(()) = dims.push(dim(name, value)?) else {
+            return Err(Trouble::NoMemory);
+        };
+    }
+    Ok(dims)
+}
+
+/// The dimensions as they stand in the object.
+fn dims(alloc: Global, dimensions: Option<Value>) -> Result<Vec<(String, Option<String>)>, Trouble>
+    ensures { Gives fact_trouble (λ v. dims_view v.items) result (dims_at (option_map view dimensions)) }
+{
+    let Some(dimensions) = dimensions else {
+        return Err(Trouble::WrongShape);
+    };
+    match members_of(dimensions) {
+        Some(members) => dims_in(alloc, members),
+        None => Err(Trouble::WrongShape),
+    }
+}
+
+/// A text or null.
+fn nullable(value: Option<Value>) -> Result<Option<String>, Trouble>
+    ensures { Gives fact_trouble text_of result (ok_or (option_and_then as_nullable (option_map view value)) trouble.WrongShape) }
+{
+    match value {
+        Some(Value::Null) => Ok(None),
+        Some(Value::String(text)) => Ok(Some(text)),
+        _ => Err(Trouble::WrongShape),
+    }
+}
+
+fn decimals(value: Option<Value>) -> Result<Option<i64>, Trouble>
+    ensures { Gives fact_trouble (λ d. d) result (decimals_of (option_map view value)) }
+{
+    match value {
+        None | Some(Value::Null) => Ok(None),
+        Some(Value::Number(number)) => match number.as_i64() {
+            Some(decimals) => Ok(Some(decimals)),
+            None => Err(Trouble::NotWhole),
+        },
+        _ => Err(Trouble::WrongShape),
+    }
+}
+
+/// Links as compact text.
+fn links(alloc: Global, value: Option<Value>) -> Result<Option<String>, Trouble>
+    ensures text { Gives fact_trouble text_of result (links_of (option_map view value)) }
+    ensures links { IfOk result (λ links. AreLinks (text_of links)) }
+{
+    let Some(value) = value else {
+        return Ok(None);
+    };
+    if !value.is_object() {
+        return Err(Trouble::WrongShape);
+    }
+    match whole_text(alloc, &value) {
+        Ok(Some(text)) => Ok(Some(text)),
+        Ok(None) => Err(Trouble::NotWhole),
+        Err(_) => Err(Trouble::NoMemory),
+    }
+}
+
+/// The raw fact of these members, or the first fault.
+fn fact_of_members(alloc: Global, members: FactMembers) -> Result<RawFact, Trouble>
+    ensures fact { Gives fact_trouble same result (raw_fact_at (option_map view members.dimensions) (option_map view members.value) (option_map view members.decimals) (option_map view members.links)) }
+    ensures links { IfOk result (λ raw. AreLinks raw.links) }
+{
+    let named = dims(alloc, members.dimensions)?;
+    let value = nullable(members.value)?;
+    let decimals = decimals(members.decimals)?;
+    let links = links(alloc, members.links)?;
+    match DimSet::of(named) {
+        Ok(dims) => Ok(RawFact {
+            dims,
+            value,
+            decimals,
+            links,
+        }),
+        Err(fault) => Err(Trouble::Dims(fault)),
+    }
+}
+
+/// The raw fact that a value is, out of it.
+pub(crate) fn raw_fact_from(alloc: Global, value: Value) -> Result<RawFact, Trouble>
+    ensures fact { Gives fact_trouble same result (raw_fact_of (view value)) }
+    ensures links { IfOk result (λ raw. AreLinks raw.links) }
+{
+    fact_of_members(alloc, fact_members(value))
+}
+
+/// The raw fact that a JSON value is (xBRL-JSON 1.0), or the first fault: not its shape; decimals or a number in links that is not whole; no dimension set. Members other than `dimensions`, `value`, `decimals` and `links` are passed over.
+pub fn raw_fact(alloc: Global, value: &Value) -> Result<RawFact, Trouble>
+    ensures fact { Gives fact_trouble same result (raw_fact_of (view value.now)) }
+    ensures links { IfOk result (λ raw. AreLinks raw.links) }
+{
+    match value.clone() {
+        Ok(value) => raw_fact_from(alloc, value),
+        Err(_) => Err(Trouble::NoMemory),
+    }
+}

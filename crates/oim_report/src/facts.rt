@@ -1,0 +1,159 @@
+//! The facts of a report as JSON says them.
+
+ghost use Rattle.std.specs.Prelude.{◌≡◌, T, codes, Option, option_map, string_bytes, IfOk};
+ghost use Rattle.std.specs.Arc.{arc_value};
+ghost use Rattle.std.specs.FinMap.Entries.{is_sorted};
+ghost use Rattle.serde_json.specs.Find.{get};
+ghost use Rattle.serde_json.specs.View.{view, members_view};
+ghost use Rattle.filing_model.specs.Text.{text_cmp};
+ghost use Rattle.filing_model.specs.TextMap.{from_entries};
+ghost use Rattle.filing_model.specs.Try.{Gives, each};
+ghost use Rattle.filing_model.specs.Faults.{fact_trouble};
+ghost use Rattle.filing_model.specs.JsonText.{pairs};
+ghost use Rattle.filing_model.specs.Dimensions.{AreDims};
+ghost use Rattle.filing_model.specs.Fitted.{IsFitted};
+ghost use Rattle.filing_model.specs.ReadReport.{entry_of, facts_of, BadFact as refused};
+ghost use Rattle.oim_report.specs.Faults.{report_fault};
+ghost use Rattle.oim_report.specs.Parts.{fact_view, facts_view};
+ghost use Rattle.oim_report.specs.Readable.{AreFitted};
+ghost use Rattle.oim_report.specs.Readings.{fitted_of, same};
+
+use crate::fact::raw_fact_from;
+use crate::fault::ReportFault;
+use crate::values::members_of;
+use filing_model::Trouble;
+use oim_fact::{Fact, Names, RawFact, fit};
+use serde_json::{Map, Value};
+use std::alloc::Global;
+use std::sync::Arc;
+
+/// The fault that a fact's trouble is: want of memory is the report's own.
+fn bad_fact(id: String, trouble: Trouble) -> ReportFault
+    ensures { report_fault result ≡ option_map (refused (string_bytes id)) (fact_trouble trouble) }
+{
+    match trouble {
+        Trouble::NoMemory => ReportFault::NoMemory,
+        trouble => ReportFault::BadFact(id, trouble),
+    }
+}
+
+/// A fact by the names of its report, which has its dimension set.
+fn fitted(names: &Names, raw: RawFact) -> Result<Fact, Trouble>
+    ensures fact { Gives fact_trouble same result (fitted_of names.now raw) }
+    ensures fitted { IfOk result (λ f. AreDims f.dims) }
+{
+    match fit(names, raw) {
+        Ok(fact) => {
+            let _ = fact.dims.pairs();
+            Ok(fact)
+        }
+        Err(fault) => Err(Trouble::Fit(fault)),
+    }
+}
+
+/// An identifier with its fact.
+fn entry(
+    alloc: Global,
+    names: &Names,
+    id: String,
+    value: Value,
+) -> Result<(String, Arc<Fact>), ReportFault>
+    ensures entry { Gives report_fault fact_view result (entry_of names.now (string_bytes id, view value)) }
+    ensures dims { IfOk result (λ e. AreDims (arc_value e.1).dims) }
+    ensures fitted { IfOk result (λ e. IsFitted names.now (arc_value e.1)) }
+{
+    let raw = match raw_fact_from(alloc, value) {
+        Ok(raw) => raw,
+        Err(trouble) => return Err(bad_fact(id, trouble)),
+    };
+    match fitted(names, raw) {
+        Ok(fact) => Ok((id, Arc::new(alloc, fact)?)),
+        Err(trouble) => Err(bad_fact(id, trouble)),
+    }
+}
+
+/// The same of members that stay.
+fn entry_copied(
+    alloc: Global,
+    names: &Names,
+    id: &String,
+    value: &Value,
+) -> Result<(String, Arc<Fact>), ReportFault>
+    ensures entry { Gives report_fault fact_view result (entry_of names.now (string_bytes id.now, view value.now)) }
+    ensures dims { IfOk result (λ e. AreDims (arc_value e.1).dims) }
+    ensures fitted { IfOk result (λ e. IsFitted names.now (arc_value e.1)) }
+{
+    entry(alloc, names, id.clone()?, value.clone()?)
+}
+
+/// The facts that these members are, each under its identifier.
+fn facts_in(
+    alloc: Global,
+    names: &Names,
+    members: Map<String, Value>,
+) -> Result<Vec<(String, Arc<Fact>)>, ReportFault>
+    ensures facts { Gives report_fault (λ v. facts_view v.items) result (each (entry_of names.now) (pairs (members_view members.entries))) }
+    ensures rise { IfOk result (λ v. T (is_sorted text_cmp (facts_view v.items))) }
+    ensures fitted { IfOk result (λ v. AreFitted names.now (facts_view v.items)) }
+{
+    let mut facts = Vec::with_capacity(alloc, members.len())?;
+    for (id, value) in members {
+        facts.push(entry(alloc, names, id, value)?)?;
+    }
+    Ok(facts)
+}
+
+/// The facts of a report, out of its member `facts`, in byte order of their identifiers.
+pub(crate) fn facts(
+    alloc: Global,
+    names: &Names,
+    value: Option<Value>,
+) -> Result<Vec<(String, Arc<Fact>)>, ReportFault>
+    ensures facts { Gives report_fault (λ v. from_entries (facts_view v.items)) result (facts_of names.now (option_map view value)) }
+    ensures rise { IfOk result (λ v. T (is_sorted text_cmp (facts_view v.items))) }
+    ensures fitted { IfOk result (λ v. AreFitted names.now (facts_view v.items)) }
+{
+    let Some(value) = value else {
+        return Ok(Vec::new(alloc));
+    };
+    match members_of(value) {
+        Some(members) => facts_in(alloc, names, members),
+        None => Err(ReportFault::WrongShape),
+    }
+}
+
+/// The facts that these members are, of which one value at a time is copied.
+fn facts_among(
+    alloc: Global,
+    names: &Names,
+    members: &Map<String, Value>,
+) -> Result<Vec<(String, Arc<Fact>)>, ReportFault>
+    ensures facts { Gives report_fault (λ v. facts_view v.items) result (each (entry_of names.now) (pairs (members_view members.now.entries))) }
+    ensures rise { IfOk result (λ v. T (is_sorted text_cmp (facts_view v.items))) }
+    ensures fitted { IfOk result (λ v. AreFitted names.now (facts_view v.items)) }
+{
+    let mut facts = Vec::with_capacity(alloc, members.len())?;
+    for (id, value) in members {
+        facts.push(entry_copied(alloc, names, id, value)?)?;
+    }
+    Ok(facts)
+}
+
+/// The facts of a report, which keeps its member `facts`.
+pub(crate) fn facts_at(
+    alloc: Global,
+    names: &Names,
+    value: &Value,
+) -> Result<Vec<(String, Arc<Fact>)>, ReportFault>
+    ensures facts { Gives report_fault (λ v. from_entries (facts_view v.items)) result (facts_of names.now (get (codes "facts") (view value.now))) }
+    ensures rise { IfOk result (λ v. T (is_sorted text_cmp (facts_view v.items))) }
+    ensures fitted { IfOk result (λ v. AreFitted names.now (facts_view v.items)) }
+{
+    let Some(member) = value.get("facts") else {
+        return Ok(Vec::new(alloc));
+    };
+    match member.as_object() {
+        Some(members) => facts_among(alloc, names, members),
+        None => Err(ReportFault::WrongShape),
+    }
+}

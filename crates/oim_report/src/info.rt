@@ -1,0 +1,154 @@
+//! What `documentInfo` declares.
+
+ghost use Rattle.std.specs.Prelude.{◌≡◌, codes, Option, option_map, string_bytes, IfOk};
+ghost use Rattle.std.specs.Arc.{arc_value};
+ghost use Rattle.serde_json.specs.Find.{get};
+ghost use Rattle.serde_json.specs.View.{view, members_view};
+ghost use Rattle.filing_model.specs.Try.{Gives, each};
+ghost use Rattle.filing_model.specs.JsonText.{pairs, IsWritable};
+ghost use Rattle.filing_model.specs.ReadReport.{allowed_of_word, allowed_of_features, prefix_of, whole_text_of};
+ghost use Rattle.oim_fact.specs.Texts.{row_of, rows_view};
+ghost use Rattle.oim_report.specs.Faults.{report_fault};
+ghost use Rattle.oim_report.specs.Readings.{bound_of, document_info_at, has_document_type, names_in, same};
+
+use crate::fault::ReportFault;
+use crate::values::whole_text;
+use filing_model::{Allowed, is_same_text};
+use oim_fact::{Names, NumericTable};
+use serde_json::{Map, Value};
+use std::alloc::Global;
+use std::sync::Arc;
+
+/// The document type of xBRL-JSON 1.0.
+const DOCUMENT_TYPE: &str = "https://xbrl.org/2021/xbrl-json";
+
+/// Whether `documentInfo` has the right document type.
+fn has_document_type(info: &Value) -> bool
+    ensures { result ≡ has_document_type (view info.now) }
+{
+    let Some(value) = info.get("documentType") else {
+        return false;
+    };
+    match value.as_str() {
+        Some(found) => is_same_text(found, DOCUMENT_TYPE),
+        None => false,
+    }
+}
+
+/// The member `documentInfo`, an object of the right document type.
+pub(crate) fn document_info(value: Option<Value>) -> Result<Value, ReportFault>
+    ensures { Gives report_fault view result (document_info_at (option_map view value)) }
+{
+    let Some(info) = value else {
+        return Err(ReportFault::WrongShape);
+    };
+    if !info.is_object() {
+        return Err(ReportFault::WrongShape);
+    }
+    if !has_document_type(&info) {
+        return Err(ReportFault::WrongDocumentType);
+    }
+    Ok(info)
+}
+
+/// The allowed duplicates that a word declares.
+fn allowed_word(word: &str) -> Option<Allowed>
+    ensures { result ≡ allowed_of_word word.now }
+{
+    if is_same_text(word, "none") {
+        Some(Allowed::Never)
+    } else if is_same_text(word, "complete") {
+        Some(Allowed::Complete)
+    } else if is_same_text(word, "consistent") {
+        Some(Allowed::Consistent)
+    } else if is_same_text(word, "all") {
+        Some(Allowed::All)
+    } else {
+        None
+    }
+}
+
+/// The allowed duplicates that the member `features` declares.
+pub(crate) fn allowed(info: &Value) -> Result<Allowed, ReportFault>
+    ensures { Gives report_fault same result (allowed_of_features (get (codes "features") (view info.now))) }
+{
+    let Some(features) = info.get("features") else {
+        return Ok(Allowed::All);
+    };
+    if !features.is_object() {
+        return Err(ReportFault::WrongShape);
+    }
+    let Some(value) = features.get("xbrl:allowedDuplicates") else {
+        return Ok(Allowed::All);
+    };
+    let Some(word) = value.as_str() else {
+        return Err(ReportFault::BadPolicy);
+    };
+    match allowed_word(word) {
+        Some(allowed) => Ok(allowed),
+        None => Err(ReportFault::BadPolicy),
+    }
+}
+
+/// A prefix with its URI.
+fn prefix(name: &String, value: &Value) -> Result<(String, String), ReportFault>
+    ensures { Gives report_fault row_of result (prefix_of (string_bytes name.now, view value.now)) }
+{
+    match value {
+        Value::String(uri) => Ok((name.clone()?, uri.clone()?)),
+        _ => Err(ReportFault::WrongShape),
+    }
+}
+
+/// The prefixes with their URIs that these members are.
+fn prefixes_in(
+    alloc: Global,
+    members: &Map<String, Value>,
+) -> Result<Vec<(String, String)>, ReportFault>
+    ensures { Gives report_fault (λ v. rows_view v.items) result (each prefix_of (pairs (members_view members.now.entries))) }
+{
+    let mut prefixes = Vec::with_capacity(alloc, members.len())?;
+    for (name, value) in members {
+        prefixes.push(prefix(name, value)?)?;
+    }
+    Ok(prefixes)
+}
+
+/// The prefixes with their URIs that the member `namespaces` binds.
+fn bound(alloc: Global, info: &Value) -> Result<Vec<(String, String)>, ReportFault>
+    ensures { Gives report_fault (λ v. rows_view v.items) result (bound_of (get (codes "namespaces") (view info.now))) }
+{
+    let Some(namespaces) = info.get("namespaces") else {
+        return Ok(Vec::new(alloc));
+    };
+    match namespaces.as_object() {
+        Some(members) => prefixes_in(alloc, members),
+        None => Err(ReportFault::WrongShape),
+    }
+}
+
+/// The names that `documentInfo` declares, by this numeric table.
+pub(crate) fn names(
+    alloc: Global,
+    info: &Value,
+    table: &Arc<NumericTable>,
+) -> Result<Names, ReportFault>
+    ensures { Gives report_fault same result (names_in (arc_value table.now) (view info.now)) }
+{
+    let prefixes = bound(alloc, info)?;
+    match Names::of(prefixes, table.clone()?) {
+        Ok(names) => Ok(names),
+        Err(_) => Err(ReportFault::AliasTwice),
+    }
+}
+
+/// The compact text of `documentInfo`, where each number in it is whole.
+pub(crate) fn info_text(alloc: Global, info: &Value) -> Result<String, ReportFault>
+    ensures text { Gives report_fault string_bytes result (whole_text_of (view info.now)) }
+    ensures writable { IfOk result (λ _. IsWritable (view info.now)) }
+{
+    match whole_text(alloc, info)? {
+        Some(text) => Ok(text),
+        None => Err(ReportFault::NotWhole),
+    }
+}

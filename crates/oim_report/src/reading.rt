@@ -1,0 +1,170 @@
+//! Whole reports as JSON says them.
+
+ghost use Rattle.std.specs.Prelude.{◌≡◌, T, codes, Option, option_map, IfOk};
+ghost use Rattle.std.specs.FinMap.Entries.{is_sorted};
+ghost use Rattle.std.specs.Arc.{arc_value};
+ghost use Rattle.serde_json.specs.Find.{get};
+ghost use Rattle.serde_json.specs.View.{view};
+ghost use Rattle.filing_model.specs.Text.{text_cmp};
+ghost use Rattle.filing_model.specs.TextMap.{from_entries};
+ghost use Rattle.filing_model.specs.Try.{Gives};
+ghost use Rattle.filing_model.specs.ReadReport.{read_report_of, report_of};
+ghost use Rattle.oim_report.specs.Faults.{report_fault};
+ghost use Rattle.oim_report.specs.Parts.{IsInfo, facts_view};
+ghost use Rattle.oim_report.specs.Readable.{AreFitted, IsReadable};
+ghost use Rattle.oim_report.specs.Readings.{declared_by, report_at, same};
+
+use crate::facts::{facts, facts_at};
+use crate::fault::ReportFault;
+use crate::info::{allowed, document_info, info_text, names};
+use crate::report::{Report, ReportParts};
+use crate::values::{copy_at, json_value, take_member, without_mark};
+use filing_model::Allowed;
+use oim_fact::{Fact, Names, NumericTable};
+use serde_json::Value;
+use std::alloc::Global;
+use std::marker::Model;
+use std::sync::Arc;
+
+/// The members at the top of a report that are read.
+#[derive(Drop)]
+struct TopMembers {
+    document_info: Option<Value>,
+    facts: Option<Value>,
+}
+
+/// The members that are read, out of a value; none of one that is no object. The others are dropped.
+fn top_members(value: Value) -> TopMembers
+    ensures document_info { option_map view result.document_info ≡ get (codes "documentInfo") (view value) }
+    ensures facts { option_map view result.facts ≡ get (codes "facts") (view value) }
+{
+    match value {
+        Value::Object(members) => {
+            let mut members = members;
+            TopMembers {
+                document_info: take_member(&mut members, "documentInfo"),
+                facts: take_member(&mut members, "facts"),
+            }
+        }
+        _ => TopMembers {
+            document_info: None,
+            facts: None,
+        },
+    }
+}
+
+/// What a report says of itself.
+#[derive(Drop)]
+struct Declared {
+    info: String,
+    names: Names,
+    allowed: Allowed,
+}
+
+impl Model for Declared {
+    ghost use Rattle.std.specs.Prelude.{string_bytes};
+    ghost use Rattle.oim_report.specs.Readings.{Declaration};
+
+    ghost Value = { Declaration };
+
+    ghost view = { λ d. record { info = string_bytes d.info; names = d.names; allowed = d.allowed } };
+}
+
+/// What the member `documentInfo` declares.
+fn declaration(
+    alloc: Global,
+    value: Option<Value>,
+    table: &Arc<NumericTable>,
+) -> Result<Declared, ReportFault>
+    ensures declared { Gives report_fault same result (declared_by (arc_value table.now) (option_map view value)) }
+    ensures info { IfOk result (λ d. IsInfo d.info d.names.prefixes d.allowed) }
+{
+    let document_info = document_info(value)?;
+    let allowed = allowed(&document_info)?;
+    let names = names(alloc, &document_info, table)?;
+    let info = info_text(alloc, &document_info)?;
+    Ok(Declared {
+        info,
+        names,
+        allowed,
+    })
+}
+
+/// The report of what it says of itself and of its facts.
+fn assembled(declared: Declared, facts: Vec<(String, Arc<Fact>)>) -> Report
+    requires info { IsInfo declared.info declared.names.prefixes declared.allowed }
+    requires rise { T (is_sorted text_cmp (facts_view facts.items)) }
+    requires fitted { AreFitted declared.names (facts_view facts.items) }
+    ensures report { result ≡ record { info = declared.info; names = declared.names; allowed = declared.allowed; facts = from_entries (facts_view facts.items) } }
+    ensures readable { IsReadable result }
+{
+    let Declared {
+        info,
+        names,
+        allowed,
+    } = declared;
+    Report::of(ReportParts {
+        info,
+        names,
+        allowed,
+        facts,
+    })
+}
+
+/// The report of these members: each part of them is dropped as soon as it is read.
+fn report_of_members(
+    alloc: Global,
+    members: TopMembers,
+    table: &Arc<NumericTable>,
+) -> Result<Report, ReportFault>
+    ensures report { Gives report_fault same result (report_at (arc_value table.now) (option_map view members.document_info) (option_map view members.facts)) }
+    ensures readable { IfOk result IsReadable }
+{
+    let declared = declaration(alloc, members.document_info, table)?;
+    let facts = facts(alloc, &declared.names, members.facts)?;
+    Ok(assembled(declared, facts))
+}
+
+/// The report that a value is, out of it.
+#[tactic(auto, using(crate::proofs::Reports::report_by_members))]
+fn report_from(
+    alloc: Global,
+    value: Value,
+    table: &Arc<NumericTable>,
+) -> Result<Report, ReportFault>
+    ensures report { Gives report_fault same result (report_of (arc_value table.now) (view value)) }
+    ensures readable { IfOk result IsReadable }
+{
+    report_of_members(alloc, top_members(value), table)
+}
+
+/// The report that a JSON value is (xBRL-JSON 1.0) by this numeric table, or the first fault, in this order: not the shape of a report, the document type, the features, the namespaces, a number in `documentInfo` that is not whole, the shape of `facts`, and the first refused fact in byte order of the identifiers.
+#[tactic(auto, using(crate::proofs::Reports::report_by_members))]
+pub fn report_of(
+    alloc: Global,
+    value: &Value,
+    table: &Arc<NumericTable>,
+) -> Result<Report, ReportFault>
+    ensures report { Gives report_fault same result (report_of (arc_value table.now) (view value.now)) }
+    ensures readable { IfOk result IsReadable }
+{
+    let document_info = copy_at(value, "documentInfo")?;
+    let declared = declaration(alloc, document_info, table)?;
+    let facts = facts_at(alloc, &declared.names, value)?;
+    Ok(assembled(declared, facts))
+}
+
+/// The report that a text is, after one byte order mark, or the first fault: no JSON, or as `report_of`.
+pub fn read_report(
+    alloc: Global,
+    bytes: &[u8],
+    table: &Arc<NumericTable>,
+) -> Result<Report, ReportFault>
+    ensures report { Gives report_fault same result (read_report_of (arc_value table.now) bytes.now) }
+    ensures readable { IfOk result IsReadable }
+{
+    match json_value(alloc, without_mark(bytes))? {
+        Some(value) => report_from(alloc, value, table),
+        None => Err(ReportFault::NotJson),
+    }
+}
