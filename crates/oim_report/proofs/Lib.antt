@@ -5,3 +5,9 @@ pub mod Reports
 pub mod Whole
 pub mod TableLines
 pub mod Taken
+pub mod WrittenValues
+pub mod WrittenFacts
+pub mod WrittenPieces
+pub mod WrittenReports
+pub mod ReadFacts
+pub mod ReadBackInstances

@@ -3,3 +3,8 @@ pub mod Lines
 pub mod Parts
 pub mod Readable
 pub mod Readings
+pub mod ReadableFact
+pub mod Nesting
+pub mod JsonValues
+pub mod ReadBack
+pub mod Pieces

@@ -1,21 +1,32 @@
-//! Reports and numeric tables of xBRL-JSON 1.0, read from their texts.
+//! Reports and numeric tables of xBRL-JSON 1.0, read from their texts, and facts and reports written.
 //!
 //! It knows nothing of versions, of sessions or of devices.
 #![tactic(auto)]
 
 mod fact;
+mod fact_text;
 mod facts;
 mod fault;
 mod info;
+mod pieces;
+mod read_back;
 mod reading;
 mod report;
+mod report_text;
 mod table;
 mod values;
 
 pub use fact::raw_fact;
+pub use fact_text::{push_dims, push_fact, push_raw, write_fact, write_raw};
 pub use fault::ReportFault;
 pub use filing_model::{TableFault, Trouble};
+pub use pieces::{push_comma, push_quoted};
+pub use read_back::{
+    facts_are_read_back, raw_facts_are_read_back, raw_facts_are_readable, reports_are_read_back,
+    values_are_read_back,
+};
 pub use reading::{read_report, report_of};
 pub use report::{Report, ReportParts};
+pub use report_text::{push_report, write_report};
 pub use table::read_table;
 pub use values::json_value;

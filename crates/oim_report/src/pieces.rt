@@ -1,0 +1,58 @@
+//! Pieces of compact JSON, each appended to a text that grows.
+
+ghost use Rattle.std.specs.Prelude.{◌≡◌, ◌++◌, OnOk, IfOk, string_bytes};
+ghost use Rattle.json.specs.Print.{quoted};
+ghost use Rattle.serde_json.specs.Written.{comma_if};
+ghost use Rattle.filing_model.specs.Writing.{decimals_text, nullable_text};
+ghost use Rattle.oim_fact.specs.Texts.{text_of};
+
+use json::Writer;
+use std::alloc::{AllocError, Global};
+
+/// A text as a JSON text.
+#[tactic(auto, using(crate::proofs::WrittenPieces::print_string))]
+fn quoted_text(alloc: Global, text: &str) -> Result<String, AllocError>
+    ensures { IfOk result (λ t. string_bytes t ≡ quoted text.now) }
+{
+    let mut writer = Writer::new(Vec::with_capacity(alloc, text.len().saturating_add(2))?);
+    writer.string(text)?;
+    match String::from_utf8(writer.into_inner()) {
+        Ok(quoted) => Ok(quoted),
+        Err(_) => unreachable!(),
+    }
+}
+
+/// Appends a text as a JSON text.
+pub fn push_quoted(out: &mut String, text: &str) -> Result<(), AllocError>
+    ensures { OnOk result (string_bytes out.new ≡ string_bytes out.old ++ quoted text.now) }
+{
+    let quoted = quoted_text(*out.allocator(), text)?;
+    out.push_str(&quoted)
+}
+
+/// Appends a comma, where something stands before.
+pub fn push_comma(out: &mut String, later: bool) -> Result<(), AllocError>
+    ensures { OnOk result (string_bytes out.new ≡ string_bytes out.old ++ comma_if later) }
+{
+    if later { out.push_str(",") } else { Ok(()) }
+}
+
+/// Appends a JSON text, or null.
+pub(crate) fn push_nullable(out: &mut String, text: &Option<String>) -> Result<(), AllocError>
+    ensures { OnOk result (string_bytes out.new ≡ string_bytes out.old ++ nullable_text (text_of text.now)) }
+{
+    match text {
+        None => out.push_str("null"),
+        Some(text) => push_quoted(out, text),
+    }
+}
+
+/// Appends the member `decimals` with the comma after it, where there is one.
+pub(crate) fn push_decimals(out: &mut String, decimals: &Option<i64>) -> Result<(), AllocError>
+    ensures { OnOk result (string_bytes out.new ≡ string_bytes out.old ++ decimals_text decimals.now) }
+{
+    match decimals {
+        None => Ok(()),
+        Some(decimals) => write!(out, "\"decimals\":{decimals},"),
+    }
+}
