@@ -4,15 +4,10 @@ pub mod Cuts
 pub mod Sending
 pub mod Taking
 pub mod Reading
-pub mod Members
-pub mod EachMember
-pub mod Facts
-pub mod Pieces
 pub mod Examples
 pub mod Answering
 pub mod Freeing
 pub mod Busy
-pub mod Values
-pub mod Reports
-pub mod Prefixes
+pub mod Refusing
+pub mod Loads
 pub mod Scripts
