@@ -4,9 +4,11 @@ use Rattle.std.specs.Prelude.{option_map, find}
 use Rattle.filing_model.specs.Text.{Text}
 use Rattle.filing_model.specs.TextMap.{get}
 use Rattle.filing_model.specs.Reports.{Report}
-use Rattle.filing_model.specs.Replies.{Reply}
+use Rattle.filing_model.specs.Replies.{Reply, Disallowed}
+use Rattle.filing_model.specs.declared.duplicates.Class.{Class}
 use Rattle.filing_model.specs.Sessions.{report_obeys, disallowed_cell}
 use Rattle.filing_core.specs.Staged.{StagedFacts}
+use Rattle.filing_core.specs.Cells.{IsRefusedFor}
 use Rattle.filing_core.specs.Refusals.{report_refusal, UnstagedObey}
 
 -- of the first report that does not obey
@@ -63,3 +65,9 @@ accepted e none = by (report_obeys e.1) none
 -- the end: all obey
 pub none_left : (staged : StagedFacts) (left all : List (Text × Report)) → left ≡ [] → IsLeftToRefuse staged left all → None ≡ first_refusal all
 none_left staged left all is h = ap first_refusal (sym is) ∙ h.same
+
+-- ---- one report
+
+pub refusal_by : (r : Report) (name : Text) (o : Option (Class × List Text)) → IsRefusedFor r o → option_map (λ cell. Disallowed name cell.0 cell.1) o ≡ report_refusal name r
+refusal_by r name None obeys = ap (λ b. cond b None (Some (disallowed_cell name r))) (sym obeys)
+refusal_by r name (Some cell) (disobeys, says) = ap (λ t. Some t) (sym (says name)) ∙ ap (λ b. cond b None (Some (disallowed_cell name r))) (sym disobeys)

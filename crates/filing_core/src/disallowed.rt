@@ -4,6 +4,7 @@ ghost use Rattle.std.specs.Prelude.{◌≡◌, option_map, IfOk};
 ghost use Rattle.filing_core.specs.Steps.{reply_of};
 ghost use Rattle.filing_core.specs.Refusals.{report_refusal};
 
+use crate::cells::refusal_in;
 use crate::step::Reply;
 use oim_report::Report;
 use std::alloc::{AllocError, Global};
@@ -16,9 +17,11 @@ pub(crate) fn disallowed(
 ) -> Result<Option<Reply>, AllocError>
     ensures { IfOk result (λ o. option_map reply_of o ≡ report_refusal name.now report.now) }
 {
-    let _ = report.allowed();
-    match String::from_str(alloc, name) {
-        Ok(_) => Err(AllocError),
-        Err(fault) => Err(fault),
+    match refusal_in(alloc, report.allowed(), report.facts())? {
+        Some((class, ids)) => {
+            let name = String::from_str(alloc, name)?;
+            Ok(Some(Reply::Disallowed(name, class, ids)))
+        }
+        None => Ok(None),
     }
 }
