@@ -26,14 +26,6 @@ not_less_itself d = ap is_lt (tied_itself dims_cmp-total d)
 pub same_itself : (d : Dims) → dims_eq d d ≡ true
 same_itself d = ap is_eq (tied_itself dims_cmp-total d)
 
-not_both : (o : Ordering) → is_lt o ≡ true → is_lt (ordering_reverse o) ≡ false
-not_both Less p = refl
-not_both Equal p = absurd (true≢false (sym p))
-not_both Greater p = absurd (true≢false (sym p))
-
-pub not_less_back : (d e : Dims) → is_lt (dims_cmp d e) ≡ true → is_lt (dims_cmp e d) ≡ false
-not_less_back d e p = ap is_lt (dims_cmp-total.antisymm e d) ∙ not_both (dims_cmp d e) p
-
 by_less : (o : Ordering) → is_lt o ≡ true → o ≡ Less
 by_less Less p = refl
 by_less Equal p = absurd (true≢false (sym p))

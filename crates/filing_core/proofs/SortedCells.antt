@@ -1,22 +1,22 @@
 -- Facts in the order of their dimensions: the facts in front that have the first dimensions are their cell, and the least disallowed cell is the first.
-use Rattle.std.proofs.Common.{◌≡◌, ◌∙◌, ap, sym, refl, subst, Bool, true, false, cond, not, ◌||◌, ◌&&◌, ℕ, suc, ◌+◌, List, [], ◌∷◌, map, filter, take, drop, length, get_or, Some, None, Option, Ordering, Less, Equal, Greater, is_lt, is_eq, true≢false, IsPermutation, arith, ◌<◌, ◌≤◌}
+use Rattle.std.proofs.Common.{◌≡◌, ◌∙◌, ap, sym, refl, subst, Bool, true, false, cond, not, ◌||◌, ◌&&◌, ℕ, suc, ◌+◌, nat_lt, List, [], ◌∷◌, map, filter, take, drop, length, get_or, Some, None, Option, Ordering, Less, Equal, Greater, is_lt, is_eq, true≢false, IsPermutation, arith, ◌<◌, ◌≤◌}
 use Rattle.std.specs.List.{list_all, list_any, position_or_len}
 use Rattle.std.specs.List.Sorted.{IsSortedBy, IsStableBy, ties}
 use Rattle.std.specs.Ordering.{ordering_reverse}
 use Rattle.std.specs.Cmp.{IsStrictWeakOrder}
 use Rattle.std.specs.Option.{unwrap_or}
 use Rattle.std.proofs.Math.Seq.{drop-cons}
-use Rattle.std.proofs.lemmas.List.{take-map, drop-map, drop-drop}
-use Rattle.filing_model.specs.declared.duplicates.Class.{Class}
-use borrow.Author.Tests.{ltb-false}
-use lib.Dec.{ltb}
+use Rattle.std.proofs.lemmas.List.{take-map, drop-map, drop-drop, length-map}
+use Rattle.std.proofs.lemmas.List.Sums.{prefix_len-le-length}
 use Rattle.std.specs.Arc.{arc_value}
+use borrow.Author.Tests.{ltb-false}
 use Rattle.std.proofs.lemmas.List.Sorted.{ranks_by, sorted_far, IsPermutation-map}
 use Rattle.std.proofs.lemmas.Map.Views.{any-filter_same}
 use Rattle.filing_model.specs.Dimensions.{Dims, dims_cmp, dims_eq}
 use Rattle.filing_model.specs.Facts.{Fact}
 use Rattle.filing_model.specs.Duplicates.{every_pair, has_dims, class_of, allows, is_disallowed, disallowed_dims, least_dims}
 use Rattle.filing_model.specs.declared.duplicates.Allowed.{Allowed}
+use Rattle.filing_model.specs.declared.duplicates.Class.{Class}
 use Rattle.filing_model.proofs.DimensionSets.{dims_cmp-total, dims_decides}
 use Rattle.filing_model.proofs.EveryPair.{pairs_filter, every_pair_decides}
 use Rattle.filing_model.proofs.Tests.{both, all_hold, is_false}
@@ -98,9 +98,6 @@ pub record IsLeft (a : Allowed) (all left : List Fact) : Type 0 where
   pub rises : dims_rise left ≡ true
   pub whole : (d : Dims) → list_any (has_dims d) left ≡ true → filter (has_dims d) left ≡ filter (has_dims d) all
   pub least : least_dims (filter (is_disallowed a all) (map (λ f. f.dims) left)) ≡ least_dims (disallowed_dims a all)
-
-pub all_is_left : (a : Allowed) (all : List Fact) → dims_rise all ≡ true → IsLeft a all all
-all_is_left a all rises = record { rises = rises; whole = λ d there. refl; least = refl }
 
 -- a fact of one cell is of no other
 apart : (d e : Dims) (f : Fact) → dims_eq d e ≡ false → has_dims e f ≡ true → has_other_dims d f ≡ true
@@ -244,17 +241,16 @@ in_front_behind d [] = refl
 in_front_behind d (x ∷ xs) = ap (λ n. cond (not (has_other_dims d (arc_value x.now))) (1 + n) 0) (in_front_behind d xs)
 
 in_front_at_most : (d : Dims) (xs : List FactRef) → in_front d (facts_behind xs) ≤ length xs
-in_front_at_most d [] = omega arith
-in_front_at_most d (x ∷ xs) = elim (not (has_other_dims d (arc_value x.now))) as (λ b. cond b (1 + in_front d (facts_behind xs)) 0 ≤ suc (length xs)) [
-  | true ↦ (let rest = in_front_at_most d xs in omega arith)
-  | false ↦ omega arith
-]
+in_front_at_most d xs =
+    let most = prefix_len-le-length (λ f. not (has_other_dims d f)) (facts_behind xs) in
+    let same = length-map xs (λ y. arc_value y.now) in
+    omega arith
 
 abbrev place : ℕ → ℕ → Option ℕ
-place n end = cond (ltb n end) (Some n) None
+place n end = cond (nat_lt n end) (Some n) None
 
 at_end : (n end : ℕ) → n ≤ end → unwrap_or (place n end) end ≡ n
-at_end n end within = elim (ltb n end) as (λ b. ltb n end ≡ b → unwrap_or (cond b (Some n) None) end ≡ n) [
+at_end n end within = elim (nat_lt n end) as (λ b. nat_lt n end ≡ b → unwrap_or (cond b (Some n) None) end ≡ n) [
   | true ↦ λ e. refl
   | false ↦ λ e. (let past = ltb-false n end e in omega arith)
 ] refl

@@ -127,3 +127,6 @@ fn class_behind(facts: &[&Arc<Fact>]) -> Class
 {
     class_over(facts.iter().copied())
 }
+
+#[cfg(test)]
+mod tests;

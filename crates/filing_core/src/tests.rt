@@ -1,6 +1,7 @@
 //! Each public call once with memory to spare, with its answer: what a contract cannot say is that a call succeeds.
 use super::*;
-use oim_fact::{DimSet, Fact, FactFault, FactValue, Names, NumericTable, RawFact, fit};
+use oim_fact::{Class, DimSet, Fact, FactFault, FactValue, NumericTable, RawFact};
+use oim_report::{Report, read_report};
 use std::alloc::{AllocError, Global};
 use std::process::Abort;
 use std::sync::Arc;
@@ -27,10 +28,25 @@ const OTHER: Written = Written {
     ..ACME
 };
 
-// A step; each report that goes in is empty and binds the prefix `ex` alone.
+// A report that binds the prefix `ex` alone.
+const BLANK: &str =
+    "{\"documentInfo\":{\"documentType\":\"https://xbrl.org/2021/xbrl-json\",\"namespaces\":{\"ex\":\"http://e.org/t\"}}}";
+
+// The same with no duplicates allowed, and with two equal texts.
+const NO_DUPLICATES: &str =
+    "{\"documentInfo\":{\"documentType\":\"https://xbrl.org/2021/xbrl-json\",\"namespaces\":{\"ex\":\"http://e.org/t\"},\"features\":{\"xbrl:allowedDuplicates\":\"none\"}}}";
+
+const EQUAL_TEXTS: &str =
+    "{\"documentInfo\":{\"documentType\":\"https://xbrl.org/2021/xbrl-json\",\"namespaces\":{\"ex\":\"http://e.org/t\"},\"features\":{\"xbrl:allowedDuplicates\":\"none\"}},\"facts\":{\"b\":{\"value\":\"x\",\"dimensions\":{\"concept\":\"ex:Name\"}},\"a\":{\"value\":\"x\",\"dimensions\":{\"concept\":\"ex:Name\"}}}}";
+
+// Two numbers whose intervals just meet, where complete duplicates alone are allowed.
+const NEIGHBOURS: &str =
+    "{\"documentInfo\":{\"documentType\":\"https://xbrl.org/2021/xbrl-json\",\"namespaces\":{\"ex\":\"http://e.org/t\"},\"features\":{\"xbrl:allowedDuplicates\":\"complete\"}},\"facts\":{\"a\":{\"value\":\"1000\",\"decimals\":-3,\"dimensions\":{\"concept\":\"ex:Assets\"}},\"b\":{\"value\":\"2000\",\"decimals\":-3,\"dimensions\":{\"concept\":\"ex:Assets\"}}}}";
+
+// A step; a report is its text.
 #[derive(Clone, Copy)]
 enum Act {
-    Load(&'static str),
+    Load(&'static str, &'static str),
     Open,
     Get(&'static str, &'static str),
     Add(&'static str, &'static str, Written),
@@ -41,7 +57,7 @@ enum Act {
 // The session, the step, and the answer in a word with the number of its version, or 0.
 type Row = (Option<u64>, Act, (&'static str, u64));
 
-const LOADED: Row = (None, Act::Load("r1"), ("loaded", 1));
+const LOADED: Row = (None, Act::Load("r1", BLANK), ("loaded", 1));
 
 const OPENED: Row = (None, Act::Open, ("opened", 0));
 
@@ -80,21 +96,17 @@ fn raw(alloc: Global, written: Written) -> Result<RawFact, Fail> {
     })
 }
 
-// The prefix `ex` alone, and no numeric concept.
-fn names(alloc: Global) -> Result<Names, Fail> {
-    let table = NumericTable::of(Vec::new(alloc))?;
-    let mut prefixes = Vec::new(alloc);
-    prefixes.push((text(alloc, "ex")?, text(alloc, "http://e.org/t")?))?;
-    Ok(Names::of(prefixes, Arc::new(alloc, table)?)?)
-}
-
-fn report(alloc: Global, facts: FactMap) -> Result<Report, Fail> {
-    Ok(Report::of(alloc, text(alloc, "{}")?, names(alloc)?, facts)?)
+// The report of a text, by a table with the concept `ex:Assets`.
+fn report(alloc: Global, written: &str) -> Result<Report, Fail> {
+    let mut rows = Vec::new(alloc);
+    rows.push((text(alloc, "http://e.org/t")?, text(alloc, "Assets")?))?;
+    let table = Arc::new(alloc, NumericTable::of(rows)?)?;
+    Ok(read_report(alloc, written.as_bytes(), &table)?)
 }
 
 fn step_of(alloc: Global, act: Act) -> Result<Step, Fail> {
     match act {
-        Act::Load(name) => Ok(Step::Load(text(alloc, name)?, report(alloc, FactMap::new(alloc))?)),
+        Act::Load(name, written) => Ok(Step::Load(text(alloc, name)?, report(alloc, written)?)),
         Act::Open => Ok(Step::Open(Kind::Amend)),
         Act::Get(report, id) => Ok(Step::Get {
             report: text(alloc, report)?,
@@ -169,6 +181,8 @@ fn told(reply: &Reply) -> (&'static str, u64) {
         Reply::Staged => ("staged", 0),
         Reply::Loaded(number) => ("loaded", *number),
         Reply::NameTaken => ("name taken", 0),
+        Reply::Disallowed(_, Class::Complete, ids) => ("disallowed complete", ids.len() as u64),
+        Reply::Disallowed(_, _, ids) => ("disallowed", ids.len() as u64),
         Reply::Opened => ("opened", 0),
         Reply::Closed => ("closed", 0),
         Reply::Committed(number) => ("committed", *number),
@@ -210,10 +224,12 @@ fn held(version: &Plain, name: &str, id: &str) -> &'static str {
 }
 
 fn held_in(report: &Report, id: &str) -> &'static str {
-    match report.get(id) {
-        None => "absent",
-        Some(fact) => found(fact),
+    for (key, fact) in report.facts() {
+        if key.as_str() == id {
+            return found(fact);
+        }
     }
+    "absent"
 }
 
 #[test]
@@ -315,8 +331,8 @@ fn refuses_a_session_that_is_not_open(rt: HostRuntime) -> Result<(), Fail> {
 fn loads_a_name_once(rt: HostRuntime) -> Result<(), Fail> {
     let rows = [
         LOADED,
-        (None, Act::Load("r1"), ("name taken", 0)),
-        (None, Act::Load("r2"), ("loaded", 2)),
+        (None, Act::Load("r1", BLANK), ("name taken", 0)),
+        (None, Act::Load("r2", BLANK), ("loaded", 2)),
     ];
     let core = after(&rt, rt.alloc(), &rows)?;
     assert_eq!(rt; core.history().len(), 3);
@@ -403,25 +419,72 @@ fn counts_a_commit_without_changes(rt: HostRuntime) -> Result<(), Fail> {
     Ok(())
 }
 
-// Facts with one fact under this identifier.
-fn one_fact(alloc: Global, id: &str, written: Written) -> Result<FactMap, Fail> {
-    let mut facts = FactMap::new(alloc);
-    let fact = fit(&names(alloc)?, raw(alloc, written)?)?;
-    facts.insert(text(alloc, id)?, Arc::new(alloc, fact)?)?;
-    Ok(facts)
+// A load that is refused is entered and changes nothing.
+#[test]
+fn refuses_a_report_with_duplicates(rt: HostRuntime) -> Result<(), Fail> {
+    let rows = [
+        (
+            None,
+            Act::Load("r1", EQUAL_TEXTS),
+            ("disallowed complete", 2),
+        ),
+        (None, Act::Load("r1", NEIGHBOURS), ("disallowed", 2)),
+        LOADED,
+        (None, Act::Load("r1", EQUAL_TEXTS), ("name taken", 0)),
+    ];
+    let core = after(&rt, rt.alloc(), &rows)?;
+    assert_eq!(rt; core.history().len(), 4);
+    assert_eq!(rt; core.current().number(), 1);
+    Ok(())
 }
 
+// The report, the class and the identifiers are told.
 #[test]
-fn lays_facts_over_others(rt: HostRuntime) -> Result<(), Fail> {
+fn tells_the_least_disallowed_cell(rt: HostRuntime) -> Result<(), Fail> {
     let alloc = rt.alloc();
-    let facts = one_fact(alloc, "f1", ACME)?;
-    assert!(rt; facts.get("f2").is_none());
-    let all = facts.try_clone()?.with(&one_fact(alloc, "f2", OTHER)?)?;
-    let report = report(alloc, all)?;
-    assert_eq!(rt; held_in(&report, "f1"), "found Acme");
-    assert_eq!(rt; held_in(&report, "f2"), "found another text");
-    assert_eq!(rt; held_in(&report.clone()?, "f3"), "absent");
-    assert!(rt; report.names().uri("ex").is_some());
+    let mut core = Core::new(alloc)?;
+    assert!(rt; !core.busy());
+    let refused = core.step(
+        alloc,
+        None,
+        Step::Load(text(alloc, "r1")?, report(alloc, NEIGHBOURS)?),
+    )?;
+    match refused {
+        Reply::Disallowed(name, class, ids) => {
+            assert_eq!(rt; name.as_str(), "r1");
+            assert_eq!(rt; class, Class::Consistent);
+            let expected = ["a", "b"];
+            assert_eq!(rt; ids.len(), expected.len());
+            for (id, wanted) in ids.iter().zip(expected) {
+                assert_eq!(rt; id.as_str(), wanted);
+            }
+        }
+        other => assert!(rt; false, "told {}", told(&other).0),
+    }
+    Ok(())
+}
+
+const NONE_ALLOWED: Row = (None, Act::Load("r1", NO_DUPLICATES), ("loaded", 1));
+
+// The second of two equal facts is staged, and its commit is refused and leaves nothing.
+#[test]
+fn refuses_a_commit_with_duplicates(rt: HostRuntime) -> Result<(), Fail> {
+    let rows = [
+        NONE_ALLOWED,
+        OPENED,
+        STAGED,
+        COMMITTED,
+        OPENED,
+        (Some(2), Act::Add("r1", "f2", ACME), ("staged", 0)),
+        (Some(2), Act::Commit, ("disallowed complete", 2)),
+        (Some(2), Act::Commit, NOT_OPEN),
+        OPENED,
+        (Some(3), Act::Get("r1", "f2"), ("absent", 0)),
+        (Some(3), Act::Commit, ("committed", 3)),
+    ];
+    let core = after(&rt, rt.alloc(), &rows)?;
+    assert_eq!(rt; core.current().number(), 3);
+    assert_eq!(rt; held(core.current(), "r1", "f2"), "absent");
     Ok(())
 }
 

@@ -14,13 +14,15 @@ mod reading;
 mod report;
 mod report_text;
 mod table;
+#[cfg(test)]
+mod tests;
 mod values;
 
 pub use fact::raw_fact;
 pub use fact_text::{push_dims, push_fact, push_raw, write_fact, write_raw};
 pub use fault::ReportFault;
 pub use filing_model::{TableFault, Trouble};
-pub use pieces::{push_comma, push_quoted};
+pub use pieces::{push_comma, push_nullable, push_quoted};
 pub use read_back::{
     facts_are_read_back, raw_facts_are_read_back, raw_facts_are_readable, reports_are_read_back,
     values_are_read_back,

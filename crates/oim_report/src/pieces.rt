@@ -38,7 +38,7 @@ pub fn push_comma(out: &mut String, later: bool) -> Result<(), AllocError>
 }
 
 /// Appends a JSON text, or null.
-pub(crate) fn push_nullable(out: &mut String, text: &Option<String>) -> Result<(), AllocError>
+pub fn push_nullable(out: &mut String, text: &Option<String>) -> Result<(), AllocError>
     ensures { OnOk result (string_bytes out.new ≡ string_bytes out.old ++ nullable_text (text_of text.now)) }
 {
     match text {

@@ -1,8 +1,5 @@
 //! Reports as compact JSON (xBRL-JSON 1.0).
 
-#[cfg(test)]
-mod tests;
-
 ghost use Rattle.std.specs.Prelude.{◌≡◌, ◌++◌, OnOk, IfOk, false, string_bytes};
 ghost use Rattle.filing_model.specs.Writing.{fact_text, listed, member_text, report_text};
 ghost use Rattle.oim_report.specs.Parts.{facts_view};
