@@ -27,7 +27,7 @@ pub use read_back::{
     facts_are_read_back, raw_facts_are_read_back, raw_facts_are_readable, reports_are_read_back,
     values_are_read_back,
 };
-pub use reading::{read_report, report_of};
+pub use reading::{read_report, report_from, report_of};
 pub use report::{Report, ReportParts};
 pub use report_text::{push_report, write_report};
 pub use table::read_table;

@@ -125,9 +125,9 @@ fn report_of_members(
     Ok(assembled(declared, facts))
 }
 
-/// The report that a value is, out of it.
+/// The same of a value that is given up: the texts of the report move out of it.
 #[tactic(auto, using(crate::proofs::Reports::report_by_members))]
-fn report_from(
+pub fn report_from(
     alloc: Global,
     value: Value,
     table: &Arc<NumericTable>,
