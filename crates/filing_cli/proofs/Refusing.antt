@@ -1,5 +1,5 @@
 -- Reports that are refused in reading, as a script is told.
-use Rattle.std.proofs.Common.{◌≡◌, ◌∙◌, ap, sym, Option, Some, None, option_map, Result, Err, is_some, unwrap_or, true≢false}
+use Rattle.std.proofs.Common.{◌≡◌, ◌∙◌, ap, sym, Option, Some, None, option_map, Result, is_some, unwrap_or, true≢false}
 use Rattle.filing_model.specs.Reports.{Report}
 use Rattle.filing_model.specs.ReadReport.{ReportFault}
 use Rattle.filing_model.specs.Try.{Fails}

@@ -22,7 +22,7 @@ use crate::texts::{
 use filing_core::{Core, CoreFault, Kind, Reply, Step};
 use filing_model::Trouble;
 use oim_fact::{NumericTable, RawFact};
-use oim_report::{Report, ReportFault, json_value, raw_fact, read_report, report_of};
+use oim_report::{Report, ReportFault, json_value, raw_fact, read_report, report_from};
 use serde_json::Value;
 use std::alloc::{AllocError, Global};
 use std::marker::Model;
@@ -51,7 +51,7 @@ fn report_in(alloc: Global, value: Value, table: &Arc<NumericTable>) -> Result<R
 {
     match value {
         Value::String(text) => read_report(alloc, text.as_bytes(), table),
-        value => report_of(alloc, &value, table),
+        value => report_from(alloc, value, table),
     }
 }
 

@@ -1,4 +1,4 @@
-use Rattle.std.proofs.Common.{◌≡◌, ◌++◌, codes, string_bytes, drop, map}
+use Rattle.std.proofs.Common.{◌≡◌, ◌++◌, string_bytes, drop, map}
 use Rattle.json.specs.Print.{quoted}
 use Rattle.filing_model.specs.Writing.{listed}
 use Rattle.filing_cli.proofs.texts.replies.push_texts.Given as goal
