@@ -1,9 +1,13 @@
 -- How the program ends.
-use Rattle.std.specs.Prelude.{ℕ}
+use Rattle.std.specs.Prelude.{◌≡◌, ℕ, List, Result, Ok, Err, IsUtf8}
+use Rattle.filing_model.specs.Facts.{Table}
+use Rattle.filing_model.specs.Tables.{read_table_of}
+use Rattle.filing_model.specs.declared.faults.TableFault.{TableFault}
+use Rattle.filing_model.specs.declared.faults.TableFault.TheVariants as table
 use Rattle.filing_cli.specs.declared.fault.ScriptFault.{ScriptFault}
 use Rattle.filing_cli.specs.declared.fault.ScriptFault.TheVariants as script
 use Rattle.filing.specs.declared.fault.Fault.{Fault}
-use Rattle.filing.specs.declared.fault.Fault.TheVariants.{Words, Read, Write, NoMemory}
+use Rattle.filing.specs.declared.fault.Fault.TheVariants.{Words, Read, Write, TableLine, TableNotText, NoMemory}
 
 -- a script without an end is one that could not be read
 abbrev pub fault_of : ScriptFault → Fault
@@ -12,9 +16,26 @@ fault_of script.Write = Write
 fault_of script.Endless = Read
 fault_of (script.NoMemory line) = NoMemory
 
--- 1 after a read or write fault, 2 where the words were wrong, 3 where memory was wanted
+-- a bad line of a numeric table keeps its number
+abbrev pub table_fault_of : TableFault → Fault
+table_fault_of (table.BadLine number) = TableLine number
+table_fault_of table.NoMemory = NoMemory
+
+-- what a file's bytes are as a numeric table: all of them are UTF-8, else no bad line is told
+abbrev pub IsTableOf : List ℕ → Result Table Fault → Type 0
+IsTableOf bytes (Ok t) = IsUtf8 bytes × (read_table_of bytes ≡ Ok t)
+IsTableOf bytes (Err (TableLine number)) = IsUtf8 bytes × (read_table_of bytes ≡ Err (table.BadLine number))
+IsTableOf bytes (Err TableNotText) = ¬ IsUtf8 bytes
+IsTableOf bytes (Err NoMemory) = Unit {0}
+IsTableOf bytes (Err Words) = ⊥
+IsTableOf bytes (Err Read) = ⊥
+IsTableOf bytes (Err Write) = ⊥
+
+-- 1 after a read or write fault, 2 where the words or the numeric table were wrong, 3 where memory was wanted
 abbrev pub status_of : Fault → ℕ
 status_of Read = 1
 status_of Write = 1
 status_of Words = 2
+status_of (TableLine number) = 2
+status_of TableNotText = 2
 status_of NoMemory = 3

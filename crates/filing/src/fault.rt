@@ -2,6 +2,7 @@ ghost use Rattle.std.specs.Prelude.{◌≡◌};
 ghost use Rattle.filing.specs.Faults.{status_of};
 
 use filing_cli::ScriptFault;
+use filing_model::TableFault;
 use std::alloc::{AllocError, AllocFailed};
 use std::process::ExitCode;
 
@@ -12,6 +13,10 @@ pub(crate) enum Fault {
     Words,
     Read,
     Write,
+    /// The line of the numeric table, counted from 1, that is none.
+    TableLine(u64),
+    /// The numeric table is not UTF-8.
+    TableNotText,
     NoMemory,
 }
 
@@ -22,7 +27,7 @@ impl Fault {
     {
         match self {
             Fault::Read | Fault::Write => 1,
-            Fault::Words => 2,
+            Fault::Words | Fault::TableLine(_) | Fault::TableNotText => 2,
             Fault::NoMemory => 3,
         }
     }
@@ -33,6 +38,8 @@ impl Fault {
             Fault::Words => Ok(()),
             Fault::Read => rt.eprintln("filing: read fault"),
             Fault::Write => rt.eprintln("filing: write fault"),
+            Fault::TableLine(number) => eprintln!(rt; "filing: numeric table, line {number}"),
+            Fault::TableNotText => rt.eprintln("filing: numeric table is not UTF-8"),
             Fault::NoMemory => rt.eprintln("filing: no memory"),
         };
         let _ = told;
@@ -73,6 +80,20 @@ impl From<ScriptFault> for Fault {
             ScriptFault::Read | ScriptFault::Endless => Fault::Read,
             ScriptFault::Write => Fault::Write,
             ScriptFault::NoMemory(_) => Fault::NoMemory,
+        }
+    }
+}
+
+impl From<TableFault> for Fault {
+    ghost use Rattle.std.specs.Prelude.{◌≡◌};
+    ghost use Rattle.filing.specs.Faults.{table_fault_of};
+
+    ghost from_gives = { λ fault e. e ≡ table_fault_of fault };
+
+    fn from(fault: TableFault) -> Fault {
+        match fault {
+            TableFault::BadLine(number) => Fault::TableLine(number),
+            TableFault::NoMemory => Fault::NoMemory,
         }
     }
 }

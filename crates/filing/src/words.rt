@@ -3,21 +3,28 @@ ghost use Rattle.filing.specs.declared.words.Order.TheVariants.{Shown};
 
 use crate::fault::Fault;
 use clap::error::ErrorKind;
-use clap::{Command, Error};
+use clap::{Arg, ArgAction, ArgMatches, Command, Error};
 use std::alloc::{AllocError, Global};
 
 /// What the words of the command line ask for.
 #[derive(Clone, Copy, Debug, PartialEq, Eq)]
-pub(crate) enum Order {
-    /// Run the script that comes on standard input.
-    Run,
+pub(crate) enum Order<'a> {
+    /// Run the script that comes on standard input, by the numeric table of a file, if one is named.
+    Run { numeric: Option<&'a str> },
     /// Help was asked for, and it was shown.
     Shown,
 }
 
 /// The commands that are there.
 fn command<'a>(alloc: Global) -> Result<Command<'a>, AllocError> {
-    let run = Command::new(alloc, "run").about("Runs a script of JSON lines from standard input");
+    let numeric = Arg::new(alloc, "numeric")
+        .long("numeric")
+        .value_name("FILE")
+        .help("The numeric concepts, each on a line: its URI, a space and its local name")
+        .action(ArgAction::Set);
+    let run = Command::new(alloc, "run")
+        .about("Runs a script of JSON lines from standard input")
+        .arg(numeric)?;
     Command::new(alloc, "filing")
         .about("A repository of company filing reports in xBRL-JSON")
         .subcommand_required(true)
@@ -25,20 +32,30 @@ fn command<'a>(alloc: Global) -> Result<Command<'a>, AllocError> {
         .subcommand(run)
 }
 
+/// What the words that `clap` has taken ask for. It takes none without a command.
+fn ordered<'a>(matches: &ArgMatches<'a>) -> Result<Order<'a>, Fault> {
+    match matches.subcommand() {
+        Some((_, run)) => Ok(Order::Run {
+            numeric: run.get_str("numeric"),
+        }),
+        None => Err(Fault::Words),
+    }
+}
+
 /// Reads the words. What is refused is told as `clap` tells it.
 pub(crate) fn read_words<'a, R: Print + Eprint + AllocGlobal>(
     rt: &R,
     words: &'a [String],
-) -> Result<Order, Fault> {
+) -> Result<Order<'a>, Fault> {
     let mut command: Command<'a> = command(rt.alloc())?;
     match command.try_get_matches_from_mut(words) {
-        Ok(_matches) => Ok(Order::Run),
+        Ok(matches) => ordered(&matches),
         Err(error) => shown(rt, &error),
     }
 }
 
 /// Tells an error of the words, or shows help, and answers what is left to do.
-fn shown<R: Print + Eprint>(rt: &R, error: &Error) -> Result<Order, Fault>
+fn shown<'a, R: Print + Eprint>(rt: &R, error: &Error) -> Result<Order<'a>, Fault>
     ensures { IfOk result (λ o. o ≡ Shown) }
 {
     if error.kind() == ErrorKind::OutOfMemory {

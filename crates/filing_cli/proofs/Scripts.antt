@@ -1,6 +1,7 @@
 -- A run over a script, in terms of the script's output.
 use Rattle.std.proofs.Common.{◌≡◌, ◌∙◌, ◌^◌, ap, subst}
 use Rattle.std.specs.declared.result.Result.TheVariants.{Err}
+use Rattle.filing_model.specs.Facts.{Table}
 use Rattle.filing_model.specs.History.{History}
 use Rattle.filing_cli.specs.Devices.{SourceState, SinkState, Took}
 use Rattle.filing_cli.specs.Lines.{lines_of, spoken, text_of}
@@ -12,10 +13,10 @@ use Rattle.filing_cli.specs.declared.fault.ScriptFault.TheVariants.{NoMemory}
 use Rattle.filing_cli.proofs.Answering.{answers_of_function}
 use Rattle.filing_cli.proofs.Reading.{starved_at_once}
 
-pub script_ended : (before after : State) (source source' : SourceState) (sink sink' : SinkState) (history : History)
-    → IsAnswered IsReply before after source source' sink sink' → before ≡ start → history ≡ after.history → IsScriptEnded source source' sink sink' history
+pub script_ended : (table : Table) (before after : State) (source source' : SourceState) (sink sink' : SinkState) (history : History)
+    → IsAnswered IsReply before after source source' sink sink' → before ≡ start table → history ≡ after.history → IsScriptEnded table source source' sink sink' history
 unfolding script_output script_history
-script_ended before after source source' sink sink' history p begun is =
+script_ended table before after source source' sink sink' history p begun is =
     let told = answers_of_function IsReply (λ (s : State). s) line_answer (λ m n line text h. h) before after (spoken (lines_of p.given)) p.texts p.answers in record {
       given = p.given;
       gave = p.gave;
@@ -24,12 +25,12 @@ script_ended before after source source' sink sink' history p begun is =
       history_is = is ∙ ap (λ s. s.history) (told.1 ∙ ap (λ s. state_after line_answer s (spoken (lines_of p.given))) begun);
     }
 
-pub script_stopped : (before after : State) (source source' : SourceState) (sink sink' : SinkState) (fault : ScriptFault)
-    → Runs {X = Unit {0}} IsReply (2 ^ 32) (Err fault) before after source source' sink sink' → before ≡ start → IsScriptStopped source source' sink sink' fault
-script_stopped before after source source' sink sink' fault p begun = record {
+pub script_stopped : (table : Table) (before after : State) (source source' : SourceState) (sink sink' : SinkState) (fault : ScriptFault)
+    → Runs {X = Unit {0}} IsReply (2 ^ 32) (Err fault) before after source source' sink sink' → before ≡ start table → IsScriptStopped table source source' sink sink' fault
+script_stopped table before after source source' sink sink' fault p begun = record {
   after = after;
   runs = subst (λ s. Runs {X = Unit {0}} IsReply (2 ^ 32) (Err fault) s after source source' sink sink') begun p;
 }
 
-pub stopped_at_once : (source : SourceState) (sink : SinkState) → IsScriptStopped source source sink sink (NoMemory 1)
-stopped_at_once source sink = record { after = start; runs = starved_at_once IsReply start source sink }
+pub stopped_at_once : (table : Table) (source : SourceState) (sink : SinkState) → IsScriptStopped table source source sink sink (NoMemory 1)
+stopped_at_once table source sink = record { after = start table; runs = starved_at_once IsReply (start table) source sink }

@@ -5,8 +5,6 @@ pub mod Run
 pub mod Pieces
 pub mod ScriptLines
 pub mod LineView
-pub mod Reading
-pub mod Parts
 pub mod ReplyText
 pub mod Script
 pub mod ScriptRun

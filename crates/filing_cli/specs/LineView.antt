@@ -2,7 +2,7 @@
 use Rattle.serde_json.specs.View.{view}
 use Rattle.filing_cli.specs.ScriptLines as model
 use Rattle.filing_cli.specs.declared.line.Line.{Line}
-use Rattle.filing_cli.specs.declared.line.Line.TheVariants.{Load, Open, Get, Add, Commit, Close}
+use Rattle.filing_cli.specs.declared.line.Line.TheVariants.{Load, Open, Get, Add, Commit, Close, Export}
 
 abbrev pub line_view : Line → model.Line
 line_view (Load name report) = model.Load name.now (view report.now)
@@ -11,3 +11,4 @@ line_view (Get session report id) = model.Get session.now report.now id.now
 line_view (Add session report id fact) = model.Add session.now report.now id.now (view fact.now)
 line_view (Commit session) = model.Commit session.now
 line_view (Close session) = model.Close session.now
+line_view (Export name) = model.Export name.now

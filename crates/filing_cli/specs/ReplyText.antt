@@ -2,10 +2,11 @@
 use Rattle.std.specs.Prelude.{Bool, true, false, List, [], ◌++◌, codes, decimal}
 use Rattle.json.specs.Print.{quoted}
 use Rattle.filing_model.specs.Text.{Text}
+use Rattle.filing_model.specs.Reports.{Report}
 use Rattle.filing_model.specs.ReadReport as report
 use Rattle.filing_model.specs.Things as thing
 use Rattle.filing_model.specs.Replies.{Reply, NoReport, Absent, Found, Cell, Page, ReadOnly, Taken, BadFact, Staged, Loaded, NameTaken, Disallowed, Opened, Closed, Committed, Conflict}
-use Rattle.filing_model.specs.Writing.{listed, nullable_text, dims_text, fact_text}
+use Rattle.filing_model.specs.Writing.{listed, nullable_text, dims_text, fact_text, report_text}
 use Rattle.filing_model.specs.declared.duplicates.Class.{Class}
 use Rattle.filing_model.specs.declared.duplicates.Class.TheVariants as class
 use Rattle.filing_model.specs.declared.faults.DimFault.{DimFault}
@@ -118,3 +119,7 @@ bad_report_text report.AliasTwice = codes "[\"bad-report\",\"alias-twice\"]"
 bad_report_text report.NotWhole = codes "[\"bad-report\",\"not-whole\"]"
 bad_report_text (report.BadFact id fault) =
     codes "[\"bad-report\",\"bad-fact\"," ++ (quoted id ++ (codes "," ++ (word_text (trouble_word fault) ++ codes "]")))
+
+-- a report that was asked for
+abbrev pub exported_text : Report → Text
+exported_text r = codes "[\"report\"," ++ (report_text r ++ codes "]")

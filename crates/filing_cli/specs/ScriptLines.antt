@@ -5,7 +5,7 @@ use Rattle.serde_json.specs.Find.{at, as_str, as_object}
 use Rattle.filing_model.specs.Text.{text_eq}
 use Rattle.filing_cli.specs.Text.{Text}
 
--- a line by its kind, with its parts. Each session is named as the script names it; a report or a fact is not read yet
+-- a line by its kind, with its parts. Each session is named as the script names it; the report of a load and the fact of an addition are not read yet
 pub data Line : Type 0 where
   Load : Text → Data → Line
   Open : Text → Line
@@ -13,6 +13,7 @@ pub data Line : Type 0 where
   Add : Text → Text → Text → Data → Line
   Commit : Text → Line
   Close : Text → Line
+  Export : Text → Line
 
 -- the second step with what the first gives, where it gives something
 infixl 10 ◌>>=◌
@@ -77,6 +78,11 @@ close_of d = do
   session ← text_at 1 d
   ended_at 2 d (Close session)
 
+abbrev pub export_of : Data → Option Line
+export_of d = do
+  name ← text_at 1 d
+  ended_at 2 d (Export name)
+
 -- by the first text
 abbrev pub line_of_word : Text → Data → Option Line
 line_of_word word d =
@@ -86,6 +92,7 @@ line_of_word word d =
     else if text_eq word (codes "add") then add_of d
     else if text_eq word (codes "commit") then commit_of d
     else if text_eq word (codes "close") then close_of d
+    else if text_eq word (codes "export") then export_of d
     else None
 
 -- the line that a JSON value is, where it is one of these by its length, its first text and the kinds of its parts

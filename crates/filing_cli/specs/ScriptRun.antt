@@ -3,6 +3,7 @@ use Rattle.std.specs.Prelude.{◌≡◌, ℕ, ◌^◌, [], ◌∷◌, Option, No
 use Rattle.std.specs.declared.result.Result.{Result}
 use Rattle.std.specs.declared.result.Result.TheVariants.{Ok, Err}
 use Rattle.std.specs.Io.KnownBytes.{IsAtEnd}
+use Rattle.filing_model.specs.Facts.{Table}
 use Rattle.filing_model.specs.History.{History}
 use Rattle.filing_cli.specs.Text.{Text}
 use Rattle.filing_cli.specs.Devices.{SourceState, SinkState, Gave, Took}
@@ -20,18 +21,18 @@ newest_session [] = None
 newest_session (e ∷ older) = e.session
 
 -- the source was read to its end, the output of the script that it gave is written and nothing else, and the history is the script's
-pub record IsScriptEnded (source source' : SourceState) (sink sink' : SinkState) (history : History) : Type 0 where
+pub record IsScriptEnded (table : Table) (source source' : SourceState) (sink sink' : SinkState) (history : History) : Type 0 where
   pub given : Text
   pub gave : Gave source source' given 1 0
   pub at_end : IsAtEnd source'.rest
-  pub took : Took sink sink' (script_output given) 0
-  pub history_is : history ≡ script_history given
+  pub took : Took sink sink' (script_output table given) 0
+  pub history_is : history ≡ script_history table given
 
 -- the run ended before the end of the source, and left what any run leaves after this fault
-pub record IsScriptStopped (source source' : SourceState) (sink sink' : SinkState) (fault : ScriptFault) : Type 0 where
+pub record IsScriptStopped (table : Table) (source source' : SourceState) (sink sink' : SinkState) (fault : ScriptFault) : Type 0 where
   pub after : State
-  pub runs : Runs {X = Unit {0}} IsReply (2 ^ 32) (Err fault) start after source source' sink sink'
+  pub runs : Runs {X = Unit {0}} IsReply (2 ^ 32) (Err fault) (start table) after source source' sink sink'
 
-abbrev pub ScriptRuns : Result History ScriptFault → SourceState → SourceState → SinkState → SinkState → Type 0
-ScriptRuns (Ok history) source source' sink sink' = IsScriptEnded source source' sink sink' history
-ScriptRuns (Err fault) source source' sink sink' = IsScriptStopped source source' sink sink' fault
+abbrev pub ScriptRuns : Table → Result History ScriptFault → SourceState → SourceState → SinkState → SinkState → Type 0
+ScriptRuns table (Ok history) source source' sink sink' = IsScriptEnded table source source' sink sink' history
+ScriptRuns table (Err fault) source source' sink sink' = IsScriptStopped table source source' sink sink' fault

@@ -2,7 +2,7 @@
 //!
 //! `source` and `sink` are the two traits of devices; `adapters` makes them of any reader and writer, `memory` over memory, and `counts` counts their calls. `fault` says why a run ended early. `lines` cuts what is read, `machine` is what answers a line, `outbox` keeps replies until they are written, `progress` takes a piece at a time, and `runs` reads, answers and writes until the end.
 //!
-//! `script` runs a script: `from_json` reads the JSON of a line, `line` tells its kind, `runner` is the machine that takes its step, with the names in use in `session_names`, and `texts` has the line of each reply.
+//! `script` runs a script: `line` tells the kind of a line, `runner` is the machine that takes its step, with the names in use in `session_names`, and `texts` has the line of each reply.
 //!
 //! The crate knows nothing of locks, and nothing of files.
 #![tactic(auto)]
@@ -10,7 +10,6 @@
 mod adapters;
 mod counts;
 mod fault;
-mod from_json;
 mod line;
 mod lines;
 mod machine;
@@ -29,7 +28,6 @@ mod texts;
 
 pub use adapters::{FromReader, ToWriter};
 pub use fault::{Failed, ScriptFault};
-pub use from_json::{json_value, raw_fact, report, report_text};
 pub use lines::is_blank;
 pub use machine::Machine;
 pub use memory::{MemoryIn, MemoryOut};
@@ -38,6 +36,6 @@ pub use script::run_script;
 pub use sink::{Sink, write_all};
 pub use source::Source;
 pub use texts::{
-    bad_fact_reply, bad_line_reply, name_in_use_reply, no_session_reply, reply_text,
-    wrong_report_reply,
+    bad_fact_reply, bad_line_reply, bad_report_reply, exported_reply, name_in_use_reply,
+    no_session_reply, reply_text,
 };

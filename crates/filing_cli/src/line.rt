@@ -1,4 +1,5 @@
-ghost use Rattle.std.specs.Prelude.{◌≡◌, codes, is_some, option_map, option_copied};
+ghost use Rattle.std.specs.Prelude.{◌≡◌, codes, is_some, IsSome, Some, option_map, option_copied};
+ghost use Rattle.serde_json.specs.Find.{at};
 ghost use Rattle.serde_json.specs.View.{view};
 ghost use Rattle.filing_cli.specs.ScriptLines as model;
 ghost use Rattle.filing_cli.specs.LineView.{line_view};
@@ -33,6 +34,20 @@ pub(crate) enum Line<'a> {
     Close {
         session: &'a str,
     },
+    Export {
+        name: &'a str,
+    },
+}
+
+/// Takes the part at a place out of an array, and leaves null there.
+pub(crate) fn taken_at(value: &mut Value, place: usize) -> Value
+    requires { IsSome (at place (view value.old)) }
+    ensures { Some (view result) ≡ at place (view value.old) }
+{
+    match value.get_mut(place) {
+        Some(part) => part.take(),
+        None => unreachable!(),
+    }
 }
 
 /// The text at a place of an array.
@@ -143,6 +158,13 @@ fn close_of(value: &Value) -> Option<Line<'_>>
     ended_at(value, 2, Line::Close { session })
 }
 
+fn export_of(value: &Value) -> Option<Line<'_>>
+    ensures { option_map line_view result ≡ model.export_of (view value.now) }
+{
+    let name = text_at(value, 1)?;
+    ended_at(value, 2, Line::Export { name })
+}
+
 /// The line that a JSON value is, where it is one by its length, its first text and the kinds of its parts.
 #[tactic(auto, unfolding(crate::specs::ScriptLines::line_of))]
 pub(crate) fn line_of(value: &Value) -> Option<Line<'_>>
@@ -161,6 +183,8 @@ pub(crate) fn line_of(value: &Value) -> Option<Line<'_>>
         commit_of(value)
     } else if is_same_text(word, "close") {
         close_of(value)
+    } else if is_same_text(word, "export") {
+        export_of(value)
     } else {
         None
     }

@@ -1,59 +1,67 @@
-ghost use Rattle.std.specs.Prelude.{◌≡◌, [], IfOk, IsSome, OnOk, Some, false, string_bytes};
+ghost use Rattle.std.specs.Prelude.{◌≡◌, [], IfOk, IsSome, OnOk, Some, Ok, false, string_bytes};
+ghost use Rattle.std.specs.Arc.{arc_value};
 ghost use Rattle.serde_json.specs.View.{view};
+ghost use Rattle.filing_model.specs.Try.{Gives};
+ghost use Rattle.filing_model.specs.ReadFact.{raw_fact_of};
 ghost use Rattle.filing_model.specs.TextMap.{get, insert, remove};
 ghost use Rattle.filing_model.specs.Calls as call;
 ghost use Rattle.filing_core.specs.Kept.{IsBusy};
 ghost use Rattle.filing_core.specs.Steps.{step_of};
 ghost use Rattle.filing_core.specs.Answers.{MayCome};
-ghost use Rattle.filing_cli.specs.LineView.{line_view};
-ghost use Rattle.filing_cli.specs.Script.{Due, start, is_busy, report_in, answered, judged_load, judged_open, judged_call, judged_add, judged_end, judged_line, value_answer};
+ghost use Rattle.oim_report.specs.Faults.{report_fault};
+ghost use Rattle.filing_cli.specs.Script.{Due, start, is_busy, report_in, answered, judged_load, judged_open, judged_call, judged_add, judged_end, judged_export, value_answer};
 ghost use Rattle.filing_cli.specs.ScriptRun.{IsReply, newest_session};
 
-use crate::from_json::{json_value, raw_fact, report, report_text};
-use crate::line::{Line, line_of};
+use crate::line::{Line, line_of, taken_at};
 use crate::machine::Machine;
 use crate::session_names::SessionNames;
 use crate::texts::{
-    bad_fact_reply, bad_line_reply, name_in_use_reply, no_session_reply, reply_text,
-    wrong_report_reply,
+    bad_fact_reply, bad_line_reply, bad_report_reply, exported_reply, name_in_use_reply,
+    no_session_reply, reply_text,
 };
-use filing_core::{Core, CoreFault, Kind, Report, Step};
+use filing_core::{Core, CoreFault, Kind, Reply, Step};
 use filing_model::Trouble;
+use oim_fact::{NumericTable, RawFact};
+use oim_report::{Report, ReportFault, json_value, raw_fact, read_report, report_from};
 use serde_json::Value;
 use std::alloc::{AllocError, Global};
 use std::marker::Model;
+use std::sync::Arc;
 
-/// What answers the lines of a script: a core, with the names in use. Contracts see it as what a script carries from line to line.
+/// What answers the lines of a script: a core, with the names in use and the table by which reports are read. Contracts see it as what a script carries from line to line.
 #[derive(Drop)]
 pub(crate) struct Runner {
+    table: Arc<NumericTable>,
     core: Core,
     names: SessionNames,
 }
 
 impl Model for Runner {
+    ghost use Rattle.std.specs.Arc.{arc_value};
     ghost use Rattle.filing_cli.specs.Script.{State};
 
     ghost Value = { State };
 
-    ghost view = { λ r. record { history = r.core; names = r.names } };
+    ghost view = { λ r. record { table = arc_value r.table; history = r.core; names = r.names } };
 }
 
-/// The report of a load: an object, or the text of one.
-fn report_part(alloc: Global, value: &Value) -> Result<Option<Report>, AllocError>
-    ensures { IfOk result (λ o. o ≡ report_in (view value.now)) }
+/// The report of a load: an object, or the text of one. Its parts move out of the value.
+fn report_in(alloc: Global, value: Value, table: &Arc<NumericTable>) -> Result<Report, ReportFault>
+    ensures { Gives report_fault (λ r. r) result (report_in (arc_value table.now) (view value)) }
 {
     match value {
-        Value::String(text) => report_text(alloc, text.as_bytes()),
-        _ => report(alloc, value),
+        Value::String(text) => read_report(alloc, text.as_bytes(), table),
+        value => report_from(alloc, value, table),
     }
 }
 
 impl Runner {
     /// A runner before the first line.
-    pub(crate) fn new(alloc: Global) -> Result<Runner, AllocError>
-        ensures { IfOk result (λ r. r ≡ start) }
+    pub(crate) fn new(alloc: Global, table: &Arc<NumericTable>) -> Result<Runner, AllocError>
+        ensures { IfOk result (λ r. r ≡ start (arc_value table.now)) }
     {
         Ok(Runner {
+            table: table.clone()?,
             core: Core::new(alloc)?,
             names: SessionNames::new(alloc),
         })
@@ -96,14 +104,14 @@ impl Runner {
 
     /// Puts a name in use.
     fn put_name(&mut self, alloc: Global, session: &str, number: u64) -> Result<(), AllocError>
-        ensures { OnOk result (self.new ≡ record { history = self.old.history; names = insert self.old.names session.now number }) }
+        ensures { OnOk result (self.new ≡ record self.old { names = insert self.old.names session.now number }) }
     {
         self.names.insert(alloc, session, number)
     }
 
     /// Frees a name.
     fn free_name(&mut self, session: &str)
-        ensures { self.new ≡ record { history = self.old.history; names = remove self.old.names session.now } }
+        ensures { self.new ≡ record self.old { names = remove self.old.names session.now } }
     {
         self.names.remove(session);
     }
@@ -125,18 +133,37 @@ impl Runner {
         }
     }
 
-    /// Answers a load.
-    fn load(&mut self, alloc: Global, name: &str, report: &Value) -> Result<String, AllocError>
-        ensures { IfOk result (λ text. answered self.old (judged_load self.old name.now (report_in (view report.now))) ≡ (string_bytes text, self.new)) }
+    /// The report of a load.
+    fn report(&self, alloc: Global, value: Value) -> Result<Report, ReportFault>
+        ensures { Gives report_fault (λ r. r) result (report_in self.now.table (view value)) }
     {
-        let Some(report) = report_part(alloc, report)? else {
-            return String::from_str(alloc, wrong_report_reply());
-        };
+        report_in(alloc, value, &self.table)
+    }
+
+    /// Takes a load of a report that was read.
+    fn take_load(
+        &mut self,
+        alloc: Global,
+        name: String,
+        report: Report,
+    ) -> Result<String, AllocError>
+        ensures { IfOk result (λ text. answered self.old (judged_load self.old (string_bytes name) (Ok report)) ≡ (string_bytes text, self.new)) }
+    {
         if self.is_busy() {
             return String::from_str(alloc, bad_line_reply());
         }
-        let name = String::from_str(alloc, name)?;
         self.take(alloc, None, Step::Load(name, report))
+    }
+
+    /// Answers a load.
+    #[tactic(auto, using(crate::proofs::Refusing::load_is_refused))]
+    fn load(&mut self, alloc: Global, name: String, report: Value) -> Result<String, AllocError>
+        ensures { IfOk result (λ text. answered self.old (judged_load self.old (string_bytes name) (report_in self.old.table (view report))) ≡ (string_bytes text, self.new)) }
+    {
+        match self.report(alloc, report) {
+            Ok(report) => self.take_load(alloc, name, report),
+            Err(fault) => bad_report_reply(alloc, &fault),
+        }
     }
 
     /// Answers an opening.
@@ -173,6 +200,25 @@ impl Runner {
         self.take(alloc, Some(number), Step::Get { report, id })
     }
 
+    /// Takes the addition of a fact that was read.
+    fn take_addition(
+        &mut self,
+        alloc: Global,
+        session: &str,
+        report: &str,
+        id: &str,
+        fact: RawFact,
+    ) -> Result<String, AllocError>
+        ensures { IfOk result (λ text. answered self.old (judged_add self.old session.now report.now id.now (Ok fact)) ≡ (string_bytes text, self.new)) }
+    {
+        let Some(number) = self.number_of(session) else {
+            return String::from_str(alloc, no_session_reply());
+        };
+        let report = String::from_str(alloc, report)?;
+        let id = String::from_str(alloc, id)?;
+        self.take(alloc, Some(number), Step::Add { report, id, fact })
+    }
+
     /// Answers a session that adds a fact.
     fn add(
         &mut self,
@@ -182,17 +228,13 @@ impl Runner {
         id: &str,
         fact: &Value,
     ) -> Result<String, AllocError>
-        ensures { IfOk result (λ text. answered self.old (judged_add self.old session.now report.now id.now (view fact.now)) ≡ (string_bytes text, self.new)) }
+        ensures { IfOk result (λ text. answered self.old (judged_add self.old session.now report.now id.now (raw_fact_of (view fact.now))) ≡ (string_bytes text, self.new)) }
     {
-        let Some(fact) = raw_fact(alloc, fact)? else {
-            return String::from_str(alloc, bad_fact_reply(Trouble::WrongShape));
-        };
-        let Some(number) = self.number_of(session) else {
-            return String::from_str(alloc, no_session_reply());
-        };
-        let report = String::from_str(alloc, report)?;
-        let id = String::from_str(alloc, id)?;
-        self.take(alloc, Some(number), Step::Add { report, id, fact })
+        match raw_fact(alloc, fact) {
+            Ok(fact) => self.take_addition(alloc, session, report, id, fact),
+            Err(Trouble::NoMemory) => Err(AllocError),
+            Err(fault) => bad_fact_reply(alloc, fault),
+        }
     }
 
     /// Answers a session that ends by this step.
@@ -208,12 +250,30 @@ impl Runner {
         Ok(text)
     }
 
-    /// Answers a line.
-    fn answer_line(&mut self, alloc: Global, line: Line<'_>) -> Result<String, AllocError>
-        ensures { IfOk result (λ text. answered self.old (judged_line self.old (line_view line.entry)) ≡ (string_bytes text, self.new)) }
+    /// The report as the current version has it.
+    fn export(&self, alloc: Global, name: &str) -> Result<String, AllocError>
+        ensures { IfOk result (λ text. answered self.now (judged_export self.now name.now) ≡ (string_bytes text, self.now)) }
     {
+        match self.core.current().report(name) {
+            Some(report) => exported_reply(alloc, report),
+            None => reply_text(alloc, &Reply::NoReport),
+        }
+    }
+
+    /// Answers a line that is JSON. The report of a load moves out of it.
+    #[tactic(auto, using(crate::proofs::Loads::loaded_part))]
+    fn answer_value(&mut self, alloc: Global, value: Value) -> Result<String, AllocError>
+        ensures { IfOk result (λ text. value_answer self.old (Some (view value)) ≡ (string_bytes text, self.new)) }
+    {
+        let mut value = value;
+        let Some(line) = line_of(&value) else {
+            return String::from_str(alloc, bad_line_reply());
+        };
         match line {
-            Line::Load { name, report } => self.load(alloc, name, report),
+            Line::Load { name, .. } => {
+                let name = String::from_str(alloc, name)?;
+                self.load(alloc, name, taken_at(&mut value, 2))
+            }
             Line::Open { session } => self.open(alloc, session),
             Line::Get {
                 session,
@@ -228,16 +288,7 @@ impl Runner {
             } => self.add(alloc, session, report, id, fact),
             Line::Commit { session } => self.end(alloc, session, Step::Commit),
             Line::Close { session } => self.end(alloc, session, Step::Close),
-        }
-    }
-
-    /// Answers a line that is JSON.
-    fn answer_value(&mut self, alloc: Global, value: &Value) -> Result<String, AllocError>
-        ensures { IfOk result (λ text. value_answer self.old (Some (view value.now)) ≡ (string_bytes text, self.new)) }
-    {
-        match line_of(value) {
-            Some(line) => self.answer_line(alloc, line),
-            None => String::from_str(alloc, bad_line_reply()),
+            Line::Export { name } => self.export(alloc, name),
         }
     }
 }
@@ -248,7 +299,7 @@ impl Machine for Runner {
 
     fn answer(&mut self, alloc: Global, line: &[u8]) -> Result<String, AllocError> {
         match json_value(alloc, line)? {
-            Some(value) => self.answer_value(alloc, &value),
+            Some(value) => self.answer_value(alloc, value),
             None => String::from_str(alloc, bad_line_reply()),
         }
     }

@@ -1,4 +1,5 @@
 ghost use Rattle.std.specs.Prelude.{◌+◌, ◌^◌, ◌≤◌};
+ghost use Rattle.std.specs.Arc.{arc_value};
 ghost use Rattle.filing_cli.specs.ScriptRun.{ScriptRuns};
 
 use crate::fault::ScriptFault;
@@ -7,21 +8,24 @@ use crate::runs::run;
 use crate::sink::Sink;
 use crate::source::Source;
 use filing_core::Core;
+use oim_fact::NumericTable;
 use std::alloc::Global;
+use std::sync::Arc;
 
 // So many reads are made at most.
 const READS: u64 = 1 << 32;
 
-/// Runs a script: takes the step of each line that has one, in their order, and writes a reply to each line that is not blank. It gives back the core with the steps that were taken.
+/// Runs a script: reads reports by the numeric table, takes the step of each line that has one, in their order, and writes a reply to each line that is not blank. It gives back the core with the steps that were taken.
 pub fn run_script<R: Source, W: Sink>(
     alloc: Global,
     input: &mut R,
     output: &mut W,
+    table: &Arc<NumericTable>,
 ) -> Result<Core, ScriptFault>
-    ensures script { ScriptRuns result (R.state input.old) (R.state input.new) (W.state output.old) (W.state output.new) }
+    ensures script { ScriptRuns (arc_value table.now) result (R.state input.old) (R.state input.new) (W.state output.old) (W.state output.new) }
     ensures bounded { (R.state input.new).reads ≤ (R.state input.old).reads + 2 ^ 32 }
 {
-    let Ok(mut runner) = Runner::new(alloc) else {
+    let Ok(mut runner) = Runner::new(alloc, table) else {
         return Err(ScriptFault::NoMemory(1));
     };
     match run(alloc, &mut runner, input, output, READS) {

@@ -4,9 +4,11 @@ ghost use Rattle.std.specs.Prelude.{◌≡◌};
 use super::run_script;
 use crate::fault::ScriptFault;
 use crate::memory::{MemoryIn, MemoryOut};
+use oim_report::read_table;
 use std::alloc::{AllocError, Global};
 use std::marker::Brand;
 use std::process::Abort;
+use std::sync::Arc;
 use std::sync::ledger::{Blank, Ledger};
 use std::test::Fail;
 
@@ -73,7 +75,7 @@ const ONE_AT_A_TIME: [Row; 15] = [
 ];
 
 // Lines of other kinds, lengths or parts.
-const BAD_LINES: [Row; 31] = [
+const BAD_LINES: [Row; 33] = [
     ("[", "[\"bad-line\"]"),
     ("[]", "[\"bad-line\"]"),
     ("{}", "[\"bad-line\"]"),
@@ -99,7 +101,9 @@ const BAD_LINES: [Row; 31] = [
     ("[\"load\",\"r1\",null]", "[\"bad-line\"]"),
     ("[\"load\",1,{}]", "[\"bad-line\"]"),
     ("[\"load\",\"r1\",{},1]", "[\"bad-line\"]"),
-    ("[\"export\",\"r1\"]", "[\"bad-line\"]"),
+    ("[\"export\"]", "[\"bad-line\"]"),
+    ("[\"export\",1]", "[\"bad-line\"]"),
+    ("[\"export\",\"r1\",\"r2\"]", "[\"bad-line\"]"),
     (
         "[\"cell\",\"s1\",\"r1\",{\"concept\":\"ex:Name\"}]",
         "[\"bad-line\"]",
@@ -113,36 +117,61 @@ const BAD_LINES: [Row; 31] = [
     ("\x0c", "[\"bad-line\"]"),
 ];
 
-// Reports that are refused: whole reports are not taken yet.
-const WRONG_REPORTS: [Row; 16] = [
+// Reports that are refused, each with a later fault beside the one that is told. None is a step.
+const REFUSED_REPORTS: [Row; 23] = [
+    (
+        "[\"load\",\"r1\",\"{\\\"documentInfo\\\":\"]",
+        "[\"bad-report\",\"not-json\"]",
+    ),
+    ("[\"load\",\"r1\",\"\"]", "[\"bad-report\",\"not-json\"]"),
     ("[\"load\",\"r1\",{}]", "[\"bad-report\",\"wrong-shape\"]"),
     (
-        "[\"load\",\"r1\",{\"documentInfo\":null}]",
+        "[\"load\",\"r1\",\"[]\"]",
         "[\"bad-report\",\"wrong-shape\"]",
     ),
     (
-        "[\"load\",\"r1\",{\"documentInfo\":{}}]",
+        "[\"load\",\"r1\",{\"documentInfo\":null,\"facts\":null}]",
         "[\"bad-report\",\"wrong-shape\"]",
     ),
     (
-        "[\"load\",\"r1\",{\"documentInfo\":{\"documentType\":\"x\"}}]",
+        "[\"load\",\"r1\",{\"documentInfo\":{},\"facts\":null}]",
+        "[\"bad-report\",\"wrong-document-type\"]",
+    ),
+    (
+        "[\"load\",\"r1\",{\"documentInfo\":{\"documentType\":\"x\",\"features\":null}}]",
+        "[\"bad-report\",\"wrong-document-type\"]",
+    ),
+    (
+        "[\"load\",\"r1\",{\"documentInfo\":{\"documentType\":\"https://xbrl.org/2021/xbrl-json\",\"features\":null,\"namespaces\":null}}]",
         "[\"bad-report\",\"wrong-shape\"]",
     ),
     (
-        "[\"load\",\"r1\",{\"documentInfo\":{\"documentType\":\"https://xbrl.org/2021/xbrl-json\",\"features\":{}}}]",
+        "[\"load\",\"r1\",{\"documentInfo\":{\"documentType\":\"https://xbrl.org/2021/xbrl-json\",\"features\":{\"xbrl:allowedDuplicates\":\"some\"},\"namespaces\":null}}]",
+        "[\"bad-report\",\"bad-policy\"]",
+    ),
+    (
+        "[\"load\",\"r1\",{\"documentInfo\":{\"documentType\":\"https://xbrl.org/2021/xbrl-json\",\"features\":{\"xbrl:allowedDuplicates\":null},\"namespaces\":null}}]",
+        "[\"bad-report\",\"bad-policy\"]",
+    ),
+    (
+        "[\"load\",\"r1\",{\"documentInfo\":{\"documentType\":\"https://xbrl.org/2021/xbrl-json\",\"namespaces\":null,\"x\":1.5}}]",
         "[\"bad-report\",\"wrong-shape\"]",
     ),
     (
-        "[\"load\",\"r1\",{\"documentInfo\":{\"documentType\":\"https://xbrl.org/2021/xbrl-json\",\"namespaces\":null}}]",
+        "[\"load\",\"r1\",{\"documentInfo\":{\"documentType\":\"https://xbrl.org/2021/xbrl-json\",\"namespaces\":{\"a\":\"http://u\",\"b\":\"http://u\",\"c\":1}}}]",
         "[\"bad-report\",\"wrong-shape\"]",
     ),
     (
-        "[\"load\",\"r1\",{\"documentInfo\":{\"documentType\":\"https://xbrl.org/2021/xbrl-json\",\"namespaces\":{\"a\":1}}}]",
-        "[\"bad-report\",\"wrong-shape\"]",
+        "[\"load\",\"r1\",{\"documentInfo\":{\"documentType\":\"https://xbrl.org/2021/xbrl-json\",\"namespaces\":{\"a\":\"http://u\",\"b\":\"http://u\"},\"x\":1.5}}]",
+        "[\"bad-report\",\"alias-twice\"]",
     ),
     (
-        "[\"load\",\"r1\",{\"documentInfo\":{\"documentType\":\"https://xbrl.org/2021/xbrl-json\",\"namespaces\":{\"a\":\"http://u\",\"b\":\"http://u\"}}}]",
-        "[\"bad-report\",\"wrong-shape\"]",
+        "[\"load\",\"r1\",{\"documentInfo\":{\"documentType\":\"https://xbrl.org/2021/xbrl-json\",\"namespaces\":{\"ex\":\"http://e.org/t\"},\"x\":[{\"y\":1.5}]},\"facts\":null}]",
+        "[\"bad-report\",\"not-whole\"]",
+    ),
+    (
+        "[\"load\",\"r1\",{\"documentInfo\":{\"documentType\":\"https://xbrl.org/2021/xbrl-json\",\"namespaces\":{\"ex\":\"http://e.org/t\"},\"x\":-0},\"facts\":null}]",
+        "[\"bad-report\",\"not-whole\"]",
     ),
     (
         "[\"load\",\"r1\",{\"documentInfo\":{\"documentType\":\"https://xbrl.org/2021/xbrl-json\",\"namespaces\":{\"ex\":\"http://e.org/t\"}},\"facts\":null}]",
@@ -150,33 +179,36 @@ const WRONG_REPORTS: [Row; 16] = [
     ),
     (
         "[\"load\",\"r1\",{\"documentInfo\":{\"documentType\":\"https://xbrl.org/2021/xbrl-json\",\"namespaces\":{\"ex\":\"http://e.org/t\"}},\"facts\":{\"f\":1}}]",
-        "[\"bad-report\",\"wrong-shape\"]",
+        "[\"bad-report\",\"bad-fact\",\"f\",\"wrong-shape\"]",
     ),
     (
-        "[\"load\",\"r1\",{\"documentInfo\":{\"documentType\":\"https://xbrl.org/2021/xbrl-json\",\"namespaces\":{\"ex\":\"http://e.org/t\"}},\"facts\":{\"f\":{\"value\":\"1\",\"decimals\":0,\"dimensions\":{\"concept\":\"ex:Name\"}}}}]",
-        "[\"bad-report\",\"wrong-shape\"]",
+        "[\"load\",\"r1\",{\"documentInfo\":{\"documentType\":\"https://xbrl.org/2021/xbrl-json\",\"namespaces\":{\"ex\":\"http://e.org/t\"}},\"facts\":{\"g\":1,\"f\":{\"value\":\"1\",\"dimensions\":{\"concept\":\"zz:Name\"}}}}]",
+        "[\"bad-report\",\"bad-fact\",\"f\",\"unbound-prefix\"]",
     ),
     (
-        "[\"load\",\"r1\",{\"documentInfo\":{\"documentType\":\"https://xbrl.org/2021/xbrl-json\",\"namespaces\":{\"ex\":\"http://e.org/t\"}},\"facts\":{\"f\":{\"value\":\"1\",\"dimensions\":{\"concept\":\"zz:Name\"}}}}]",
-        "[\"bad-report\",\"wrong-shape\"]",
+        "[\"load\",\"r1\",{\"documentInfo\":{\"documentType\":\"https://xbrl.org/2021/xbrl-json\",\"namespaces\":{\"ex\":\"http://e.org/t\"}},\"facts\":{\"f\":{\"value\":\"1\",\"decimals\":1.5,\"dimensions\":{}}}}]",
+        "[\"bad-report\",\"bad-fact\",\"f\",\"not-whole\"]",
     ),
     (
-        "[\"load\",\"r1\",{\"documentInfo\":{\"documentType\":\"https://xbrl.org/2021/xbrl-json\",\"namespaces\":{\"ex\":\"http://e.org/t\"}},\"facts\":{\"f\":{\"value\":\"1\",\"dimensions\":{}}}}]",
-        "[\"bad-report\",\"wrong-shape\"]",
-    ),
-    ("[\"load\",\"r1\",\"\"]", "[\"bad-report\",\"wrong-shape\"]"),
-    (
-        "[\"load\",\"r1\",\"{\"]",
-        "[\"bad-report\",\"wrong-shape\"]",
+        "[\"load\",\"r1\",{\"documentInfo\":{\"documentType\":\"https://xbrl.org/2021/xbrl-json\",\"namespaces\":{\"ex\":\"http://e.org/t\"}},\"facts\":{\"\":{\"value\":\"1\",\"dimensions\":{}}}}]",
+        "[\"bad-report\",\"bad-fact\",\"\",\"no-concept\"]",
     ),
     (
-        "[\"load\",\"r1\",\"{\\\"documentInfo\\\":{\\\"documentType\\\":\\\"x\\\"}}\"]",
-        "[\"bad-report\",\"wrong-shape\"]",
+        "[\"load\",\"r1\",{\"documentInfo\":{\"documentType\":\"https://xbrl.org/2021/xbrl-json\",\"namespaces\":{\"ex\":\"http://e.org/t\"}},\"facts\":{\"f\":{\"value\":\"1E3\",\"dimensions\":{\"concept\":\"ex:Assets\"}}}}]",
+        "[\"bad-report\",\"bad-fact\",\"f\",\"not-a-number\"]",
+    ),
+    (
+        "[\"load\",\"r1\",{\"documentInfo\":{\"documentType\":\"https://xbrl.org/2021/xbrl-json\",\"namespaces\":{\"ex\":\"http://e.org/t\"}},\"facts\":{\"f\":{\"value\":\"100000000000000000000\",\"dimensions\":{\"concept\":\"ex:Assets\"}}}}]",
+        "[\"bad-report\",\"bad-fact\",\"f\",\"too-large\"]",
+    ),
+    (
+        "[\"load\",\"r1\",{\"documentInfo\":{\"documentType\":\"https://xbrl.org/2021/xbrl-json\",\"namespaces\":{\"ex\":\"http://e.org/t\"}},\"facts\":{\"f\":{\"value\":\"1\",\"decimals\":-21,\"dimensions\":{\"concept\":\"ex:Assets\"}}}}]",
+        "[\"bad-report\",\"bad-fact\",\"f\",\"decimals-out-of-range\"]",
     ),
 ];
 
-// Facts that are refused in reading, also under a name that is not in use.
-const WRONG_FACTS: [Row; 10] = [
+// Facts that are refused in reading make no step, also under a name that is not in use; those that the names of their report refuse do.
+const REFUSED_FACTS: [Row; 20] = [
     (
         "[\"add\",\"s1\",\"r1\",\"a\",{}]",
         "[\"bad-fact\",\"wrong-shape\"]",
@@ -194,44 +226,186 @@ const WRONG_FACTS: [Row; 10] = [
         "[\"bad-fact\",\"wrong-shape\"]",
     ),
     (
-        "[\"add\",\"s1\",\"r1\",\"a\",{\"value\":\"1\",\"dimensions\":{}}]",
-        "[\"bad-fact\",\"wrong-shape\"]",
-    ),
-    (
-        "[\"add\",\"s1\",\"r1\",\"a\",{\"value\":\"1\",\"dimensions\":{\"concept\":null}}]",
-        "[\"bad-fact\",\"wrong-shape\"]",
-    ),
-    (
         "[\"add\",\"s1\",\"r1\",\"a\",{\"value\":\"1\",\"dimensions\":{\"concept\":\"ex:Name\",\"x:y\":1}}]",
         "[\"bad-fact\",\"wrong-shape\"]",
     ),
     (
-        "[\"add\",\"s1\",\"r1\",\"a\",{\"value\":\"1\",\"dimensions\":{\"concept\":\"ex:Name\"},\"decimals\":0}]",
+        "[\"add\",\"s1\",\"r1\",\"a\",{\"value\":\"1\",\"decimals\":\"0\",\"dimensions\":{\"concept\":\"ex:Name\"}}]",
         "[\"bad-fact\",\"wrong-shape\"]",
     ),
     (
-        "[\"add\",\"s1\",\"r1\",\"a\",{\"value\":\"1\",\"dimensions\":{\"concept\":\"ex:Name\"},\"links\":{}}]",
+        "[\"add\",\"s1\",\"r1\",\"a\",{\"value\":\"1\",\"links\":null,\"dimensions\":{\"concept\":\"ex:Name\"}}]",
         "[\"bad-fact\",\"wrong-shape\"]",
     ),
     (
-        "[\"add\",\"s1\",\"r1\",\"a\",{\"value\":null,\"dimensions\":{\"concept\":\"ex:Name\"}}]",
+        "[\"add\",\"s1\",\"r1\",\"a\",{\"value\":\"1\",\"decimals\":0.0,\"dimensions\":{}}]",
+        "[\"bad-fact\",\"not-whole\"]",
+    ),
+    (
+        "[\"add\",\"s1\",\"r1\",\"a\",{\"value\":\"1\",\"links\":{\"a\":{\"b\":1e1}},\"dimensions\":{}}]",
+        "[\"bad-fact\",\"not-whole\"]",
+    ),
+    (
+        "[\"add\",\"s1\",\"r1\",\"a\",{\"value\":\"1\",\"dimensions\":{\"concept\":null}}]",
+        "[\"bad-fact\",\"null-core\"]",
+    ),
+    (
+        "[\"add\",\"s1\",\"r1\",\"a\",{\"value\":\"1\",\"dimensions\":{}}]",
+        "[\"bad-fact\",\"no-concept\"]",
+    ),
+    (
+        "[\"add\",\"s1\",\"r1\",\"a\",{\"value\":\"x\",\"dimensions\":{\"concept\":\"ex:Name\"}}]",
         "[\"no-session\"]",
+    ),
+    (
+        "[\"load\",\"r1\",{\"documentInfo\":{\"documentType\":\"https://xbrl.org/2021/xbrl-json\",\"namespaces\":{\"ex\":\"http://e.org/t\"}}}]",
+        "[\"loaded\",1]",
+    ),
+    ("[\"open\",\"s1\",\"amend\"]", "[\"opened\"]"),
+    (
+        "[\"add\",\"s1\",\"r1\",\"a\",{\"value\":\"1\",\"dimensions\":{\"concept\":\"zz:Name\"}}]",
+        "[\"bad-fact\",\"unbound-prefix\"]",
+    ),
+    (
+        "[\"add\",\"s1\",\"r1\",\"a\",{\"value\":\"1\",\"decimals\":0,\"dimensions\":{\"concept\":\"ex:Name\"}}]",
+        "[\"bad-fact\",\"misplaced\"]",
+    ),
+    (
+        "[\"add\",\"s1\",\"r1\",\"a\",{\"value\":\"1\",\"dimensions\":{\"concept\":\"ex:Name\",\"period\":null}}]",
+        "[\"bad-fact\",\"null-core\"]",
+    ),
+    (
+        "[\"add\",\"s1\",\"r1\",\"a\",{\"value\":\"1,000\",\"dimensions\":{\"concept\":\"ex:Assets\"}}]",
+        "[\"bad-fact\",\"not-a-number\"]",
+    ),
+    (
+        "[\"add\",\"s1\",\"r1\",\"a\",{\"value\":\"0.0000000000001\",\"dimensions\":{\"concept\":\"ex:Assets\"}}]",
+        "[\"bad-fact\",\"too-large\"]",
+    ),
+    (
+        "[\"add\",\"s1\",\"r1\",\"a\",{\"value\":\"1\",\"decimals\":13,\"dimensions\":{\"concept\":\"ex:Assets\"}}]",
+        "[\"bad-fact\",\"decimals-out-of-range\"]",
     ),
 ];
 
-// A report may be given as its text, after a byte order mark or none.
-const REPORTS_AS_TEXTS: [Row; 3] = [
+// A report may be given as its text, after one byte order mark or none, and is exported as it is written.
+const REPORTS_AS_TEXTS: [Row; 6] = [
     (
-        "[\"load\",\"r1\",\"{\\\"documentInfo\\\":{\\\"documentType\\\":\\\"https://xbrl.org/2021/xbrl-json\\\"}}\"]",
+        "[\"load\",\"r1\",\"{\\\"documentInfo\\\":{\\\"documentType\\\":\\\"https://xbrl.org/2021/xbrl-json\\\",\\\"namespaces\\\":{\\\"ex\\\":\\\"http://e.org/t\\\"}}}\"]",
         "[\"loaded\",1]",
     ),
     (
-        "[\"load\",\"r2\",\"\\ufeff{\\\"documentInfo\\\":{\\\"documentType\\\":\\\"https://xbrl.org/2021/xbrl-json\\\"}}\"]",
+        "[\"export\",\"r1\"]",
+        "[\"report\",{\"documentInfo\":{\"documentType\":\"https://xbrl.org/2021/xbrl-json\",\"namespaces\":{\"ex\":\"http://e.org/t\"}},\"facts\":{}}]",
+    ),
+    (
+        "[\"load\",\"r2\",\"\\ufeff{\\\"documentInfo\\\":{\\\"documentType\\\":\\\"https://xbrl.org/2021/xbrl-json\\\",\\\"namespaces\\\":{\\\"ex\\\":\\\"http://e.org/t\\\"}}}\"]",
         "[\"loaded\",2]",
     ),
     (
-        "[\"load\",\"r3\",\"\\ufeff\\ufeff{\\\"documentInfo\\\":{\\\"documentType\\\":\\\"https://xbrl.org/2021/xbrl-json\\\"}}\"]",
-        "[\"bad-report\",\"wrong-shape\"]",
+        "[\"export\",\"r2\"]",
+        "[\"report\",{\"documentInfo\":{\"documentType\":\"https://xbrl.org/2021/xbrl-json\",\"namespaces\":{\"ex\":\"http://e.org/t\"}},\"facts\":{}}]",
+    ),
+    (
+        "[\"load\",\"r3\",\"\\ufeff\\ufeff{\\\"documentInfo\\\":{\\\"documentType\\\":\\\"https://xbrl.org/2021/xbrl-json\\\",\\\"namespaces\\\":{\\\"ex\\\":\\\"http://e.org/t\\\"}}}\"]",
+        "[\"bad-report\",\"not-json\"]",
+    ),
+    ("[\"export\",\"r3\"]", "[\"no-report\"]"),
+];
+
+// An export is of the current version: nothing that is staged, and nothing of a session that was closed.
+const EXPORTS: [Row; 14] = [
+    (
+        "[\"load\",\"r1\",{\"documentInfo\":{\"documentType\":\"https://xbrl.org/2021/xbrl-json\",\"namespaces\":{\"ex\":\"http://e.org/t\"}}}]",
+        "[\"loaded\",1]",
+    ),
+    ("[\"open\",\"s1\",\"amend\"]", "[\"opened\"]"),
+    (
+        "[\"add\",\"s1\",\"r1\",\"f9\",{\"value\":\"x\",\"dimensions\":{\"concept\":\"ex:Name\"}}]",
+        "[\"staged\"]",
+    ),
+    (
+        "[\"export\",\"r1\"]",
+        "[\"report\",{\"documentInfo\":{\"documentType\":\"https://xbrl.org/2021/xbrl-json\",\"namespaces\":{\"ex\":\"http://e.org/t\"}},\"facts\":{}}]",
+    ),
+    ("[\"close\",\"s1\"]", "[\"closed\"]"),
+    ("[\"get\",\"s1\",\"r1\",\"f9\"]", "[\"no-session\"]"),
+    (
+        "[\"export\",\"r1\"]",
+        "[\"report\",{\"documentInfo\":{\"documentType\":\"https://xbrl.org/2021/xbrl-json\",\"namespaces\":{\"ex\":\"http://e.org/t\"}},\"facts\":{}}]",
+    ),
+    ("[\"open\",\"s1\",\"amend\"]", "[\"opened\"]"),
+    (
+        "[\"add\",\"s1\",\"r1\",\"f9\",{\"value\":null,\"decimals\":2,\"links\":{\"b\":{\"a\":[\"f1\"]},\"a\":{}},\"dimensions\":{\"period\":\"2024-01-01T00:00:00\",\"ex:d\":null,\"concept\":\"ex:Assets\"},\"x\":1.5}]",
+        "[\"staged\"]",
+    ),
+    (
+        "[\"add\",\"s1\",\"r1\",\"f8\",{\"value\":\" 01000.0 \",\"decimals\":-3,\"dimensions\":{\"concept\":\"ex:Assets\"}}]",
+        "[\"staged\"]",
+    ),
+    ("[\"commit\",\"s1\"]", "[\"committed\",2]"),
+    (
+        "[\"export\",\"r1\"]",
+        "[\"report\",{\"documentInfo\":{\"documentType\":\"https://xbrl.org/2021/xbrl-json\",\"namespaces\":{\"ex\":\"http://e.org/t\"}},\"facts\":{\"f8\":{\"decimals\":-3,\"dimensions\":{\"concept\":\"ex:Assets\"},\"value\":\" 01000.0 \"},\"f9\":{\"dimensions\":{\"concept\":\"ex:Assets\",\"ex:d\":null,\"period\":\"2024-01-01T00:00:00\"},\"links\":{\"a\":{},\"b\":{\"a\":[\"f1\"]}},\"value\":null}}}]",
+    ),
+    (
+        "[\"load\",\"r2\",{\"documentInfo\":{\"documentType\":\"https://xbrl.org/2021/xbrl-json\",\"x\":[1,{\"c\":0,\"b\":\"\\u0041\"}],\"features\":{\"ex:other\":true}}}]",
+        "[\"loaded\",3]",
+    ),
+    (
+        "[\"export\",\"r2\"]",
+        "[\"report\",{\"documentInfo\":{\"documentType\":\"https://xbrl.org/2021/xbrl-json\",\"features\":{\"ex:other\":true},\"x\":[1,{\"b\":\"A\",\"c\":0}]},\"facts\":{}}]",
+    ),
+];
+
+// Duplicates that a report does not allow are refused at its load, and at the commit that adds them; a refused session leaves nothing.
+const DUPLICATES: [Row; 17] = [
+    (
+        "[\"load\",\"r1\",{\"documentInfo\":{\"documentType\":\"https://xbrl.org/2021/xbrl-json\",\"features\":{\"xbrl:allowedDuplicates\":\"complete\"},\"namespaces\":{\"ex\":\"http://e.org/t\"}},\"facts\":{\"a\":{\"value\":\"1000\",\"decimals\":-3,\"dimensions\":{\"concept\":\"ex:Assets\"}},\"b\":{\"value\":\"2000\",\"decimals\":-3,\"dimensions\":{\"concept\":\"ex:Assets\"}}}}]",
+        "[\"disallowed\",\"r1\",\"consistent\",[\"a\",\"b\"]]",
+    ),
+    (
+        "[\"load\",\"r1\",{\"documentInfo\":{\"documentType\":\"https://xbrl.org/2021/xbrl-json\",\"features\":{\"xbrl:allowedDuplicates\":\"none\"},\"namespaces\":{\"ex\":\"http://e.org/t\"}},\"facts\":{\"a\":{\"value\":\"x\",\"dimensions\":{\"concept\":\"ex:Name\"}},\"b\":{\"value\":\"x\",\"dimensions\":{\"concept\":\"ex:Name\"}}}}]",
+        "[\"disallowed\",\"r1\",\"complete\",[\"a\",\"b\"]]",
+    ),
+    (
+        "[\"load\",\"r1\",{\"documentInfo\":{\"documentType\":\"https://xbrl.org/2021/xbrl-json\",\"features\":{\"xbrl:allowedDuplicates\":\"consistent\"},\"namespaces\":{\"ex\":\"http://e.org/t\"}},\"facts\":{\"a\":{\"value\":\"1000\",\"decimals\":-3,\"dimensions\":{\"concept\":\"ex:Assets\"}}}}]",
+        "[\"loaded\",1]",
+    ),
+    (
+        "[\"load\",\"r1\",{\"documentInfo\":{\"documentType\":\"https://xbrl.org/2021/xbrl-json\",\"features\":{\"xbrl:allowedDuplicates\":\"none\"},\"namespaces\":{\"ex\":\"http://e.org/t\"}},\"facts\":{\"a\":{\"value\":\"x\",\"dimensions\":{\"concept\":\"ex:Name\"}},\"b\":{\"value\":\"x\",\"dimensions\":{\"concept\":\"ex:Name\"}}}}]",
+        "[\"name-taken\"]",
+    ),
+    ("[\"open\",\"s1\",\"amend\"]", "[\"opened\"]"),
+    (
+        "[\"add\",\"s1\",\"r1\",\"b\",{\"value\":\"1500\",\"dimensions\":{\"concept\":\"ex:Assets\"}}]",
+        "[\"staged\"]",
+    ),
+    ("[\"commit\",\"s1\"]", "[\"committed\",2]"),
+    ("[\"open\",\"s1\",\"amend\"]", "[\"opened\"]"),
+    (
+        "[\"add\",\"s1\",\"r1\",\"c\",{\"value\":\"1500.000000000001\",\"dimensions\":{\"concept\":\"ex:Assets\"}}]",
+        "[\"staged\"]",
+    ),
+    (
+        "[\"get\",\"s1\",\"r1\",\"c\"]",
+        "[\"fact\",{\"dimensions\":{\"concept\":\"ex:Assets\"},\"value\":\"1500.000000000001\"}]",
+    ),
+    (
+        "[\"commit\",\"s1\"]",
+        "[\"disallowed\",\"r1\",\"inconsistent\",[\"a\",\"b\",\"c\"]]",
+    ),
+    ("[\"commit\",\"s1\"]", "[\"no-session\"]"),
+    ("[\"open\",\"s1\",\"amend\"]", "[\"opened\"]"),
+    ("[\"get\",\"s1\",\"r1\",\"c\"]", "[\"none\"]"),
+    (
+        "[\"add\",\"s1\",\"r1\",\"c\",{\"value\":\"2000\",\"decimals\":-3,\"dimensions\":{\"concept\":\"ex:Assets\"}}]",
+        "[\"staged\"]",
+    ),
+    ("[\"commit\",\"s1\"]", "[\"committed\",3]"),
+    (
+        "[\"export\",\"r1\"]",
+        "[\"report\",{\"documentInfo\":{\"documentType\":\"https://xbrl.org/2021/xbrl-json\",\"features\":{\"xbrl:allowedDuplicates\":\"consistent\"},\"namespaces\":{\"ex\":\"http://e.org/t\"}},\"facts\":{\"a\":{\"decimals\":-3,\"dimensions\":{\"concept\":\"ex:Assets\"},\"value\":\"1000\"},\"b\":{\"dimensions\":{\"concept\":\"ex:Assets\"},\"value\":\"1500\"},\"c\":{\"decimals\":-3,\"dimensions\":{\"concept\":\"ex:Assets\"},\"value\":\"2000\"}}}]",
     ),
 ];
 
@@ -258,7 +432,11 @@ fn run_over<L: Ledger, K: Ledger>(
 {
     let mut source: MemoryIn<'_, L> = MemoryIn::new(input, piece.max(1), source_blank);
     let mut sink: MemoryOut<K> = MemoryOut::new(alloc, 4096, piece.max(1), sink_blank)?;
-    let steps = match run_script(alloc, &mut source, &mut sink) {
+    let Ok(table) = read_table(alloc, "http://e.org/t Assets") else {
+        return Err(AllocError);
+    };
+    let table = Arc::new(alloc, table)?;
+    let steps = match run_script(alloc, &mut source, &mut sink, &table) {
         Ok(core) => Ok(core.history().len()),
         Err(fault) => Err(fault),
     };
@@ -323,18 +501,28 @@ fn other_lines_are_bad_lines(rt: HostRuntime) -> Result<(), Fail> {
 }
 
 #[test]
-fn wrong_reports_are_refused(rt: HostRuntime) -> Result<(), Fail> {
-    check(&rt, rt.alloc(), &WRONG_REPORTS, 65536, 0)
+fn refused_reports_are_told_by_their_first_fault(rt: HostRuntime) -> Result<(), Fail> {
+    check(&rt, rt.alloc(), &REFUSED_REPORTS, 65536, 0)
 }
 
 #[test]
-fn wrong_facts_are_refused(rt: HostRuntime) -> Result<(), Fail> {
-    check(&rt, rt.alloc(), &WRONG_FACTS, 65536, 0)
+fn refused_facts_are_told_by_their_first_fault(rt: HostRuntime) -> Result<(), Fail> {
+    check(&rt, rt.alloc(), &REFUSED_FACTS, 65536, 7)
 }
 
 #[test]
 fn reports_come_as_texts_too(rt: HostRuntime) -> Result<(), Fail> {
     check(&rt, rt.alloc(), &REPORTS_AS_TEXTS, 65536, 2)
+}
+
+#[test]
+fn the_current_version_is_exported(rt: HostRuntime) -> Result<(), Fail> {
+    check(&rt, rt.alloc(), &EXPORTS, 65536, 9)
+}
+
+#[test]
+fn duplicates_are_refused_as_declared(rt: HostRuntime) -> Result<(), Fail> {
+    check(&rt, rt.alloc(), &DUPLICATES, 65536, 15)
 }
 
 // Holds whichever growth is refused: the replies of the lines before the one that is named are written.

@@ -1,15 +1,13 @@
 //! The lines of replies, beside what the formats say of them.
-use super::facts::{push_dims, push_fact, push_links, push_value};
-use super::pieces::push_quoted;
 use super::{
-    bad_fact_reply, bad_line_reply, name_in_use_reply, no_session_reply, reply_text,
-    wrong_report_reply,
+    bad_fact_reply, bad_line_reply, bad_report_reply, exported_reply, name_in_use_reply,
+    no_session_reply, reply_text,
 };
 use filing_core::Reply;
-use filing_model::{DimFault, FactFault, Trouble};
-use oim_fact::{DimSet, Fact, FactValue};
-use oim_value::{Accuracy, Decimal};
-use std::alloc::Global;
+use filing_model::{Class, DimFault, FactFault, Trouble};
+use oim_fact::NumericTable;
+use oim_report::{ReportFault, read_report};
+use std::sync::Arc;
 use std::test::Fail;
 
 #[test]
@@ -39,88 +37,120 @@ fn replies_have_their_lines(rt: HostRuntime) -> Result<(), Fail> {
 }
 
 #[test]
+fn a_disallowed_cell_has_its_line(rt: HostRuntime) -> Result<(), Fail> {
+    let alloc = rt.alloc();
+    for (class, line) in [
+        (
+            Class::Complete,
+            "[\"disallowed\",\"r\\\"1\",\"complete\",[\"\",\"a\"]]",
+        ),
+        (
+            Class::Consistent,
+            "[\"disallowed\",\"r\\\"1\",\"consistent\",[\"\",\"a\"]]",
+        ),
+        (
+            Class::Inconsistent,
+            "[\"disallowed\",\"r\\\"1\",\"inconsistent\",[\"\",\"a\"]]",
+        ),
+    ] {
+        let mut ids = Vec::new(alloc);
+        ids.push(String::new(alloc))?;
+        ids.push(String::from_str(alloc, "a")?)?;
+        let reply = Reply::Disallowed(String::from_str(alloc, "r\"1")?, class, ids);
+        assert_eq!(rt; reply_text(alloc, &reply)?.as_str(), line);
+    }
+    Ok(())
+}
+
+#[test]
 fn lines_without_a_step_have_theirs(rt: HostRuntime) {
     for (line, wanted) in [
         (bad_line_reply(), "[\"bad-line\"]"),
         (name_in_use_reply(), "[\"name-in-use\"]"),
         (no_session_reply(), "[\"no-session\"]"),
-        (wrong_report_reply(), "[\"bad-report\",\"wrong-shape\"]"),
-        (
-            bad_fact_reply(Trouble::WrongShape),
-            "[\"bad-fact\",\"wrong-shape\"]",
-        ),
-        (
-            bad_fact_reply(Trouble::Dims(DimFault::TooLong)),
-            "[\"bad-fact\",\"too-long\"]",
-        ),
     ] {
         assert_eq!(rt; line, wanted);
     }
 }
 
 #[test]
-fn texts_are_escaped(rt: HostRuntime) -> Result<(), Fail> {
-    let mut out = String::new(rt.alloc());
-    push_quoted(&mut out, "a \"b\"\n\u{1}\\é/")?;
-    assert_eq!(rt; out.as_str(), "\"a \\\"b\\\"\\n\\u0001\\\\é/\"");
+fn refused_facts_have_their_words(rt: HostRuntime) -> Result<(), Fail> {
+    for (fault, wanted) in [
+        (Trouble::WrongShape, "[\"bad-fact\",\"wrong-shape\"]"),
+        (Trouble::NotWhole, "[\"bad-fact\",\"not-whole\"]"),
+        (
+            Trouble::Dims(DimFault::NullCore),
+            "[\"bad-fact\",\"null-core\"]",
+        ),
+        (
+            Trouble::Dims(DimFault::NoConcept),
+            "[\"bad-fact\",\"no-concept\"]",
+        ),
+        (
+            Trouble::Dims(DimFault::TooLong),
+            "[\"bad-fact\",\"too-long\"]",
+        ),
+    ] {
+        assert_eq!(rt; bad_fact_reply(rt.alloc(), fault)?.as_str(), wanted);
+    }
     Ok(())
 }
 
 #[test]
-fn parts_of_a_fact_are_written(rt: HostRuntime) -> Result<(), Fail> {
+fn refused_reports_have_their_words(rt: HostRuntime) -> Result<(), Fail> {
+    for (fault, wanted) in [
+        (ReportFault::NotJson, "[\"bad-report\",\"not-json\"]"),
+        (ReportFault::WrongShape, "[\"bad-report\",\"wrong-shape\"]"),
+        (
+            ReportFault::WrongDocumentType,
+            "[\"bad-report\",\"wrong-document-type\"]",
+        ),
+        (ReportFault::BadPolicy, "[\"bad-report\",\"bad-policy\"]"),
+        (ReportFault::AliasTwice, "[\"bad-report\",\"alias-twice\"]"),
+        (ReportFault::NotWhole, "[\"bad-report\",\"not-whole\"]"),
+    ] {
+        assert_eq!(rt; bad_report_reply(rt.alloc(), &fault)?.as_str(), wanted);
+    }
+    Ok(())
+}
+
+#[test]
+fn a_refused_fact_of_a_report_is_named(rt: HostRuntime) -> Result<(), Fail> {
     let alloc = rt.alloc();
-    let text = |text: &str| String::from_str(alloc, text);
-    let mut pairs = Vec::new(alloc);
-    pairs.push((text("concept")?, Some(text("ex:Name")?)))?;
-    pairs.push((text("ex:d")?, None))?;
-    let mut out = String::new(alloc);
-    push_dims(&mut out, &pairs)?;
-    push_links(&mut out, &Some(text("{\"a\":1}")?))?;
-    push_links(&mut out, &None)?;
-    push_value(&mut out, &FactValue::Nil)?;
-    push_value(&mut out, &FactValue::Text(text("Acme")?))?;
-    assert_eq!(rt;
-        out.as_str(),
-        "{\"concept\":\"ex:Name\",\"ex:d\":null},\"links\":{\"a\":1}null\"Acme\""
-    );
+    for (fault, wanted) in [
+        (
+            FactFault::UnboundPrefix,
+            "[\"bad-report\",\"bad-fact\",\"f\\n\",\"unbound-prefix\"]",
+        ),
+        (
+            FactFault::NotANumber,
+            "[\"bad-report\",\"bad-fact\",\"f\\n\",\"not-a-number\"]",
+        ),
+        (
+            FactFault::TooLarge,
+            "[\"bad-report\",\"bad-fact\",\"f\\n\",\"too-large\"]",
+        ),
+        (
+            FactFault::DecimalsOutOfRange,
+            "[\"bad-report\",\"bad-fact\",\"f\\n\",\"decimals-out-of-range\"]",
+        ),
+    ] {
+        let id = String::from_str(alloc, "f\n")?;
+        let fault = ReportFault::BadFact(id, Trouble::Fit(fault));
+        assert_eq!(rt; bad_report_reply(alloc, &fault)?.as_str(), wanted);
+    }
     Ok(())
 }
 
-// A fact of one concept with this value.
-fn fact_with(alloc: Global, value: FactValue) -> Result<Fact, Fail> {
-    let concept = String::from_str(alloc, "concept")?;
-    let assets = String::from_str(alloc, "ex:Assets")?;
-    let mut pairs = Vec::new(alloc);
-    pairs.push((concept, Some(assets)))?;
-    Ok(Fact {
-        dims: DimSet::of(pairs)?,
-        value,
-        links: None,
-    })
-}
-
-// The fact of a thousand, written.
-fn thousand(alloc: Global, decimals: Option<i64>) -> Result<String, Fail> {
-    let value = FactValue::Number {
-        text: String::from_str(alloc, " 1000.0")?,
-        value: Decimal::read("1000")?,
-        accuracy: Accuracy::of(decimals)?,
-    };
-    let mut out = String::new(alloc);
-    push_fact(&mut out, &fact_with(alloc, value)?)?;
-    Ok(out)
-}
-
-// A number keeps its text as it was read, and its decimals where it is not exact.
 #[test]
-fn numbers_are_written_as_they_were_read(rt: HostRuntime) -> Result<(), Fail> {
+fn a_report_is_exported_as_it_is_written(rt: HostRuntime) -> Result<(), Fail> {
+    let alloc = rt.alloc();
+    let table = Arc::new(alloc, NumericTable::of(Vec::new(alloc))?)?;
+    let text = "{\"documentInfo\":{\"documentType\":\"https://xbrl.org/2021/xbrl-json\"}}";
+    let report = read_report(alloc, text.as_bytes(), &table)?;
     assert_eq!(rt;
-        thousand(rt.alloc(), Some(-3))?.as_str(),
-        "{\"decimals\":-3,\"dimensions\":{\"concept\":\"ex:Assets\"},\"value\":\" 1000.0\"}"
-    );
-    assert_eq!(rt;
-        thousand(rt.alloc(), None)?.as_str(),
-        "{\"dimensions\":{\"concept\":\"ex:Assets\"},\"value\":\" 1000.0\"}"
+        exported_reply(alloc, &report)?.as_str(),
+        "[\"report\",{\"documentInfo\":{\"documentType\":\"https://xbrl.org/2021/xbrl-json\"},\"facts\":{}}]"
     );
     Ok(())
 }

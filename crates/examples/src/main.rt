@@ -1,0 +1,81 @@
+//! Runs the scripts that lie beside it, each with its replies in a file of its own, and tells which replies are not those.
+#![tactic(auto)]
+
+ghost use Rattle.std.specs.Prelude.{◌≡◌, ◌≤◌, ◌<◌};
+
+use anyhow::Result;
+use filing_cli::{MemoryIn, MemoryOut, run_script};
+use oim_fact::NumericTable;
+use oim_report::read_table;
+use std::alloc::Global;
+use std::fs;
+use std::marker::Brand;
+use std::rt::Files;
+use std::sync::Arc;
+use std::sync::ledger::{Blank, Ledger};
+
+/// Each is a script NAME.jsonl with the replies NAME.replies.
+const NAMES: [&str; 6] = [
+    "amendment",
+    "duplicates",
+    "numbers",
+    "refused",
+    "export",
+    "annual_report",
+];
+
+// So many bytes of replies are written without a growth.
+const ROOM: usize = 65536;
+
+/// Whether the replies to a script are these.
+fn replies_are<L: Ledger, K: Ledger>(
+    alloc: Global,
+    table: &Arc<NumericTable>,
+    script: &[u8],
+    replies: &[u8],
+    source_blank: Blank,
+    sink_blank: Blank,
+) -> Result<bool>
+    requires source_name { source_blank.name ≡ L.name }
+    requires source_parts { source_blank.parts ≡ L.parts }
+    requires source_three { 3 ≤ source_blank.parts }
+    requires sink_name { sink_blank.name ≡ K.name }
+    requires sink_parts { sink_blank.parts ≡ K.parts }
+    requires sink_some { 0 < sink_blank.parts }
+{
+    let mut source: MemoryIn<'_, L> = MemoryIn::new(script, ROOM, source_blank);
+    let mut sink: MemoryOut<K> = MemoryOut::new(alloc, ROOM, ROOM, sink_blank)?;
+    run_script(alloc, &mut source, &mut sink, table)?;
+    Ok(sink.written() == replies)
+}
+
+/// Runs the script of this name, and tells how its replies are.
+fn try_example<R: Files + Print + AllocGlobal>(
+    rt: &R,
+    table: &Arc<NumericTable>,
+    name: &str,
+) -> Result<()> {
+    let alloc = rt.alloc();
+    let script = fs::read(rt, format!(in alloc; "{name}.jsonl")?)?;
+    let replies = fs::read(rt, format!(in alloc; "{name}.replies")?)?;
+    let same = replies_are::<Brand, Brand>(
+        alloc,
+        table,
+        script.as_slice(),
+        replies.as_slice(),
+        Blank::new(3),
+        Blank::new(1),
+    )?;
+    let told = if same { "as written" } else { "OTHER REPLIES" };
+    println!(rt; "{name}: {told}")?;
+    Ok(())
+}
+
+fn main(rt: HostRuntime) -> Result<()> {
+    let table = fs::read_to_string(&rt, "numeric.txt")?;
+    let table = Arc::new(rt.alloc(), read_table(rt.alloc(), table.as_str())?)?;
+    for name in NAMES {
+        try_example(&rt, &table, name)?;
+    }
+    Ok(())
+}

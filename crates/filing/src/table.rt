@@ -1,0 +1,47 @@
+//! The numeric table of the command line.
+
+ghost use Rattle.filing.specs.Faults.{IsTableOf};
+
+use crate::fault::Fault;
+use oim_fact::NumericTable;
+use oim_report::read_table;
+use std::alloc::Global;
+use std::io::ErrorKind;
+use std::rt::Files;
+use std::{fs, str};
+
+/// The numeric table that a file's bytes are.
+fn table_of(alloc: Global, bytes: &[u8]) -> Result<NumericTable, Fault>
+    ensures { IsTableOf bytes.now result }
+{
+    match str::from_utf8(bytes) {
+        Ok(text) => Ok(read_table(alloc, text)?),
+        Err(_) => Err(Fault::TableNotText),
+    }
+}
+
+/// The bytes of the file at a path.
+fn bytes_of<R: Files + AllocGlobal>(rt: &R, path: &str) -> Result<Vec<u8>, Fault> {
+    match fs::read(rt, path) {
+        Ok(bytes) => Ok(bytes),
+        Err(error) => {
+            if error.kind() == ErrorKind::OutOfMemory {
+                Err(Fault::NoMemory)
+            } else {
+                Err(Fault::Read)
+            }
+        }
+    }
+}
+
+/// The numeric table of the file at a path; without one, the empty table.
+pub(crate) fn numeric_table<R: Files + AllocGlobal>(
+    rt: &R,
+    path: Option<&str>,
+) -> Result<NumericTable, Fault> {
+    let Some(path) = path else {
+        return Ok(NumericTable::of(Vec::new(rt.alloc()))?);
+    };
+    let bytes = bytes_of(rt, path)?;
+    table_of(rt.alloc(), bytes.as_slice())
+}

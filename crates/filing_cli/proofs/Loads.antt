@@ -1,0 +1,93 @@
+-- Where the report of a load stands in its line.
+use Rattle.std.proofs.Common.{◌≡◌, ◌∙◌, ap, sym, subst, refl, ℕ, Bool, true, false, cond, codes, Option, Some, None, is_some, unwrap_or, ◌||◌, Result, Ok, Err, IfOk, String, string_bytes}
+use Rattle.std.specs.declared.alloc.Global.{Global}
+use Rattle.std.specs.declared.alloc.AllocError.{AllocError}
+use Rattle.serde_json.specs.Data.{Data}
+use Rattle.serde_json.specs.Find.{at, as_str, as_object}
+use Rattle.filing_model.specs.Text.{text_eq}
+use Rattle.std.specs.Option.{option_map_or}
+use Rattle.filing_cli.specs.Text.{Text}
+use Rattle.filing_cli.specs.ReplyText.{bad_line_text}
+use Rattle.filing_cli.specs.Script.{State, Told, report_in, judged_load, judged_line, answered, value_answer}
+use Rattle.filing_cli.specs.ScriptLines.{◌>>=◌, Line, Load, Open, Get, Add, Commit, Close, Export, text_at, object_at, ended_at, load_of, open_of, get_of, add_of, commit_of, close_of, export_of, line_of_word, line_of}
+
+-- a load has its report as the third part of the value
+abbrev pub HasReport : Data → Option Line → Type 0
+HasReport d None = Unit {0}
+HasReport d (Some (Load name r)) = at 2 d ≡ Some r
+HasReport d (Some (Open session)) = Unit {0}
+HasReport d (Some (Get session report id)) = Unit {0}
+HasReport d (Some (Add session report id fact)) = Unit {0}
+HasReport d (Some (Commit session)) = Unit {0}
+HasReport d (Some (Close session)) = Unit {0}
+HasReport d (Some (Export name)) = Unit {0}
+
+then : {A : Type 0} (d : Data) (first : Option A) (second : A → Option Line) → ((x : A) → HasReport d (second x)) → HasReport d (first >>= second)
+then d None second h = tt
+then d (Some x) second h = h x
+
+either : (d : Data) (b : Bool) (one other : Option Line) → HasReport d one → HasReport d other → HasReport d (cond b one other)
+either d true one other p q = p
+either d false one other p q = q
+
+ended : (d : Data) (place : ℕ) (line : Line) → HasReport d (Some line) → HasReport d (ended_at place d line)
+ended d place line h = either d (is_some (at place d)) None (Some line) tt h
+
+of_load : (d : Data) → HasReport d (load_of d)
+of_load d =
+    then d (text_at 1 d) _ (λ name.
+    elim (at 2 d) as (λ o. at 2 d ≡ o → HasReport d ((o >>= λ part. cond (is_some (as_object part) || is_some (as_str part)) (Some part) None) >>= λ report. ended_at 3 d (Load name report))) [
+      | None ↦ λ _. tt
+      | Some part ↦ λ there. elim (is_some (as_object part) || is_some (as_str part)) as (λ b. HasReport d (cond b (Some part) None >>= λ report. ended_at 3 d (Load name report))) [
+        | true ↦ ended d 3 (Load name part) there
+        | false ↦ tt
+      ]
+    ] refl)
+
+of_open : (d : Data) → HasReport d (open_of d)
+of_open d = then d (text_at 1 d) _ (λ session. then d (text_at 2 d) _ (λ kind. either d (text_eq kind (codes "amend")) _ _ (ended d 3 (Open session) tt) tt))
+
+of_get : (d : Data) → HasReport d (get_of d)
+of_get d = then d (text_at 1 d) _ (λ session. then d (text_at 2 d) _ (λ report. then d (text_at 3 d) _ (λ id. ended d 4 (Get session report id) tt)))
+
+of_add : (d : Data) → HasReport d (add_of d)
+of_add d = then d (text_at 1 d) _ (λ session. then d (text_at 2 d) _ (λ report. then d (text_at 3 d) _ (λ id. then d (object_at 4 d) _ (λ fact. ended d 5 (Add session report id fact) tt))))
+
+of_commit : (d : Data) → HasReport d (commit_of d)
+of_commit d = then d (text_at 1 d) _ (λ session. ended d 2 (Commit session) tt)
+
+of_close : (d : Data) → HasReport d (close_of d)
+of_close d = then d (text_at 1 d) _ (λ session. ended d 2 (Close session) tt)
+
+of_export : (d : Data) → HasReport d (export_of d)
+of_export d = then d (text_at 1 d) _ (λ name. ended d 2 (Export name) tt)
+
+of_word : (d : Data) (word : Text) → HasReport d (line_of_word word d)
+of_word d word =
+    either d (text_eq word (codes "load")) _ _ (of_load d)
+    (either d (text_eq word (codes "open")) _ _ (of_open d)
+    (either d (text_eq word (codes "get")) _ _ (of_get d)
+    (either d (text_eq word (codes "add")) _ _ (of_add d)
+    (either d (text_eq word (codes "commit")) _ _ (of_commit d)
+    (either d (text_eq word (codes "close")) _ _ (of_close d)
+    (either d (text_eq word (codes "export")) _ _ (of_export d) tt))))))
+
+pub loaded_part : (d : Data) (name : Text) (r : Data) → Some (Load name r) ≡ line_of d → at 2 d ≡ Some r
+unfolding line_of
+loaded_part d name r is = subst (HasReport d) (sym is) (then d (text_at 0 d) _ (of_word d))
+
+load_told : (state after : State) (d r report : Data) (key name text : Text) → Some (Load key r) ≡ line_of d → name ≡ key → Some report ≡ at 2 d
+    → answered state (judged_load state name (report_in state.table report)) ≡ (text, after) → value_answer state (Some d) ≡ (text, after)
+load_told state after d r report key name text is named part told =
+    let same : r ≡ report = ap (λ o. unwrap_or o r) (sym (part ∙ loaded_part d key r is)) in
+    ap (λ o. answered state (option_map_or (judged_line state) o (Told bad_line_text))) (sym is)
+    ∙ (λ i. answered state (judged_load state (sym named i) (report_in state.table (same i))))
+    ∙ told
+
+-- the answer to a load of the third part is that to the line
+pub load_answered : (result : Result (String Global) AllocError) (state after : State) (d r report : Data) (key name : Text)
+    → Some (Load key r) ≡ line_of d → name ≡ key → Some report ≡ at 2 d
+    → IfOk result (λ text. answered state (judged_load state name (report_in state.table report)) ≡ (string_bytes text, after))
+    → IfOk result (λ text. value_answer state (Some d) ≡ (string_bytes text, after))
+load_answered (Ok text) state after d r report key name is named part told = load_told state after d r report key name (string_bytes text) is named part told
+load_answered (Err e) state after d r report key name is named part told = told
