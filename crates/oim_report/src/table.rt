@@ -1,6 +1,6 @@
 //! Numeric tables: lines of a URI, one space and a local name.
 
-ghost use Rattle.std.specs.Prelude.{◌≡◌, ◌<◌, ◌≤◌, ◌+◌, ◌^◌, List, [], ◌∷◌, Option, None, Some, option_map, if◌then◌else◌, length, IfSome};
+ghost use Rattle.std.specs.Prelude.{◌≡◌, ◌<◌, ◌∷◌, Option, None, Some, option_map, if◌then◌else◌, length, IfSome};
 ghost use Rattle.std.specs.List.{slice_split};
 ghost use Rattle.std.specs.Char.{is_newline};
 ghost use Rattle.std.specs.Str.Lines.{strip_carriage_return};

@@ -162,10 +162,12 @@ const FACTS: &[(&str, &str, &str)] = &[
     ),
 ];
 
-fn raw_word(answer: &Result<RawFact, Trouble>) -> &'static str {
+// The word of an answer, where memory was not wanted.
+fn raw_word(answer: Result<RawFact, Trouble>) -> Result<&'static str, Trouble> {
     match answer {
-        Ok(_) => "read",
-        Err(trouble) => trouble_word(*trouble),
+        Ok(_) => Ok("read"),
+        Err(Trouble::NoMemory) => Err(Trouble::NoMemory),
+        Err(trouble) => Ok(trouble_word(trouble)),
     }
 }
 
@@ -184,7 +186,7 @@ fn with_facts(alloc: Global, facts: &[&str]) -> Result<String, Fail> {
 fn the_first_fault_of_a_fact_is_told(rt: HostRuntime) -> Result<(), Fail> {
     for &(text, word, _) in FACTS {
         let value = json_value(rt.alloc(), text.as_bytes())?.ok_or("no JSON")?;
-        assert!(rt; raw_word(&raw_fact(rt.alloc(), &value)) == word, "{text}");
+        assert!(rt; raw_word(raw_fact(rt.alloc(), &value))? == word, "{text}");
     }
     Ok(())
 }

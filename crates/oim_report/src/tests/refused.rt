@@ -1,7 +1,7 @@
 //! Reports that are refused. In most rows a later fault stands beside the one that is told.
 
 use crate::read_report;
-use crate::tests::{PLAIN, assets, reads_as, told};
+use crate::tests::{PLAIN, assets, known, reads_as, told};
 use std::alloc::Global;
 use std::test::Fail;
 
@@ -155,7 +155,7 @@ fn no_front_of_a_report_is_one(rt: HostRuntime) -> Result<(), Fail> {
     let table = assets(rt.alloc())?;
     for end in 0..PLAIN.len() {
         let answer = read_report(rt.alloc(), &PLAIN.as_bytes()[..end], &table);
-        assert!(rt; told(&answer).0 == "not-json", "at {end}");
+        assert!(rt; told(&known(answer)?).0 == "not-json", "at {end}");
     }
     reads_as(&rt, rt.alloc(), PLAIN, ("read", "", ""))
 }
@@ -168,7 +168,7 @@ fn what_is_not_utf_8_is_no_json(rt: HostRuntime) -> Result<(), Fail> {
         b"{\"documentInfo\":1,\"dropped\":\"\xff\"}",
         &table,
     );
-    assert!(rt; told(&answer).0 == "not-json");
+    assert!(rt; told(&known(answer)?).0 == "not-json");
     Ok(())
 }
 
@@ -183,7 +183,7 @@ fn only_one_byte_order_mark_is_dropped(rt: HostRuntime) -> Result<(), Fail> {
     assert!(rt; report.names().uri("ex") == Some("http://e.org/t"));
     let mut twice = String::from_str(rt.alloc(), "\u{feff}")?;
     twice.push_str(text.as_str())?;
-    assert!(rt; told(&read_report(rt.alloc(), twice.as_bytes(), &table)).0 == "not-json");
+    assert!(rt; told(&known(read_report(rt.alloc(), twice.as_bytes(), &table))?).0 == "not-json");
     Ok(())
 }
 

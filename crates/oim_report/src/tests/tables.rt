@@ -24,11 +24,11 @@ const TABLES: &[(&str, u64)] = &[
     ("a b\r", 0),
 ];
 
-fn first_bad_line(answer: &Result<NumericTable, TableFault>) -> Option<u64> {
+fn first_bad_line(answer: Result<NumericTable, TableFault>) -> Result<u64, TableFault> {
     match answer {
-        Ok(_) => Some(0),
-        Err(TableFault::BadLine(number)) => Some(*number),
-        Err(TableFault::NoMemory) => None,
+        Ok(_) => Ok(0),
+        Err(TableFault::BadLine(number)) => Ok(number),
+        Err(TableFault::NoMemory) => Err(TableFault::NoMemory),
     }
 }
 
@@ -36,7 +36,7 @@ fn first_bad_line(answer: &Result<NumericTable, TableFault>) -> Option<u64> {
 fn the_first_bad_line_is_told(rt: HostRuntime) -> Result<(), Fail> {
     for &(text, number) in TABLES {
         assert!(rt;
-            first_bad_line(&read_table(rt.alloc(), text)) == Some(number),
+            first_bad_line(read_table(rt.alloc(), text))? == number,
             "{text}"
         );
     }
