@@ -12,6 +12,7 @@ use Rattle.std.specs.Arc.{arc_value}
 use borrow.Author.Tests.{ltb-false}
 use Rattle.std.proofs.lemmas.List.Sorted.{ranks_by, sorted_far, IsPermutation-map}
 use Rattle.std.proofs.lemmas.Map.Views.{any-filter_same}
+use Rattle.std.proofs.lemmas.Bool.{and_parts, and_from, not-true}
 use Rattle.filing_model.specs.Dimensions.{Dims, dims_cmp, dims_eq}
 use Rattle.filing_model.specs.Facts.{Fact}
 use Rattle.filing_model.specs.Duplicates.{every_pair, has_dims, class_of, allows, is_disallowed, disallowed_dims, least_dims}
@@ -19,7 +20,6 @@ use Rattle.filing_model.specs.declared.duplicates.Allowed.{Allowed}
 use Rattle.filing_model.specs.declared.duplicates.Class.{Class}
 use Rattle.filing_model.proofs.DimensionSets.{dims_cmp-total, dims_decides}
 use Rattle.filing_model.proofs.EveryPair.{pairs_filter, every_pair_decides}
-use Rattle.filing_model.proofs.Tests.{both, all_hold, is_false}
 use Rattle.oim_fact.specs.SharedFacts.{FactRef, facts_behind}
 use Rattle.filing_core.specs.Cells.{is_from, dims_rise}
 use Rattle.filing_core.proofs.LeastDims.{neither_less, same_itself, not_less_itself, has_lesser, least_stays, least_kept-IsPermutation}
@@ -37,8 +37,8 @@ one_later : (d : Dims) (f g : Fact) → is_from d f ≡ true → has_dims d f �
 one_later d f g from other later =
     elim (dims_eq d g.dims) as (λ b. dims_eq d g.dims ≡ b → not b ≡ true) [
       | true ↦ λ same.
-          let up : is_lt (dims_cmp d f.dims) ≡ false = ap (λ x. is_lt (dims_cmp x f.dims)) ((dims_decides d g.dims).0 same) ∙ is_false (is_lt (dims_cmp g.dims f.dims)) later in
-          let one : d ≡ f.dims = neither_less d f.dims up (is_false (is_lt (dims_cmp f.dims d)) from) in
+          let up : is_lt (dims_cmp d f.dims) ≡ false = ap (λ x. is_lt (dims_cmp x f.dims)) ((dims_decides d g.dims).0 same) ∙ not-true (is_lt (dims_cmp g.dims f.dims)) later in
+          let one : d ≡ f.dims = neither_less d f.dims up (not-true (is_lt (dims_cmp f.dims d)) from) in
           absurd (true≢false (sym (same_itself d) ∙ ap (dims_eq d) one ∙ other))
       | false ↦ λ _. refl
     ] refl
@@ -46,19 +46,19 @@ one_later d f g from other later =
 each_later : (d : Dims) (f : Fact) (gs : List Fact) → is_from d f ≡ true → has_dims d f ≡ false → list_all (is_from f.dims) gs ≡ true → list_all (has_other_dims d) gs ≡ true
 each_later d f [] from other later = refl
 each_later d f (g ∷ gs) from other later =
-    let parts = both (is_from f.dims g) (list_all (is_from f.dims) gs) later in
-    all_hold (has_other_dims d g) (list_all (has_other_dims d) gs) (one_later d f g from other parts.0) (each_later d f gs from other parts.1)
+    let parts = and_parts (is_from f.dims g) (list_all (is_from f.dims) gs) later in
+    and_from (has_other_dims d g) (list_all (has_other_dims d) gs) (one_later d f g from other parts.0) (each_later d f gs from other parts.1)
 
 none_of_cell : (d : Dims) (fs : List Fact) → list_all (has_other_dims d) fs ≡ true → filter (has_dims d) fs ≡ []
 none_of_cell d [] h = refl
 none_of_cell d (f ∷ fs) h =
-    let parts = both (has_other_dims d f) (list_all (has_other_dims d) fs) h in
-    ap (λ b. cond b (f ∷ filter (has_dims d) fs) (filter (has_dims d) fs)) (is_false (has_dims d f) parts.0) ∙ none_of_cell d fs parts.1
+    let parts = and_parts (has_other_dims d f) (list_all (has_other_dims d) fs) h in
+    ap (λ b. cond b (f ∷ filter (has_dims d) fs) (filter (has_dims d) fs)) (not-true (has_dims d f) parts.0) ∙ none_of_cell d fs parts.1
 
 all_others : (d : Dims) (fs : List Fact) → list_all (has_other_dims d) fs ≡ true → filter (has_other_dims d) fs ≡ fs
 all_others d [] h = refl
 all_others d (f ∷ fs) h =
-    let parts = both (has_other_dims d f) (list_all (has_other_dims d) fs) h in
+    let parts = and_parts (has_other_dims d f) (list_all (has_other_dims d) fs) h in
     ap (λ b. cond b (f ∷ filter (has_other_dims d) fs) (filter (has_other_dims d) fs)) parts.0 ∙ ap (λ gs. f ∷ gs) (all_others d fs parts.1)
 
 -- the facts in front are the cell of these dimensions, and the rest are all others
@@ -69,8 +69,8 @@ pub record IsCut (d : Dims) (fs : List Fact) (n : ℕ) : Type 0 where
 pub cut_in_front : (d : Dims) (fs : List Fact) → dims_rise fs ≡ true → list_all (is_from d) fs ≡ true → IsCut d fs (in_front d fs)
 cut_in_front d [] rises from = record { cell = refl; others = refl }
 cut_in_front d (f ∷ fs) rises from =
-    let rise = both (list_all (is_from f.dims) fs) (dims_rise fs) rises in
-    let up = both (is_from d f) (list_all (is_from d) fs) from in
+    let rise = and_parts (list_all (is_from f.dims) fs) (dims_rise fs) rises in
+    let up = and_parts (is_from d f) (list_all (is_from d) fs) from in
     elim (dims_eq d f.dims) as (λ b. dims_eq d f.dims ≡ b → IsCut d (f ∷ fs) (cond (not (not b)) (1 + in_front d fs) 0)) [
       | true ↦ λ same.
           let rest = cut_in_front d fs rise.1 up.1 in
@@ -84,7 +84,7 @@ cut_in_front d (f ∷ fs) rises from =
       | false ↦ λ other.
           let later = each_later d f fs up.0 other rise.0 in
           let here : has_other_dims d f ≡ true = ap not other in
-          let each = all_hold (has_other_dims d f) (list_all (has_other_dims d) fs) here later in
+          let each = and_from (has_other_dims d f) (list_all (has_other_dims d) fs) here later in
           record {
             cell = sym (none_of_cell d (f ∷ fs) each);
             others = sym (all_others d (f ∷ fs) each);
@@ -152,15 +152,15 @@ pub first_is_whole : (a : Allowed) (all : List Fact) (f : Fact) (more : List Fac
 first_is_whole a all f more h = h.whole f.dims (ap (λ b. b || list_any (has_dims f.dims) more) (same_itself f.dims))
 
 pub from_the_first : (f : Fact) (more : List Fact) → dims_rise (f ∷ more) ≡ true → list_all (is_from f.dims) (f ∷ more) ≡ true
-from_the_first f more rises = all_hold (is_from f.dims f) (list_all (is_from f.dims) more) (ap not (not_less_itself f.dims)) (both (list_all (is_from f.dims) more) (dims_rise more) rises).0
+from_the_first f more rises = and_from (is_from f.dims f) (list_all (is_from f.dims) more) (ap not (not_less_itself f.dims)) (and_parts (list_all (is_from f.dims) more) (dims_rise more) rises).0
 
 none_lesser : (test : Dims → Bool) (d : Dims) (fs : List Fact) → list_all (is_from d) fs ≡ true → has_lesser d (filter test (map (λ f. f.dims) fs)) ≡ false
 none_lesser test d [] from = refl
 none_lesser test d (f ∷ fs) from =
-    let parts = both (is_from d f) (list_all (is_from d) fs) from in
+    let parts = and_parts (is_from d f) (list_all (is_from d) fs) from in
     let rest = none_lesser test d fs parts.1 in
     elim (test f.dims) as (λ b. has_lesser d (cond b (f.dims ∷ filter test (map (λ f. f.dims) fs)) (filter test (map (λ f. f.dims) fs))) ≡ false) [
-      | true ↦ ap (λ b. b || has_lesser d (filter test (map (λ f. f.dims) fs))) (is_false (is_lt (dims_cmp f.dims d)) parts.0) ∙ rest
+      | true ↦ ap (λ b. b || has_lesser d (filter test (map (λ f. f.dims) fs))) (not-true (is_lt (dims_cmp f.dims d)) parts.0) ∙ rest
       | false ↦ rest
     ]
 
@@ -169,7 +169,7 @@ pub first_is_least : (a : Allowed) (all : List Fact) (f : Fact) (more : List Fac
 first_is_least a all f more h disallowed =
     let test = is_disallowed a all in
     let later = filter test (map (λ g. g.dims) more) in
-    sym (least_stays f.dims later (none_lesser test f.dims more (both (list_all (is_from f.dims) more) (dims_rise more) h.rises).0))
+    sym (least_stays f.dims later (none_lesser test f.dims more (and_parts (list_all (is_from f.dims) more) (dims_rise more) h.rises).0))
     ∙ sym (ap (λ b. least_dims (cond b (f.dims ∷ later) later)) disallowed)
     ∙ h.least
 

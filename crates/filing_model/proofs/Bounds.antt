@@ -4,13 +4,13 @@ use Rattle.std.proofs.Math.Nat.{mul-le-mul_right, mul-lt-mul_of_pos_right, pow-l
 use Rattle.std.proofs.lemmas.List.{length-append, take-append-drop}
 use Rattle.std.proofs.lemmas.List.Folds.{list_all-append}
 use Rattle.std.proofs.lemmas.Bool.Decides.{nat_tests}
+use Rattle.std.proofs.lemmas.Bool.{and_parts}
 use Rattle.std.specs.Char.{is_ascii_digit}
 use Rattle.std.specs.List.{list_all, prefix_len, before_first, after_first}
 use Rattle.filing_model.specs.Text.{Text}
 use Rattle.filing_model.specs.Numerals.{is_zero, is_point, without_front, without_end, without_blanks, without_sign, is_negative, are_digits, are_few, size_of_few, size_of, scaled, place_sum, signed, with_sign, most_fraction_digits, most_whole_digits, NumbersAreBounded}
 use Rattle.filing_model.specs.declared.faults.NumberFault.{NumberFault}
 use Rattle.filing_model.specs.declared.faults.NumberFault.TheVariants.{NotANumber, TooLarge}
-use Rattle.filing_model.proofs.Tests.{both}
 use Rattle.filing_model.proofs.Trimming.{end_parts}
 use Rattle.filing_model.proofs.Numerals.{few_whole_digits, few_fraction_digits}
 
@@ -27,7 +27,7 @@ size_is false size = refl
 size_is true zero = refl
 size_is true (suc size) = refl
 
-digit_is_small : (d : ℕ) → is_ascii_digit d ≡ true → d - 48 ≤ 9
+pub digit_is_small : (d : ℕ) → is_ascii_digit d ≡ true → d - 48 ≤ 9
 digit_is_small d e = grind (arith, nat_tests)
 
 one_place_more : (d a p : ℕ) → d ≤ 9 → p < a → d * a + p < a * 10
@@ -36,22 +36,22 @@ one_place_more d a p small below = let m : d * a ≤ 9 * a = mul-le-mul_right a 
 pub place_sum_below : (digits : Text) → list_all is_ascii_digit digits ≡ true → place_sum digits < 10 ^ length digits
 place_sum_below [] e = omega arith
 place_sum_below (d ∷ digits) e =
-    let t = both (is_ascii_digit d) (list_all is_ascii_digit digits) e in
+    let t = and_parts (is_ascii_digit d) (list_all is_ascii_digit digits) e in
     rw pow-suc (one_place_more (d - 48) (10 ^ length digits) (place_sum digits) (digit_is_small d t.0) (place_sum_below digits t.1))
 
 cut_digits : (digits : Text) → list_all is_ascii_digit digits ≡ true → list_all is_ascii_digit (without_front is_zero digits) ≡ true
 cut_digits digits e =
     let front = take (prefix_len is_zero digits) digits in
-    (both (list_all is_ascii_digit front) (list_all is_ascii_digit (without_front is_zero digits)) (sym (list_all-append is_ascii_digit front (without_front is_zero digits)) ∙ ap (λ l. list_all is_ascii_digit l) (take-append-drop (prefix_len is_zero digits) digits) ∙ e)).1
+    (and_parts (list_all is_ascii_digit front) (list_all is_ascii_digit (without_front is_zero digits)) (sym (list_all-append is_ascii_digit front (without_front is_zero digits)) ∙ ap (λ l. list_all is_ascii_digit l) (take-append-drop (prefix_len is_zero digits) digits) ∙ e)).1
 
 kept_digits : (digits : Text) → list_all is_ascii_digit digits ≡ true → list_all is_ascii_digit (without_end is_zero digits) ≡ true
 kept_digits digits e =
     let parts = end_parts is_zero digits in
-    (both (list_all is_ascii_digit (without_end is_zero digits)) (list_all is_ascii_digit parts.0) (sym (list_all-append is_ascii_digit (without_end is_zero digits) parts.0) ∙ ap (λ l. list_all is_ascii_digit l) (sym parts.1) ∙ e)).0
+    (and_parts (list_all is_ascii_digit (without_end is_zero digits)) (list_all is_ascii_digit parts.0) (sym (list_all-append is_ascii_digit (without_end is_zero digits) parts.0) ∙ ap (λ l. list_all is_ascii_digit l) (sym parts.1) ∙ e)).0
 
 pub all_digits : (whole fraction : Text) → list_all is_ascii_digit (whole ++ fraction) ≡ true → list_all is_ascii_digit (without_front is_zero whole ++ without_end is_zero fraction) ≡ true
 all_digits whole fraction e =
-    let t = both (list_all is_ascii_digit whole) (list_all is_ascii_digit fraction) (sym (list_all-append is_ascii_digit whole fraction) ∙ e) in
+    let t = and_parts (list_all is_ascii_digit whole) (list_all is_ascii_digit fraction) (sym (list_all-append is_ascii_digit whole fraction) ∙ e) in
     list_all-append is_ascii_digit (without_front is_zero whole) (without_end is_zero fraction) ∙ ap (λ b. b && list_all is_ascii_digit (without_end is_zero fraction)) (cut_digits whole t.0) ∙ kept_digits fraction t.1
 
 pub scaled_below : (whole fraction : Text) → list_all is_ascii_digit (whole ++ fraction) ≡ true → length whole ≤ most_whole_digits → length fraction ≤ most_fraction_digits → scaled whole fraction < 10 ^ (most_whole_digits + most_fraction_digits)
@@ -74,7 +74,7 @@ size_below digits size e =
     let numeral = by_cond (are_digits (whole ++ fraction)) (size_of_few cut kept) NotANumber size e in
     let few = by_cond (are_few cut kept) (Ok (scaled cut kept)) TooLarge size numeral.1 in
     let same : scaled cut kept ≡ size = (cc few.1) in
-    let all = (both (nat_lt 0 (length (whole ++ fraction))) (list_all is_ascii_digit (whole ++ fraction)) numeral.0).1 in
+    let all = (and_parts (nat_lt 0 (length (whole ++ fraction))) (list_all is_ascii_digit (whole ++ fraction)) numeral.0).1 in
     subst (λ n. n < 10 ^ (most_whole_digits + most_fraction_digits)) same (scaled_below cut kept (all_digits whole fraction all) (few_whole_digits cut kept few.0) (few_fraction_digits cut kept few.0))
 
 pub numbers_are_bounded : NumbersAreBounded

@@ -1,12 +1,10 @@
 -- Lemmas on dimension sets and prefixes that are made of lists: they may be sorted first.
-use Rattle.std.proofs.Common.{◌≡◌, Bool, true, false, cond, not, ◌&&◌, T, List, map, Option, is_none, is_ok, codes, Result, Ok, Err, IsPermutation, IsSorted, Ordering, Less, Equal, Greater, is_lt, ap, sym, subst, ◌∙◌, refl, true≢false, ◌||◌, [], ◌∷◌, None, Some, is_some, is_eq, Decides}
-use Rattle.std.specs.Ordering.{ordering_then}
-use Rattle.std.specs.Result.{result_unwrap_or}
+use Rattle.std.proofs.Common.{◌≡◌, Bool, true, false, cond, not, ◌&&◌, T, List, map, Option, is_none, codes, Result, Ok, Err, IsPermutation, Equal, ap, sym, subst, ◌∙◌, refl, true≢false, ◌||◌, [], ◌∷◌, None, Some, is_some, is_eq, Decides}
 use Rattle.std.specs.Cmp.{IsTotalOrder, Equal-is, tied_itself, on_total, then_total}
 use Rattle.std.specs.Cmp.Lexicographic.{nat_list_cmp_total, options_total, lists_total}
 use Rattle.std.specs.Option.{option_cmp, option_flatten}
 use Rattle.std.specs.FinMap.Entries.{find, is_sorted}
-use Rattle.std.proofs.lemmas.Bool.{or_parts}
+use Rattle.std.proofs.lemmas.Bool.{or_parts, not-false}
 use Rattle.std.specs.List.{list_any}
 use Rattle.std.proofs.lemmas.List.Sorted.{IsPermutation-map, list_any-IsPermutation}
 use Rattle.filing_model.specs.Text.{Text, text_cmp, text_eq, has_repeats}
@@ -19,10 +17,8 @@ use Rattle.filing_model.specs.declared.faults.NamesFault.TheVariants as names_fa
 use Rattle.filing_model.specs.declared.faults.DimFault.TheVariants.{NameTwice, NullCore, NoConcept, TooLong}
 use Rattle.filing_model.proofs.Texts.{text_cmp-Equal, text_eq-sym, text_decides, has_repeats-IsPermutation}
 use Rattle.filing_model.proofs.TextMaps.{same_list}
-use Rattle.filing_model.proofs.MapsOfLists.{from_entries-IsPermutation, from_entries-sorted, IsPermutation-from_entries, no_repeats_from_sorted, rises_from_sorted_by, sorted_from_rises}
-
-abbrev names : {X : Type 0} → List (Text × X) → List Text
-names es = map (λ e. e.0) es
+use Rattle.filing_model.proofs.MapsOfLists.{from_entries-IsPermutation, from_entries-sorted, IsPermutation-from_entries, no_repeats_from_sorted, names}
+use Rattle.filing_model.proofs.Tests.{both_are_equal, no_fault, same_Ok}
 
 -- branches that agree where they are taken
 at_false : {A : Type 0} (b : Bool) (e x y : A) → (b ≡ false → x ≡ y) → cond b e x ≡ cond b e y
@@ -33,7 +29,7 @@ same_repeats : {X : Type 0} (es fs : List (Text × X)) → IsPermutation es fs �
 same_repeats es fs p = has_repeats-IsPermutation _ _ (IsPermutation-map (λ e. e.0) es fs p)
 
 -- the fault or the set, for dimensions whose names are not repeated and that give this set
-abbrev judged : List (Text × Option Text) → Dims → Result Dims DimFault
+abbrev pub judged : List (Text × Option Text) → Dims → Result Dims DimFault
 judged named dims =
     cond (list_any is_null_core named) (Err NullCore)
     (cond (not (list_any is_concept named)) (Err NoConcept)
@@ -47,37 +43,14 @@ dims_of-IsPermutation ds es p =
     (cond (list_any-IsPermutation is_long_dim ds es p i) (Err TooLong) (Ok (from_entries-IsPermutation ds es p n i)))))
     ∙ ap (λ b. cond b (Err NameTwice) (judged es (from_entries es).entries)) (same_repeats ds es p)
 
-first_not_less : (o p : Ordering) → is_lt (ordering_then o p) ≡ false → is_lt o ≡ false
-first_not_less Less p h = h
-first_not_less Equal p h = refl
-first_not_less Greater p h = refl
-
 -- ---- sorted dimensions
-
-pub sorted_dims : (ds : Dims) → IsSorted dim_cmp ds → has_repeats (names ds) ≡ false → T (is_sorted text_cmp ds)
-sorted_dims ds h n = sorted_from_rises ds (rises_from_sorted_by (λ x y. is_lt (dim_cmp x y)) (λ x y. first_not_less (text_cmp x.0 y.0) _) ds h) n
 
 -- of names that strictly rise the set is the list itself
 pub dims_of-sorted : (ds : Dims) → T (is_sorted text_cmp ds) → dims_of ds ≡ judged ds ds
 dims_of-sorted ds h =
     ap (λ b. cond b (Err NameTwice) (judged ds (from_entries ds).entries)) (no_repeats_from_sorted ds h) ∙ ap (judged ds) (from_entries-sorted ds h)
 
-pub dims_of-repeats : (ds : List (Text × Option Text)) → has_repeats (names ds) ≡ true → dims_of ds ≡ Err NameTwice
-dims_of-repeats ds h = ap (λ b. cond b (Err NameTwice) (judged ds (from_entries ds).entries)) h
-
 -- ---- what a dimension set is
-
--- a value that branches gave, where the first branch is a fault
-no_fault : {A E : Type 0} (b : Bool) (e : E) (r : Result A E) (x : A) → cond b (Err e) r ≡ Ok x → (b ≡ false) × (r ≡ Ok x)
-no_fault true e r x h = absurd (true≢false (sym (ap is_ok h)))
-no_fault false e r x h = (refl, h)
-
-same_Ok : {A E : Type 0} (x y : A) → ◌≡◌ {A = Result A E} (Ok x) (Ok y) → x ≡ y
-same_Ok x y h = ap (λ r. result_unwrap_or r x) h
-
-not_false : (b : Bool) → not b ≡ false → b ≡ true
-not_false true h = refl
-not_false false h = absurd (true≢false h)
 
 pub AreDims-from_Ok : (named : List (Text × Option Text)) (ds : Dims) → dims_of named ≡ Ok ds → AreDims ds
 AreDims-from_Ok named ds h =
@@ -90,16 +63,12 @@ AreDims-from_Ok named ds h =
     subst AreDims is (record {
       rise = (from_entries named).sorted;
       no_null = sym (list_any-IsPermutation is_null_core named _ move) ∙ two.0;
-      concept = sym (list_any-IsPermutation is_concept named _ move) ∙ not_false _ three.0;
+      concept = sym (list_any-IsPermutation is_concept named _ move) ∙ not-false _ three.0;
       short = sym (list_any-IsPermutation is_long_dim named _ move) ∙ four.0;
     })
 
 pub Ok-from_AreDims : (ds : Dims) → AreDims ds → dims_of ds ≡ Ok ds
 Ok-from_AreDims ds h = dims_of-sorted ds h.rise ∙ (λ i. cond (h.no_null i) (Err NullCore) (cond (not (h.concept i)) (Err NoConcept) (cond (h.short i) (Err TooLong) (Ok ds))))
-
--- a dimension set is made of itself
-pub dims_of-again : (named : List (Text × Option Text)) (ds : Dims) → dims_of named ≡ Ok ds → dims_of ds ≡ Ok ds
-dims_of-again named ds h = Ok-from_AreDims ds (AreDims-from_Ok named ds h)
 
 -- ---- prefixes
 
@@ -121,11 +90,6 @@ dim_cmp-total = then_total (on_total (λ d. d.0) nat_list_cmp_total) (on_total (
 pub dims_cmp-total : IsTotalOrder dims_cmp
 dims_cmp-total = lists_total dim_cmp-total
 
-both_Equal : (o p : Ordering) → ordering_then o p ≡ Equal → (o ≡ Equal) × (p ≡ Equal)
-both_Equal Less p h = absurd (true≢false (ap is_lt h))
-both_Equal Equal p h = (refl, h)
-both_Equal Greater p h = absurd (true≢false (sym (ap is_eq h)))
-
 nullable_Equal : (x y : Option Text) → option_cmp text_cmp x y ≡ Equal → x ≡ y
 nullable_Equal None None h = refl
 nullable_Equal None (Some y) h = absurd (true≢false (sym (ap is_eq h)))
@@ -137,12 +101,15 @@ dims_cmp-Equal [] [] h = refl
 dims_cmp-Equal [] (e ∷ es) h = absurd (true≢false (sym (ap is_eq h)))
 dims_cmp-Equal (d ∷ ds) [] h = absurd (true≢false (sym (ap is_eq h)))
 dims_cmp-Equal (d ∷ ds) (e ∷ es) h =
-    let parts = both_Equal (dim_cmp d e) (dims_cmp ds es) h in
-    let here = both_Equal (text_cmp d.0 e.0) (option_cmp text_cmp d.1 e.1) parts.0 in
+    let parts = both_are_equal (dim_cmp d e) (dims_cmp ds es) h in
+    let here = both_are_equal (text_cmp d.0 e.0) (option_cmp text_cmp d.1 e.1) parts.0 in
     λ i. (text_cmp-Equal d.0 e.0 here.0 i, nullable_Equal d.1 e.1 here.1 i) ∷ dims_cmp-Equal ds es parts.1 i
 
+pub dims_eq-refl : (ds : Dims) → dims_eq ds ds ≡ true
+dims_eq-refl ds = ap is_eq (tied_itself dims_cmp-total ds)
+
 pub dims_decides : (ds es : Dims) → Decides (dims_eq ds es) (ds ≡ es)
-dims_decides ds es = (λ h. dims_cmp-Equal ds es ((Equal-is (dims_cmp ds es)).0 h), λ h. ap (dims_eq ds) (sym h) ∙ ap is_eq (tied_itself dims_cmp-total ds))
+dims_decides ds es = (λ h. dims_cmp-Equal ds es ((Equal-is (dims_cmp ds es)).0 h), λ h. ap (dims_eq ds) (sym h) ∙ dims_eq-refl ds)
 
 -- ---- a dimension set has a concept
 

@@ -1,33 +1,24 @@
 -- Proof that a report obeys its allowed duplicates exactly where it has no disallowed cell.
-use Rattle.std.proofs.Common.{◌≡◌, Bool, true, false, not, cond, ◌&&◌, ◌||◌, List, [], ◌∷◌, map, Some, None, fold, refl, ap, sym, ◌∙◌}
-use Rattle.std.proofs.lemmas.Cmp.{lists_total, then_total, on_total, nat_list_cmp_total, tied_itself}
-use Rattle.std.specs.Cmp.{IsTotalOrder, Equal-is, both_ways}
-use Rattle.std.specs.Cmp.Lexicographic.{options_total}
+use Rattle.std.proofs.Common.{◌≡◌, Bool, true, false, not, cond, ◌&&◌, List, [], ◌∷◌, map, Some, None, fold, refl, ap, sym, ◌∙◌}
+use Rattle.std.proofs.lemmas.Bool.{and_parts, and_from}
+use Rattle.std.specs.Cmp.{Equal-is}
 use Rattle.std.specs.Ordering.{is_eq, ord_min}
 use Rattle.std.specs.List.{list_all, filter}
 use Rattle.filing_model.specs.Text.{text_eq}
 use Rattle.filing_model.specs.Dimensions.{Dims, dims_cmp, dims_eq}
 use Rattle.filing_model.specs.Facts.{Fact, FactValue, Nil, Written, Number}
-use Rattle.filing_model.specs.Duplicates.{value_pair, pair_of, is_apart, is_complete, is_consistent, every_pair, class_of, allows, permits, facts_of, has_dims, is_disallowed, lesser_dims, least_dims, ObeysWhereNoCellIsDisallowed}
+use Rattle.filing_model.specs.Duplicates.{value_pair, pair_of, is_apart, every_pair, class_of, allows, permits, facts_of, has_dims, is_disallowed, lesser_dims, least_dims, ObeysWhereNoCellIsDisallowed}
 use Rattle.filing_model.specs.declared.duplicates.Allowed.{Allowed}
 use Rattle.filing_model.specs.declared.duplicates.Allowed.TheVariants as allowed
-use Rattle.filing_model.specs.declared.duplicates.Class.{Class}
-use Rattle.filing_model.specs.declared.duplicates.Class.TheVariants as class
-use Rattle.filing_model.specs.declared.duplicates.Pair.{Pair}
 use Rattle.filing_model.specs.declared.duplicates.Pair.TheVariants as pair
-use Rattle.filing_model.proofs.Tests.{both, all_hold, is_false}
-use Rattle.filing_model.proofs.EveryPair.{all_implied, pairs_implied, pairs_filter, pairs_always}
+use Rattle.filing_model.proofs.EveryPair.{all_implied, pairs_filter, all_always}
+use Rattle.filing_model.proofs.DimensionSets.{dims_cmp-total, dims_eq-refl}
+use Rattle.filing_model.proofs.AllowedClasses.{allows-class_by}
 
 -- ---- dimensions
 
-dims_total : IsTotalOrder dims_cmp
-dims_total = lists_total (then_total (on_total (λ p. p.0) nat_list_cmp_total) (on_total (λ p. p.1) (options_total nat_list_cmp_total)))
-
-itself : (d : Dims) → dims_eq d d ≡ true
-itself d = ap is_eq (tied_itself dims_total d)
-
 same_dims : (d e f : Dims) → dims_eq d e ≡ true → dims_eq d f ≡ true → dims_eq e f ≡ true
-same_dims d e f p q = ap is_eq (sym (dims_total.congr d e f ((Equal-is (dims_cmp d e)).0 p)) ∙ (Equal-is (dims_cmp d f)).0 q)
+same_dims d e f p q = ap is_eq (sym (dims_cmp-total.congr d e f ((Equal-is (dims_cmp d e)).0 p)) ∙ (Equal-is (dims_cmp d f)).0 q)
 
 -- ---- lists
 
@@ -40,7 +31,7 @@ module _ {A : Type 0} where
   none_kept : (q : A → Bool) (xs : List A) → list_all (λ x. not (q x)) xs ≡ true → filter q xs ≡ []
   none_kept q [] e = refl
   none_kept q (x ∷ xs) e =
-      let t = both (not (q x)) (list_all (λ x. not (q x)) xs) e in
+      let t = and_parts (not (q x)) (list_all (λ x. not (q x)) xs) e in
       (elim (q x) as (λ b. not b ≡ true → cond b (x ∷ filter q xs) (filter q xs) ≡ filter q xs) [ true ↦ (λ h. absurd (cc)) | false ↦ (λ h. refl) ]) t.0 ∙ none_kept q xs t.1
 
 -- ---- the facts of a cell are not apart
@@ -77,7 +68,7 @@ one_is_together d f [] e = refl
 one_is_together d f (g ∷ facts) e =
     let rest = one_is_together d f facts e in
     elim (dims_eq d g.dims) as (λ b. dims_eq d g.dims ≡ b → list_all (together f) (cond b (g ∷ filter (has_dims d) facts) (filter (has_dims d) facts)) ≡ true) [
-      | true ↦ (λ k. all_hold (together f g) (list_all (together f) (filter (has_dims d) facts)) (are_together f g (same_dims d f.dims g.dims e k)) rest)
+      | true ↦ (λ k. and_from (together f g) (list_all (together f) (filter (has_dims d) facts)) (are_together f g (same_dims d f.dims g.dims e k)) rest)
       | false ↦ (λ k. rest)
     ] refl
 
@@ -86,122 +77,18 @@ cell_is_together d [] = refl
 cell_is_together d (f ∷ facts) =
     let rest = cell_is_together d facts in
     elim (dims_eq d f.dims) as (λ b. dims_eq d f.dims ≡ b → every_pair together (cond b (f ∷ filter (has_dims d) facts) (filter (has_dims d) facts)) ≡ true) [
-      | true ↦ (λ e. all_hold (list_all (together f) (filter (has_dims d) facts)) (every_pair together (filter (has_dims d) facts)) (one_is_together d f facts e) rest)
+      | true ↦ (λ e. and_from (list_all (together f) (filter (has_dims d) facts)) (every_pair together (filter (has_dims d) facts)) (one_is_together d f facts e) rest)
       | false ↦ (λ e. rest)
     ] refl
 
 -- ---- a cell is allowed where its pairs are permitted
 
-module _ {A : Type 0} (u s t : A → A → Bool) (given : (x y : A) → u x y ≡ true → s x y ≡ true → t x y ≡ true) where
-  each_given : (x : A) (ys : List A) → list_all (u x) ys ≡ true → list_all (s x) ys ≡ true → list_all (t x) ys ≡ true
-  each_given x [] a b = refl
-  each_given x (y ∷ ys) a b =
-      let p = both (u x y) (list_all (u x) ys) a in
-      let q = both (s x y) (list_all (s x) ys) b in
-      all_hold (t x y) (list_all (t x) ys) (given x y p.0 q.0) (each_given x ys p.1 q.1)
-
-  every_pair_given : (xs : List A) → every_pair u xs ≡ true → every_pair s xs ≡ true → every_pair t xs ≡ true
-  every_pair_given [] a b = refl
-  every_pair_given (x ∷ xs) a b =
-      let p = both (list_all (u x) xs) (every_pair u xs) a in
-      let q = both (list_all (s x) xs) (every_pair s xs) b in
-      all_hold (list_all (t x) xs) (every_pair t xs) (each_given x xs p.0 q.0) (every_pair_given xs p.1 q.1)
-
-permitted_complete : (p : Pair) → not (is_apart p) ≡ true → (is_apart p || is_complete p) ≡ true → is_complete p ≡ true
-permitted_complete pair.Apart n h = absurd (cc)
-permitted_complete pair.Complete n h = refl
-permitted_complete pair.Consistent n h = h
-permitted_complete pair.Inconsistent n h = h
-
-permitted_consistent : (p : Pair) → not (is_apart p) ≡ true → (is_apart p || is_consistent p) ≡ true → is_consistent p ≡ true
-permitted_consistent pair.Apart n h = absurd (cc)
-permitted_consistent pair.Complete n h = refl
-permitted_consistent pair.Consistent n h = refl
-permitted_consistent pair.Inconsistent n h = h
-
-either : (a b : Bool) → b ≡ true → (a || b) ≡ true
-either true b e = refl
-either false b e = e
-
-complete_is_consistent : (p : Pair) → is_complete p ≡ true → is_consistent p ≡ true
-complete_is_consistent pair.Apart h = h
-complete_is_consistent pair.Complete h = refl
-complete_is_consistent pair.Consistent h = refl
-complete_is_consistent pair.Inconsistent h = h
-
-class_from : Bool → Bool → Bool → Class
-class_from complete consistent same = cond complete class.Complete (cond consistent class.Consistent (cond same class.Inconsistent class.Mixed))
-
-by_all : (complete consistent same : Bool) → same ≡ true → allows allowed.All (class_from complete consistent same) ≡ true
-unfolding class_from
-by_all true consistent same e = refl
-by_all false true same e = refl
-by_all false false true e = refl
-by_all false false false e = absurd (cc)
-
-by_never : (complete consistent same : Bool) → allows allowed.Never (class_from complete consistent same) ≡ false
-unfolding class_from
-by_never true consistent same = refl
-by_never false true same = refl
-by_never false false true = refl
-by_never false false false = refl
-
-by_complete : (complete consistent same : Bool) → allows allowed.Complete (class_from complete consistent same) ≡ complete
-unfolding class_from
-by_complete true consistent same = refl
-by_complete false true same = refl
-by_complete false false true = refl
-by_complete false false false = refl
-
-by_consistent : (complete consistent same : Bool) → (complete ≡ true → consistent ≡ true) → allows allowed.Consistent (class_from complete consistent same) ≡ consistent
-unfolding class_from
-by_consistent true consistent same e = sym (e refl)
-by_consistent false true same e = refl
-by_consistent false false true e = refl
-by_consistent false false false e = refl
-
-few_are_allowed : (a : Allowed) → (allows a class.Empty ≡ true) × (allows a class.Single ≡ true)
-few_are_allowed allowed.Never = (refl, refl)
-few_are_allowed allowed.Complete = (refl, refl)
-few_are_allowed allowed.Consistent = (refl, refl)
-few_are_allowed allowed.All = (refl, refl)
-
 permitted : Allowed → Fact → Fact → Bool
 permitted a f g = permits a (pair_of f g)
 
-some_pair : (f g : Fact) (facts : List Fact) → every_pair together (f ∷ g ∷ facts) ≡ true → every_pair (λ f g. is_apart (pair_of f g)) (f ∷ g ∷ facts) ≡ false
+pub allows-cell : (a : Allowed) (dims : Dims) (facts : List Fact) → allows a (class_of (filter (has_dims dims) facts)) ≡ every_pair (λ f g. permits a (pair_of f g)) (filter (has_dims dims) facts)
 unfolding together
-some_pair f g facts e =
-    let first = both (list_all together_with_f (g ∷ facts)) (every_pair together (g ∷ facts)) e in
-    let pair_e = both (together f g) (list_all together_with_f facts) first.0 in
-    ap (λ b. (b && list_all (λ h. is_apart (pair_of f h)) facts) && every_pair (λ f g. is_apart (pair_of f g)) (g ∷ facts)) (is_false (is_apart (pair_of f g)) pair_e.0)
-  where
-    together_with_f : Fact → Bool
-    together_with_f h = not (is_apart (pair_of f h))
-
-cell_is_allowed : (a : Allowed) (cell : List Fact) → every_pair together cell ≡ true → allows a (class_of cell) ≡ every_pair (permitted a) cell
-unfolding together class_from permitted
-cell_is_allowed a [] e = (few_are_allowed a).0
-cell_is_allowed a (f ∷ []) e = (few_are_allowed a).1
-cell_is_allowed allowed.All (f ∷ g ∷ facts) e =
-    by_all (every_pair (λ f g. is_complete (pair_of f g)) (f ∷ g ∷ facts)) (every_pair (λ f g. is_consistent (pair_of f g)) (f ∷ g ∷ facts)) (every_pair together (f ∷ g ∷ facts)) e
-    ∙ sym (pairs_always (λ f g. true) (λ f g. refl) (f ∷ g ∷ facts))
-cell_is_allowed allowed.Never (f ∷ g ∷ facts) e =
-    by_never (every_pair (λ f g. is_complete (pair_of f g)) (f ∷ g ∷ facts)) (every_pair (λ f g. is_consistent (pair_of f g)) (f ∷ g ∷ facts)) (every_pair together (f ∷ g ∷ facts))
-    ∙ sym (some_pair f g facts e)
-cell_is_allowed allowed.Complete (f ∷ g ∷ facts) e =
-    let cell = f ∷ g ∷ facts in
-    by_complete (every_pair (λ f g. is_complete (pair_of f g)) cell) (every_pair (λ f g. is_consistent (pair_of f g)) cell) (every_pair together cell)
-    ∙ both_ways (every_pair (λ f g. is_complete (pair_of f g)) cell) (every_pair (permitted allowed.Complete) cell)
-    (pairs_implied (λ f g. is_complete (pair_of f g)) (permitted allowed.Complete) (λ f g h. either (is_apart (pair_of f g)) (is_complete (pair_of f g)) h) cell)
-    (every_pair_given together (permitted allowed.Complete) (λ f g. is_complete (pair_of f g)) (λ f g n h. permitted_complete (pair_of f g) n h) cell e)
-cell_is_allowed allowed.Consistent (f ∷ g ∷ facts) e =
-    let cell = f ∷ g ∷ facts in
-    by_consistent (every_pair (λ f g. is_complete (pair_of f g)) cell) (every_pair (λ f g. is_consistent (pair_of f g)) cell) (every_pair together cell)
-    (pairs_implied (λ f g. is_complete (pair_of f g)) (λ f g. is_consistent (pair_of f g)) (λ f g h. complete_is_consistent (pair_of f g) h) cell)
-    ∙ both_ways (every_pair (λ f g. is_consistent (pair_of f g)) cell) (every_pair (permitted allowed.Consistent) cell)
-    (pairs_implied (λ f g. is_consistent (pair_of f g)) (permitted allowed.Consistent) (λ f g h. either (is_apart (pair_of f g)) (is_consistent (pair_of f g)) h) cell)
-    (every_pair_given together (permitted allowed.Consistent) (λ f g. is_consistent (pair_of f g)) (λ f g n h. permitted_consistent (pair_of f g) n h) cell e)
+allows-cell a dims facts = allows-class_by pair_of a (filter (has_dims dims) facts) (cell_is_together dims facts)
 
 -- ---- all pairs of a report, cell by cell
 
@@ -213,15 +100,15 @@ others_pass : (test : Fact → Fact → Bool) → ((f g : Fact) → dims_eq f.di
 others_pass test other f [] e = refl
 others_pass test other f (g ∷ facts) e =
     (elim (dims_eq f.dims g.dims) as (λ b. dims_eq f.dims g.dims ≡ b → list_all (test f) (cond b (g ∷ filter (has_dims f.dims) facts) (filter (has_dims f.dims) facts)) ≡ true → (test f g && list_all (test f) facts) ≡ true) [
-      | true ↦ (λ k h. let t = both (test f g) (list_all (test f) (filter (has_dims f.dims) facts)) h in all_hold (test f g) (list_all (test f) facts) t.0 (others_pass test other f facts t.1))
-      | false ↦ (λ k h. all_hold (test f g) (list_all (test f) facts) (other f g k) (others_pass test other f facts h))
+      | true ↦ (λ k h. let t = and_parts (test f g) (list_all (test f) (filter (has_dims f.dims) facts)) h in and_from (test f g) (list_all (test f) facts) t.0 (others_pass test other f facts t.1))
+      | false ↦ (λ k h. and_from (test f g) (list_all (test f) facts) (other f g k) (others_pass test other f facts h))
     ]) refl e
 
 behind : (test : Fact → Fact → Bool) (f : Fact) (facts : List Fact) (d : Dims) → within_cell test (f ∷ facts) d ≡ true → within_cell test facts d ≡ true
 unfolding within_cell
 behind test f facts d e =
     (elim (dims_eq d f.dims) as (λ b. every_pair test (cond b (f ∷ filter (has_dims d) facts) (filter (has_dims d) facts)) ≡ true → every_pair test (filter (has_dims d) facts) ≡ true) [
-      | true ↦ (λ h. (both (list_all (test f) (filter (has_dims d) facts)) (every_pair test (filter (has_dims d) facts)) h).1)
+      | true ↦ (λ h. (and_parts (list_all (test f) (filter (has_dims d) facts)) (every_pair test (filter (has_dims d) facts)) h).1)
       | false ↦ (λ h. h)
     ]) e
 
@@ -229,19 +116,19 @@ from_cells : (test : Fact → Fact → Bool) → ((f g : Fact) → dims_eq f.dim
 unfolding within_cell
 from_cells test other [] e = refl
 from_cells test other (f ∷ facts) e =
-    let t = both (within_cell test (f ∷ facts) f.dims) (list_all (within_cell test (f ∷ facts)) (map (λ f. f.dims) facts)) e in
-    let cell : every_pair test (f ∷ filter (has_dims f.dims) facts) ≡ true = sym (ap (λ b. every_pair test (cond b (f ∷ filter (has_dims f.dims) facts) (filter (has_dims f.dims) facts))) (itself f.dims)) ∙ t.0 in
-    let first = (both (list_all (test f) (filter (has_dims f.dims) facts)) (every_pair test (filter (has_dims f.dims) facts)) cell).0 in
-    all_hold (list_all (test f) facts) (every_pair test facts)
+    let t = and_parts (within_cell test (f ∷ facts) f.dims) (list_all (within_cell test (f ∷ facts)) (map (λ f. f.dims) facts)) e in
+    let cell : every_pair test (f ∷ filter (has_dims f.dims) facts) ≡ true = sym (ap (λ b. every_pair test (cond b (f ∷ filter (has_dims f.dims) facts) (filter (has_dims f.dims) facts))) (dims_eq-refl f.dims)) ∙ t.0 in
+    let first = (and_parts (list_all (test f) (filter (has_dims f.dims) facts)) (every_pair test (filter (has_dims f.dims) facts)) cell).0 in
+    and_from (list_all (test f) facts) (every_pair test facts)
     (others_pass test other f facts first)
     (from_cells test other facts (all_implied (within_cell test (f ∷ facts)) (within_cell test facts) (behind test f facts) (map (λ f. f.dims) facts) t.1))
 
 to_cells : (test : Fact → Fact → Bool) (facts : List Fact) (dims : List Dims) → every_pair test facts ≡ true → list_all (within_cell test facts) dims ≡ true
 unfolding within_cell
 to_cells test facts [] e = refl
-to_cells test facts (d ∷ dims) e = all_hold (within_cell test facts d) (list_all (within_cell test facts) dims) (pairs_filter test (has_dims d) facts e) (to_cells test facts dims e)
+to_cells test facts (d ∷ dims) e = and_from (within_cell test facts d) (list_all (within_cell test facts) dims) (pairs_filter test (has_dims d) facts e) (to_cells test facts dims e)
 
-apart_is_permitted : (a : Allowed) → permits a pair.Apart ≡ true
+pub apart_is_permitted : (a : Allowed) → permits a pair.Apart ≡ true
 apart_is_permitted allowed.Never = refl
 apart_is_permitted allowed.Complete = refl
 apart_is_permitted allowed.Consistent = refl
@@ -251,13 +138,18 @@ others_are_permitted : (a : Allowed) (f g : Fact) → dims_eq f.dims g.dims ≡ 
 unfolding permitted
 others_are_permitted a f g e = ap (λ b. permits a (cond b (value_pair f.value g.value) pair.Apart)) e ∙ apart_is_permitted a
 
+-- facts are permitted beside one another where those of each cell are
+pub permitted_by_cells : (a : Allowed) (facts : List Fact) → ((dims : Dims) → every_pair (λ f g. permits a (pair_of f g)) (filter (has_dims dims) facts) ≡ true) → every_pair (λ f g. permits a (pair_of f g)) facts ≡ true
+unfolding within_cell permitted
+permitted_by_cells a facts each = from_cells (permitted a) (others_are_permitted a) facts (all_always (within_cell (permitted a) facts) each (map (λ f. f.dims) facts))
+
 twice : (b : Bool) → not (not b) ≡ b
 twice true = refl
 twice false = refl
 
 cells : (a : Allowed) (facts : List Fact) (dims : List Dims) → list_all (λ d. not (is_disallowed a facts d)) dims ≡ list_all (within_cell (permitted a) facts) dims
 unfolding within_cell permitted
-cells a facts dims = list_all_same (λ d. not (is_disallowed a facts d)) (within_cell (permitted a) facts) (λ d. twice (allows a (class_of (filter (has_dims d) facts))) ∙ cell_is_allowed a (filter (has_dims d) facts) (cell_is_together d facts)) dims
+cells a facts dims = list_all_same (λ d. not (is_disallowed a facts d)) (within_cell (permitted a) facts) (λ d. twice (allows a (class_of (filter (has_dims d) facts))) ∙ allows-cell a d facts) dims
 
 -- ---- the least disallowed cell
 

@@ -1,6 +1,5 @@
 -- What is written for a fitted fact fits to the same fact.
-use Rattle.std.proofs.Common.{◌≡◌, Bool, true, false, cond, ◌&&◌, ◌||◌, ℤ, Option, None, Some, is_some, is_ok, Result, Ok, Err, ap, sym, subst, ◌∙◌, refl, true≢false, option_and_then}
-use Rattle.std.specs.Result.{result_unwrap_or}
+use Rattle.std.proofs.Common.{◌≡◌, Bool, true, false, cond, ◌&&◌, ◌||◌, ℤ, Option, None, Some, is_some, Result, Ok, Err, ap, sym, subst, ◌∙◌, refl, option_and_then}
 use Rattle.std.proofs.lemmas.Bool.{or_parts}
 use Rattle.filing_model.specs.Text.{Text}
 use Rattle.filing_model.specs.Numerals.{number_of}
@@ -12,17 +11,7 @@ use Rattle.filing_model.specs.declared.faults.NumberFault.{NumberFault}
 use Rattle.filing_model.specs.declared.faults.NumberFault.TheVariants.{DecimalsOutOfRange}
 use Rattle.filing_model.specs.declared.faults.FactFault.{FactFault}
 use Rattle.filing_model.specs.declared.faults.FactFault.TheVariants.{UnboundPrefix, Misplaced}
-
-same_Ok : {A E : Type 0} (x y : A) → ◌≡◌ {A = Result A E} (Ok x) (Ok y) → x ≡ y
-same_Ok x y h = ap (λ r. result_unwrap_or r x) h
-
-no_Err : {A E P : Type 0} (e : E) (x : A) → ◌≡◌ {A = Result A E} (Err e) (Ok x) → P
-no_Err e x h = absurd (true≢false (sym (ap is_ok h)))
-
--- a value that branches gave, where the first branch is a fault, or the second
-no_fault : {A E : Type 0} (b : Bool) (e : E) (r : Result A E) (x : A) → cond b (Err e) r ≡ Ok x → (b ≡ false) × (r ≡ Ok x)
-no_fault true e r x h = no_Err e x h
-no_fault false e r x h = (refl, h)
+use Rattle.filing_model.proofs.Tests.{same_Ok, no_Err, no_fault}
 
 passed : {A E : Type 0} (b : Bool) (r : Result A E) (e : E) (x : A) → cond b r (Err e) ≡ Ok x → (b ≡ true) × (r ≡ Ok x)
 passed true r e x h = (refl, h)

@@ -1,9 +1,9 @@
 -- Proofs of the laws of intervals.
 use Rattle.std.proofs.Common.{◌≡◌, ℕ, ◌≤◌, Bool, true, false, T, ℤ, pos, ◌+ℤ◌, ◌-ℤ◌, ◌*ℤ◌, ◌≤ℤ◌, int_le, nat_abs, Some, None, refl, arith, IsTrue}
 use Rattle.std.proofs.lemmas.Int.{ints, by_lt_z}
+use Rattle.std.proofs.lemmas.Bool.{and_parts, and_from}
 use Rattle.std.specs.Int.Signed.{le_z_yes}
 use Rattle.std.specs.Bool.{passes}
-use Rattle.filing_model.proofs.Tests.{both, all_hold}
 use Rattle.filing_model.specs.Intervals.{Interval, IsWithin, ShareANumber, around, meets, half_width, HoldsWhatIsNear, MeetsWhereANumberIsShared, NumbersHaveTheirInterval}
 
 holds : (b : Bool) → T b → b ≡ true
@@ -12,7 +12,7 @@ holds false p = absurd p
 
 shares : (i j : Interval) → i.low ≤ℤ i.high → j.low ≤ℤ j.high → IsTrue (meets i j) → ShareANumber i j
 shares i j first second m =
-    let tests = both (int_le i.low j.high) (int_le j.low i.high) m in
+    let tests = and_parts (int_le i.low j.high) (int_le j.low i.high) m in
     let below : i.low ≤ℤ j.high = le_z_yes (passes (int_le i.low j.high) tests.0) in
     let above : j.low ≤ℤ i.high = le_z_yes (passes (int_le j.low i.high) tests.1) in
     by_lt_z i.low j.low
@@ -23,7 +23,7 @@ meets_by : (i j : Interval) → ShareANumber i j → IsTrue (meets i j)
 meets_by i j (x, (a, b), (c, d)) =
     let below : i.low ≤ℤ j.high = omega (arith, ints) in
     let above : j.low ≤ℤ i.high = omega (arith, ints) in
-    all_hold (int_le i.low j.high) (int_le j.low i.high) (holds (int_le i.low j.high) below.le) (holds (int_le j.low i.high) above.le)
+    and_from (int_le i.low j.high) (int_le j.low i.high) (holds (int_le i.low j.high) below.le) (holds (int_le j.low i.high) above.le)
 
 pub meets_where_a_number_is_shared : MeetsWhereANumberIsShared
 meets_where_a_number_is_shared i j first second = (shares i j first second, meets_by i j)

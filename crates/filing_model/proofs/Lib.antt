@@ -1,20 +1,28 @@
+-- ---- tests, texts, and maps from texts
+pub mod Tests
 pub mod Texts
 pub mod TextMaps
 pub mod MapsOfLists
-pub mod DimensionSets
-pub mod NumericTables
-pub mod FitAgain
-pub mod Tries
-pub mod JsonTexts
-pub mod Examples
-pub mod Tests
-pub mod EveryPair
-pub mod ByPairs
-pub mod NextReply
-pub mod OnLiterals
+-- ---- numbers and intervals
 pub mod Trimming
 pub mod Numerals
 pub mod Bounds
+pub mod Intervals
+-- ---- dimension sets, numeric tables and facts
+pub mod DimensionSets
+pub mod NumericTables
+pub mod FitAgain
+-- ---- duplicates: pairs of facts, classes and cells
+pub mod EveryPair
+pub mod ByPairs
+pub mod AllowedClasses
 pub mod DisallowedCells
 pub mod MixedFacts
-pub mod Intervals
+-- ---- JSON texts, and what is read item by item
+pub mod JsonTexts
+pub mod Tries
+-- ---- histories
+pub mod NextReply
+-- ---- examples that compute
+pub mod OnLiterals
+pub mod Examples

@@ -1,8 +1,7 @@
 -- Lemmas on finite maps from texts that are made of lists.
-use Rattle.std.proofs.Common.{◌≡◌, suc, ◌+◌, arith, Bool, true, false, cond, ◌&&◌, T, List, [], ◌∷◌, map, Option, Some, None, is_some, IsPermutation, IsSortedBy, Ordering, Less, Equal, Greater, is_eq, is_lt, ap, sym, subst, ◌∙◌, refl, true≢false}
+use Rattle.std.proofs.Common.{◌≡◌, true, false, cond, T, List, [], ◌∷◌, map, Some, is_some, IsPermutation, Less, Equal, Greater, is_eq, is_lt, ap, sym, subst, ◌∙◌, refl, true≢false}
 use Rattle.std.specs.FinMap.Entries.{by_order, below_all, put, find, is_sorted, same_entries, is_some-find}
 use Rattle.std.specs.Prelude.{⊤}
-use Rattle.std.specs.Ordering.{ordering_reverse}
 use Rattle.std.specs.List.{list_any, AllByRecursion}
 use Rattle.std.proofs.lemmas.Bool.{or_parts, or_from}
 use Rattle.std.proofs.lemmas.Cmp.{nat_list_cmp_total}
@@ -12,27 +11,10 @@ use Rattle.filing_model.specs.Text.{Text, text_cmp, text_eq, has_repeats}
 use Rattle.filing_model.specs.TextMap.{from_entries}
 use Rattle.filing_model.proofs.TextMaps.{get-from_entries}
 use Rattle.filing_model.proofs.Texts.{text_cmp-Equal, text_eq-refl, text_eq-sym, text_decides}
-
-either : (a b : Bool) → T (a && b) → T a × T b
-either true b h = (tt, h)
-either false b h = absurd h
-
-both : (a b : Bool) → T a → T b → T (a && b)
-both true b p q = q
-both false b p q = absurd p
-
-less : (o : Ordering) → T (is_lt o) → o ≡ Less
-less Less h = refl
-less Equal h = absurd h
-less Greater h = absurd h
-
-not_greater : (o : Ordering) → is_lt (ordering_reverse o) ≡ false → is_eq o ≡ false → o ≡ Less
-not_greater Less h n = refl
-not_greater Equal h n = absurd (true≢false n)
-not_greater Greater h n = absurd (true≢false h)
+use Rattle.filing_model.proofs.Tests.{both_hold, first_holds, second_holds, less_from_is_lt, less_from_not_greater, none_from_not_is_some}
 
 module _ {X : Type 0} where
-  abbrev names : List (Text × X) → List Text
+  abbrev pub names : List (Text × X) → List Text
   names es = map (λ e. e.0) es
 
   -- entries in order are the map's own
@@ -57,12 +39,8 @@ module _ {X : Type 0} where
       let parts = or_parts (list_any (text_eq e.0) (names es)) (has_repeats (names es)) n in
       (ap (λ b. cond b (Some e.1) (find text_cmp e.0 es)) (text_eq-refl e.0), later_lead e es es parts.0 (all_lead es parts.1))
 
-  nothing : (o : Option X) → is_some o ≡ false → o ≡ None
-  nothing None h = refl
-  nothing (Some x) h = absurd (true≢false h)
-
   found_alike : (es fs : List (Text × X)) (q : Text) → AllByRecursion (Leads es) fs → is_some (find text_cmp q es) ≡ is_some (find text_cmp q fs) → find text_cmp q es ≡ find text_cmp q fs
-  found_alike es [] q h same = nothing _ same
+  found_alike es [] q h same = none_from_not_is_some _ same
   found_alike es (f ∷ fs) q h same =
       elim (text_eq q f.0) as (λ b. text_eq q f.0 ≡ b → is_some (find text_cmp q es) ≡ is_some (cond b (Some f.1) (find text_cmp q fs)) → find text_cmp q es ≡ cond b (Some f.1) (find text_cmp q fs)) [
         | true ↦ λ t _. ap (λ k. find text_cmp k es) ((text_decides q f.0).0 t) ∙ h.0
@@ -83,17 +61,16 @@ module _ {X : Type 0} where
 
   no_tie : (x : Text) (es : List (Text × X)) → T (below_all text_cmp x es) → list_any (text_eq x) (names es) ≡ false
   no_tie x [] h = refl
-  no_tie x (e ∷ es) h = let parts = either (is_lt (text_cmp x e.0)) (below_all text_cmp x es) h in or_from (text_eq x e.0) _ (ap is_eq (less _ parts.0)) (no_tie x es parts.1)
+  no_tie x (e ∷ es) h = or_from (text_eq x e.0) _ (ap is_eq (less_from_is_lt _ (first_holds _ _ h))) (no_tie x es (second_holds _ _ h))
 
   pub no_repeats_from_sorted : (es : List (Text × X)) → T (is_sorted text_cmp es) → has_repeats (names es) ≡ false
   no_repeats_from_sorted [] h = refl
-  no_repeats_from_sorted (e ∷ es) h = let parts = either (below_all text_cmp e.0 es) (is_sorted text_cmp es) h in or_from _ _ (no_tie e.0 es parts.0) (no_repeats_from_sorted es parts.1)
+  no_repeats_from_sorted (e ∷ es) h = or_from _ _ (no_tie e.0 es (first_holds _ _ h)) (no_repeats_from_sorted es (second_holds _ _ h))
 
-  below_from_less : (x y : Text) (es : List (Text × X)) → text_cmp x y ≡ Less → T (below_all text_cmp y es) → T (below_all text_cmp x es)
+  pub below_from_less : (x y : Text) (es : List (Text × X)) → text_cmp x y ≡ Less → T (below_all text_cmp y es) → T (below_all text_cmp x es)
   below_from_less x y [] l h = tt
   below_from_less x y (e ∷ es) l h =
-      let parts = either (is_lt (text_cmp y e.0)) (below_all text_cmp y es) h in
-      both _ _ (subst (λ o. T (is_lt o)) (sym (nat_list_cmp_total.trans x y e.0 l (less _ parts.0))) tt) (below_from_less x y es l parts.1)
+      both_hold _ _ (subst (λ o. T (is_lt o)) (sym (nat_list_cmp_total.trans x y e.0 l (less_from_is_lt _ (first_holds _ _ h)))) tt) (below_from_less x y es l (second_holds _ _ h))
 
   -- no name is less than the one before it
   abbrev pub Rises : List (Text × X) → Type 0
@@ -109,19 +86,8 @@ module _ {X : Type 0} where
       let parts = or_parts (list_any (text_eq e.0) (names (f ∷ es))) (has_repeats (names (f ∷ es))) n in
       let apart = or_parts (text_eq e.0 f.0) (list_any (text_eq e.0) (names es)) parts.0 in
       let rest = sorted_from_rises (f ∷ es) r.1 parts.1 in
-      let l : text_cmp e.0 f.0 ≡ Less = not_greater _ (ap is_lt (sym (nat_list_cmp_total.antisymm f.0 e.0)) ∙ r.0) apart.0 in
-      both _ _ (both _ _ (subst (λ o. T (is_lt o)) (sym l) tt) (below_from_less e.0 f.0 es l (either _ _ rest).0)) rest
-
-  next_in_order : (lt : Text × X → Text × X → Bool) (e : Text × X) (es : List (Text × X)) → IsSortedBy lt (e ∷ es) → IsSortedBy lt es
-  next_in_order lt e es h k d low high =
-      let next : suc k + 1 ≡ suc (k + 1) = omega arith in
-      rw next at (h (suc k) d (omega arith) (omega arith))
-
-  -- from what a sort ensures, by an order that looks at the names first
-  pub rises_from_sorted_by : (lt : Text × X → Text × X → Bool) → ((x y : Text × X) → lt x y ≡ false → is_lt (text_cmp x.0 y.0) ≡ false) → (es : List (Text × X)) → IsSortedBy lt es → Rises es
-  rises_from_sorted_by lt first [] h = tt
-  rises_from_sorted_by lt first (e ∷ []) h = tt
-  rises_from_sorted_by lt first (e ∷ f ∷ es) h = (first f e (h 0 e (omega arith) (omega arith)), rises_from_sorted_by lt first (f ∷ es) (next_in_order lt e (f ∷ es) h))
+      let l : text_cmp e.0 f.0 ≡ Less = less_from_not_greater _ (ap is_lt (sym (nat_list_cmp_total.antisymm f.0 e.0)) ∙ r.0) apart.0 in
+      both_hold _ _ (both_hold _ _ (subst (λ o. T (is_lt o)) (sym l) tt) (below_from_less e.0 f.0 es l (first_holds _ _ rest))) rest
 
   -- ---- a map's entries are those of its list in another order
 

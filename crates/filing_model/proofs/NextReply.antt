@@ -1,12 +1,12 @@
 -- What follows a lawful history lawfully is entered under the next number and has the one next reply.
-use Rattle.std.proofs.Common.{◌≡◌, ◌≢◌, ◌∙◌, ap, sym, refl, ℕ, ◌+◌, Option, Some, None, [], ◌∷◌}
+use Rattle.std.proofs.Common.{◌≡◌, ◌≢◌, ◌∙◌, ap, sym, ℕ, Option, Some, None, [], ◌∷◌}
 use Rattle.std.specs.Prelude.{MatchOption}
 use Rattle.std.specs.Option.{option_and_then, option_map_or}
 use Rattle.filing_model.specs.Replies.{Reply}
 use Rattle.filing_model.specs.Replies as reply
 use Rattle.filing_model.specs.Things.{Thing}
-use Rattle.filing_model.specs.History.{Step, Load, Open, Ask, Commit, Close, Entry, History, Status, Live, status_of, repository}
-use Rattle.filing_model.specs.Lawful.{IsLawful, IsNext, IsNextStep, IsSessionStep, IsSessionReply, IsCommitReply, IsOngoing, IsPassed, next_reply, reply_at_status, session_reply, commit_reply_of, amendment_reply, passed_reply, conflict_of, entered_under}
+use Rattle.filing_model.specs.History.{Step, Load, Open, Ask, Commit, Close, Entry, History, status_of}
+use Rattle.filing_model.specs.Lawful.{IsLawful, IsNext, IsNextStep, IsSessionStep, IsSessionReply, IsCommitReply, IsPassed, next_reply, reply_at_status, session_reply, commit_reply_of, passed_reply, conflict_of}
 use Rattle.filing_model.specs.declared.kind.Kind.{Kind}
 use Rattle.filing_model.specs.declared.kind.Kind.TheVariants.{Review, Amend}
 

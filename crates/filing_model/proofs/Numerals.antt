@@ -3,12 +3,12 @@ use Rattle.std.proofs.Common.{◌≡◌, ◌≢◌, ℕ, suc, ◌+◌, ◌-◌, 
 use Rattle.std.proofs.lemmas.List.{length-append, take-append-drop}
 use Rattle.std.proofs.lemmas.List.Folds.{list_all-append}
 use Rattle.std.proofs.lemmas.Bool.Decides.{nat_tests}
+use Rattle.std.proofs.lemmas.Bool.{and_parts, and_from}
 use Rattle.std.specs.Char.{is_ascii_digit}
 use Rattle.std.specs.List.{list_all, prefix_len, before_first, after_first}
 use Rattle.filing_model.specs.Text.{Text}
 use Rattle.filing_model.specs.Numerals.{is_blank, is_minus, is_sign, is_point, is_zero, without_front, without_end, without_blanks, is_negative, without_sign, Sign, Unsigned, Plus, Minus, sign_text, is_minus_sign, fraction_text, fraction_digits, Spelling, IsSpelling, IsShort, spelled, are_digits, are_few, size_of_few, size_of_parts, size_of, scaled, place_sum, signed, with_sign, number_of_body, number_of, most_fraction_digits, most_whole_digits, ShortSpellingsHaveTheirNumber, LongSpellingsAreTooLarge, OnlySpellingsAreNumbers}
 use Rattle.filing_model.specs.declared.faults.NumberFault.TheVariants.{NotANumber, TooLarge}
-use Rattle.filing_model.proofs.Tests.{both, all_hold}
 use Rattle.filing_model.proofs.Trimming.{front_skip, front_keep, end_skip, end_keep, end_parts, dropped, front_cons, before_cons, after_cons}
 
 -- ---- what digits are not
@@ -28,8 +28,8 @@ digit_is_no_minus c d = grind (arith, nat_tests)
 digits_are_not_blank : (ds : Text) → list_all is_ascii_digit ds ≡ true → list_all (λ c. not (is_blank c)) ds ≡ true
 digits_are_not_blank [] e = refl
 digits_are_not_blank (d ∷ ds) e =
-    let t = both (is_ascii_digit d) (list_all is_ascii_digit ds) e in
-    all_hold (not (is_blank d)) (list_all (λ c. not (is_blank c)) ds) (digit_is_not_blank d t.0) (digits_are_not_blank ds t.1)
+    let t = and_parts (is_ascii_digit d) (list_all is_ascii_digit ds) e in
+    and_from (not (is_blank d)) (list_all (λ c. not (is_blank c)) ds) (digit_is_not_blank d t.0) (digits_are_not_blank ds t.1)
 
 -- ---- from a spelling to its number
 
@@ -41,8 +41,8 @@ sign_is_not_blank Minus = refl
 tail_is_not_blank : (whole : Text) (fraction : Option Text) → list_all is_ascii_digit (whole ++ fraction_digits fraction) ≡ true → list_all (λ c. not (is_blank c)) (whole ++ fraction_text fraction) ≡ true
 tail_is_not_blank whole None e = digits_are_not_blank (whole ++ []) e
 tail_is_not_blank whole (Some digits) e =
-    let t = both (list_all is_ascii_digit whole) (list_all is_ascii_digit digits) (sym (list_all-append is_ascii_digit whole digits) ∙ e) in
-    list_all-append (λ c. not (is_blank c)) whole (46 ∷ digits) ∙ all_hold (list_all (λ c. not (is_blank c)) whole) (list_all (λ c. not (is_blank c)) digits) (digits_are_not_blank whole t.0) (digits_are_not_blank digits t.1)
+    let t = and_parts (list_all is_ascii_digit whole) (list_all is_ascii_digit digits) (sym (list_all-append is_ascii_digit whole digits) ∙ e) in
+    list_all-append (λ c. not (is_blank c)) whole (46 ∷ digits) ∙ and_from (list_all (λ c. not (is_blank c)) whole) (list_all (λ c. not (is_blank c)) digits) (digits_are_not_blank whole t.0) (digits_are_not_blank digits t.1)
 
 tail_is_some : (whole : Text) (fraction : Option Text) → 0 < length (whole ++ fraction_digits fraction) → 0 < length (whole ++ fraction_text fraction)
 tail_is_some whole None some = some
@@ -56,7 +56,7 @@ trimmed s good =
     let filled : 0 < length tail = tail_is_some s.whole s.fraction good.some_digit in
     let whole_body : 0 < length body = omega (arith, length-append (sign_text s.sign) tail) in
     let tail_clean : list_all (λ c. not (is_blank c)) tail ≡ true = tail_is_not_blank s.whole s.fraction good.digits in
-    let clean : list_all (λ c. not (is_blank c)) body ≡ true = list_all-append (λ c. not (is_blank c)) (sign_text s.sign) tail ∙ all_hold (list_all (λ c. not (is_blank c)) (sign_text s.sign)) (list_all (λ c. not (is_blank c)) tail) (sign_is_not_blank s.sign) tail_clean in
+    let clean : list_all (λ c. not (is_blank c)) body ≡ true = list_all-append (λ c. not (is_blank c)) (sign_text s.sign) tail ∙ and_from (list_all (λ c. not (is_blank c)) (sign_text s.sign)) (list_all (λ c. not (is_blank c)) tail) (sign_is_not_blank s.sign) tail_clean in
     ap without_blanks grouped
     ∙ ap (without_end is_blank) (front_skip is_blank s.before (body ++ s.after) good.before_is_blank ∙ front_keep is_blank body s.after clean whole_body)
     ∙ end_skip is_blank body s.after good.after_is_blank
@@ -76,14 +76,14 @@ no_sign : (whole : Text) (fraction : Option Text) → list_all is_ascii_digit (w
 no_sign [] None e some = absurd (omega arith)
 no_sign [] (Some digits) e some = (refl, refl)
 no_sign (d ∷ ds) fraction e some =
-    let t = both (is_ascii_digit d) (list_all is_ascii_digit (ds ++ fraction_digits fraction)) e in
+    let t = and_parts (is_ascii_digit d) (list_all is_ascii_digit (ds ++ fraction_digits fraction)) e in
     (digit_is_no_minus d t.0, ap (λ b. cond b (ds ++ fraction_text fraction) (d ∷ (ds ++ fraction_text fraction))) (digit_is_no_sign d t.0))
 
 before_point : (whole : Text) (fraction : Option Text) → list_all is_ascii_digit whole ≡ true → before_first is_point (whole ++ fraction_text fraction) ≡ whole
 before_point [] None e = refl
 before_point [] (Some digits) e = refl
 before_point (d ∷ ds) fraction e =
-    let t = both (is_ascii_digit d) (list_all is_ascii_digit ds) e in
+    let t = and_parts (is_ascii_digit d) (list_all is_ascii_digit ds) e in
     before_cons is_point d (ds ++ fraction_text fraction)
     ∙ ap (λ b. cond b [] (d ∷ before_first is_point (ds ++ fraction_text fraction))) (digit_is_no_point d t.0)
     ∙ ap (λ l. d ∷ l) (before_point ds fraction t.1)
@@ -92,19 +92,19 @@ after_point : (whole : Text) (fraction : Option Text) → list_all is_ascii_digi
 after_point [] None e = refl
 after_point [] (Some digits) e = refl
 after_point (d ∷ ds) fraction e =
-    let t = both (is_ascii_digit d) (list_all is_ascii_digit ds) e in
+    let t = and_parts (is_ascii_digit d) (list_all is_ascii_digit ds) e in
     after_cons is_point d (ds ++ fraction_text fraction)
     ∙ ap (λ b. cond b (ds ++ fraction_text fraction) (after_first is_point (ds ++ fraction_text fraction))) (digit_is_no_point d t.0)
     ∙ after_point ds fraction t.1
 
 is_some_digit : (digits : Text) → list_all is_ascii_digit digits ≡ true → 0 < length digits → are_digits digits ≡ true
-is_some_digit digits e some = all_hold (nat_lt 0 (length digits)) (list_all is_ascii_digit digits) (grind (arith, nat_tests)) e
+is_some_digit digits e some = and_from (nat_lt 0 (length digits)) (list_all is_ascii_digit digits) (grind (arith, nat_tests)) e
 
 number_of_spelling : (s : Spelling) → IsSpelling s → number_of (spelled s) ≡ with_sign (is_minus_sign s.sign) (size_of_few (without_front is_zero s.whole) (without_end is_zero (fraction_digits s.fraction)))
 number_of_spelling s good =
     let digits = fraction_digits s.fraction in
     let tail = s.whole ++ fraction_text s.fraction in
-    let whole_digits = (both (list_all is_ascii_digit s.whole) (list_all is_ascii_digit digits) (sym (list_all-append is_ascii_digit s.whole digits) ∙ good.digits)).0 in
+    let whole_digits = (and_parts (list_all is_ascii_digit s.whole) (list_all is_ascii_digit digits) (sym (list_all-append is_ascii_digit s.whole digits) ∙ good.digits)).0 in
     let unsigned = no_sign s.whole s.fraction good.digits good.some_digit in
     let few = size_of_few (without_front is_zero s.whole) (without_end is_zero digits) in
     let size : size_of tail ≡ few = ap (λ w. size_of_parts w (after_first is_point tail)) (before_point s.whole s.fraction whole_digits) ∙ ap (λ f. size_of_parts s.whole f) (after_point s.whole s.fraction whole_digits) ∙ ap (λ b. cond b few (Err NotANumber)) (is_some_digit (s.whole ++ digits) good.digits good.some_digit) in
@@ -135,7 +135,7 @@ no_places x a p e = ap (λ n. n * a + p) e ∙ omega arith
 zeros_are_zero : (zeros : Text) → list_all is_zero zeros ≡ true → place_sum zeros ≡ 0
 zeros_are_zero [] e = refl
 zeros_are_zero (z ∷ zeros) e =
-    let t = both (is_zero z) (list_all is_zero zeros) e in
+    let t = and_parts (is_zero z) (list_all is_zero zeros) e in
     no_places (z - 48) (10 ^ length zeros) (place_sum zeros) (is_the_zero z t.0) ∙ zeros_are_zero zeros t.1
 
 trailing_zeros : (a zeros : Text) → list_all is_zero zeros ≡ true → place_sum (a ++ zeros) ≡ place_sum a * 10 ^ length zeros
@@ -276,7 +276,7 @@ only_spellings_are_numbers text number =
     let end = end_parts is_blank trimmed_front in
     let whole = before_first is_point tail in
     let digits : are_digits (whole ++ fraction_digits (fraction_of tail)) ≡ true = ap (λ l. are_digits (whole ++ l)) (fraction_is tail) ∙ has_digits text number in
-    let tests = both (nat_lt 0 (length (whole ++ fraction_digits (fraction_of tail)))) (list_all is_ascii_digit (whole ++ fraction_digits (fraction_of tail))) digits in
+    let tests = and_parts (nat_lt 0 (length (whole ++ fraction_digits (fraction_of tail)))) (list_all is_ascii_digit (whole ++ fraction_digits (fraction_of tail))) digits in
     let grouped : front ++ (sign_text (sign_of body) ++ (whole ++ (fraction_text (fraction_of tail) ++ end.0))) ≡ front ++ ((sign_text (sign_of body) ++ (whole ++ fraction_text (fraction_of tail))) ++ end.0) = simp append_assoc in (
       record { before = front; sign = sign_of body; whole = whole; fraction = fraction_of tail; after = end.0 },
       record { before_is_blank = dropped is_blank text; after_is_blank = end.2; digits = tests.1; some_digit = some_length (whole ++ fraction_digits (fraction_of tail)) tests.0 },

@@ -1,29 +1,21 @@
--- A numeric table has the rows that it is made of, in byte order, none twice.
-use Rattle.std.proofs.Common.{◌≡◌, Bool, true, false, ◌||◌, [], ◌∷◌, fold, Ordering, Less, Equal, Greater, is_eq, is_lt, ap, sym, ◌∙◌, refl, true≢false}
+-- A numeric table has the rows that it is made of, in byte order, none asked_twice.
+use Rattle.std.proofs.Common.{◌≡◌, Bool, true, false, ◌||◌, [], ◌∷◌, fold, Less, Equal, Greater, ap, sym, ◌∙◌, refl}
 use Rattle.std.specs.Cmp.{IsTotalOrder, on_total, then_total}
 use Rattle.std.specs.Cmp.Lexicographic.{nat_list_cmp_total}
-use Rattle.std.specs.Ordering.{ordering_then, match_ordering}
+use Rattle.std.specs.Ordering.{match_ordering}
 use Rattle.std.specs.BTreeSet.{insert_key}
 use Rattle.std.specs.List.{list_any}
 use Rattle.filing_model.specs.Text.{Text, text_cmp}
 use Rattle.filing_model.specs.Facts.{Table, is_numeric}
 use Rattle.filing_model.specs.Tables.{row_cmp, table_of}
 use Rattle.filing_model.proofs.Texts.{text_cmp-Equal}
+use Rattle.filing_model.proofs.Tests.{both_are_equal, asked_twice}
 
 pub row_cmp-total : IsTotalOrder row_cmp
 row_cmp-total = then_total (on_total (λ p. p.0) nat_list_cmp_total) (on_total (λ p. p.1) nat_list_cmp_total)
 
-both_Equal : (o p : Ordering) → ordering_then o p ≡ Equal → (o ≡ Equal) × (p ≡ Equal)
-both_Equal Less p h = absurd (true≢false (ap is_lt h))
-both_Equal Equal p h = (refl, h)
-both_Equal Greater p h = absurd (true≢false (sym (ap is_eq h)))
-
 pub row_cmp-Equal : (x y : Text × Text) → row_cmp x y ≡ Equal → x ≡ y
-row_cmp-Equal x y h = let parts = both_Equal (text_cmp x.0 y.0) (text_cmp x.1 y.1) h in λ i. (text_cmp-Equal x.0 y.0 parts.0 i, text_cmp-Equal x.1 y.1 parts.1 i)
-
-twice : (a b : Bool) → (a || b) ≡ (a || (a || b))
-twice true b = refl
-twice false b = refl
+row_cmp-Equal x y h = let parts = both_are_equal (text_cmp x.0 y.0) (text_cmp x.1 y.1) h in λ i. (text_cmp-Equal x.0 y.0 parts.0 i, text_cmp-Equal x.1 y.1 parts.1 i)
 
 swapped : (a b c : Bool) → (a || (b || c)) ≡ (b || (a || c))
 swapped true true c = refl
@@ -36,7 +28,7 @@ module _ (test : Text × Text → Bool) where
   any_inserted row (other ∷ rows) =
       elim (row_cmp row other) as (λ o. row_cmp row other ≡ o → list_any test (match_ordering o (row ∷ other ∷ rows) (other ∷ rows) (other ∷ insert_key row_cmp rows row)) ≡ (test row || (test other || list_any test rows))) [
         | Less ↦ λ _. refl
-        | Equal ↦ λ e. twice (test other) (list_any test rows) ∙ ap (λ r. test r || (test other || list_any test rows)) (sym (row_cmp-Equal row other e))
+        | Equal ↦ λ e. asked_twice (test other) (list_any test rows) ∙ ap (λ r. test r || (test other || list_any test rows)) (sym (row_cmp-Equal row other e))
         | Greater ↦ λ _. ap (λ b. test other || b) (any_inserted row rows) ∙ swapped (test other) (test row) (list_any test rows)
       ] refl
 

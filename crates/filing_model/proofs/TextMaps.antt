@@ -1,10 +1,10 @@
 -- Finite maps from texts as functions: what a look-up finds after an insertion, and that maps which answer alike are equal.
-use Rattle.std.proofs.Common.{◌≡◌, ◌∙◌, ap, sym, refl, T, List, [], ◌∷◌, Option, Some, None, cond}
+use Rattle.std.proofs.Common.{◌≡◌, ◌∙◌, ap, sym, refl, T, List, [], ◌∷◌, Some, cond}
 use Rattle.std.specs.Cmp.Lexicographic.{nat_list_cmp_total}
 use Rattle.std.specs.FinMap.{slice_cmp-IsAntisymmetric, nat_cmp-IsAntisymmetric}
-use Rattle.std.specs.FinMap.Entries.{find, put, is_sorted, find-put, find-where_key, same_entries}
+use Rattle.std.specs.FinMap.Entries.{find, put, is_sorted, find-put, same_entries}
 use Rattle.filing_model.specs.Text.{Text, text_cmp, text_eq}
-use Rattle.filing_model.specs.TextMap.{TextMap, empty, get, insert, from_entries}
+use Rattle.filing_model.specs.TextMap.{TextMap, get, insert, from_entries}
 use mathlib.Core.HLevel.{Σ_prop_path}
 use lib.Dec.{T_prop}
 

@@ -4,9 +4,9 @@ use Rattle.std.proofs.Math.Seq.{take-append_seam}
 use Rattle.std.proofs.lemmas.List.{take-append-drop, reverse-append, reverse-reverse, length-reverse, length-drop}
 use Rattle.std.proofs.lemmas.List.Folds.{list_all-append}
 use Rattle.std.proofs.lemmas.List.Sums.{suffix_len-le-length}
+use Rattle.std.proofs.lemmas.Bool.{and_parts, and_from, not-true}
 use Rattle.std.specs.List.{list_all, prefix_len, suffix_len, before_first, after_first, position_or_len}
 use Rattle.filing_model.specs.Text.{Text}
-use Rattle.filing_model.proofs.Tests.{both, all_hold, is_false}
 use Rattle.filing_model.specs.Numerals.{without_front, without_end}
 
 module _ (p : ℕ → Bool) where
@@ -21,21 +21,21 @@ module _ (p : ℕ → Bool) where
   pub front_skip : (xs ys : Text) → list_all p xs ≡ true → without_front p (xs ++ ys) ≡ without_front p ys
   front_skip [] ys e = refl
   front_skip (x ∷ xs) ys e =
-      let t = both (p x) (list_all p xs) e in
+      let t = and_parts (p x) (list_all p xs) e in
       front_cons x (xs ++ ys) ∙ ap (λ b. cond b (without_front p (xs ++ ys)) (x ∷ (xs ++ ys))) t.0 ∙ front_skip xs ys t.1
 
   pub front_keep : (xs ys : Text) → list_all (λ x. not (p x)) xs ≡ true → 0 < length xs → without_front p (xs ++ ys) ≡ xs ++ ys
   front_keep [] ys e some = absurd (omega arith)
   front_keep (x ∷ xs) ys e some =
-      let t = both (not (p x)) (list_all (λ x. not (p x)) xs) e in
-      let none : p x ≡ false = is_false (p x) t.0 in
+      let t = and_parts (not (p x)) (list_all (λ x. not (p x)) xs) e in
+      let none : p x ≡ false = not-true (p x) t.0 in
       front_cons x (xs ++ ys) ∙ ap (λ b. cond b (without_front p (xs ++ ys)) (x ∷ (xs ++ ys))) none
 
   -- what is dropped passes
   pub dropped : (xs : Text) → list_all p (take (prefix_len p xs) xs) ≡ true
   dropped [] = refl
   dropped (x ∷ xs) = elim (p x) as (λ b. p x ≡ b → list_all p (take (cond b (1 + prefix_len p xs) 0) (x ∷ xs)) ≡ true) [
-    | true ↦ (λ e. let n : 1 + prefix_len p xs ≡ suc (prefix_len p xs) = omega arith in ap (λ k. list_all p (take k (x ∷ xs))) n ∙ all_hold (p x) (list_all p (take (prefix_len p xs) xs)) e (dropped xs))
+    | true ↦ (λ e. let n : 1 + prefix_len p xs ≡ suc (prefix_len p xs) = omega arith in ap (λ k. list_all p (take k (x ∷ xs))) n ∙ and_from (p x) (list_all p (take (prefix_len p xs) xs)) e (dropped xs))
     | false ↦ (λ e. refl)
   ] refl
 

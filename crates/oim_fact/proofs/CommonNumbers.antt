@@ -5,9 +5,9 @@ use Rattle.std.specs.Int.Signed.{le_z_yes}
 use Rattle.std.specs.Bool.{⊤, passes}
 use Rattle.std.specs.List.{list_all}
 use Rattle.std.proofs.lemmas.Int.{ints, clamps}
+use Rattle.std.proofs.lemmas.Bool.{and_parts}
 use Rattle.filing_model.specs.Intervals.{Interval, IsWithin, meets}
 use Rattle.filing_model.specs.Duplicates.{every_pair}
-use Rattle.filing_model.proofs.Tests.{both}
 
 not_above_itself : (x : ℤ) → x ≤ℤ x
 not_above_itself x = omega (arith, ints)
@@ -50,22 +50,22 @@ module _ {A : Type 0} (interval : A → Interval) where
   begins_before_the_end : (a : A) (list : List A) → list_all (meet a) list ≡ true → EachBegins (interval a).high list
   begins_before_the_end a [] e = tt
   begins_before_the_end a (b ∷ list) e =
-      let parts = both (meet a b) (list_all (meet a) list) e in
-      let tests = both (int_le (interval a).low (interval b).high) (int_le (interval b).low (interval a).high) parts.0 in
+      let parts = and_parts (meet a b) (list_all (meet a) list) e in
+      let tests = and_parts (int_le (interval a).low (interval b).high) (int_le (interval b).low (interval a).high) parts.0 in
       (le_z_yes (passes (int_le (interval b).low (interval a).high) tests.1), begins_before_the_end a list parts.1)
 
   ends_after_one_more : (a : A) (list begun : List A) → list_all (meet a) list ≡ true → EachEndsAfter list begun → EachEndsAfter list (a ∷ begun)
   ends_after_one_more a [] begun e ends = tt
   ends_after_one_more a (b ∷ list) begun e (here, rest) =
-      let parts = both (meet a b) (list_all (meet a) list) e in
-      let tests = both (int_le (interval a).low (interval b).high) (int_le (interval b).low (interval a).high) parts.0 in
+      let parts = and_parts (meet a b) (list_all (meet a) list) e in
+      let tests = and_parts (int_le (interval a).low (interval b).high) (int_le (interval b).low (interval a).high) parts.0 in
       ((le_z_yes (passes (int_le (interval a).low (interval b).high) tests.0), here), ends_after_one_more a list begun parts.1 rest)
 
   module _ (filled : (a : A) → (interval a).low ≤ℤ (interval a).high) where
     each_ends_after_each : (list : List A) → every_pair meet list ≡ true → EachEndsAfter list list
     each_ends_after_each [] e = tt
     each_ends_after_each (a ∷ list) e =
-        let parts = both (list_all (meet a) list) (every_pair meet list) e in
+        let parts = and_parts (list_all (meet a) list) (every_pair meet list) e in
         ((filled a, begins_before_the_end a list parts.0), ends_after_one_more a list list parts.0 (each_ends_after_each list parts.1))
 
     -- the greatest of the numbers at which intervals begin

@@ -1,5 +1,5 @@
 -- What the comparisons of pairs say of the dimension set that they are.
-use Rattle.std.proofs.Common.{◌≡◌, ◌∙◌, ap, sym, refl, Bool, ◌&&◌, ◌++◌, List, [], ◌∷◌, length, Option, Some, None, Ordering, Less, Equal, Greater, is_eq, String, string_bytes}
+use Rattle.std.proofs.Common.{◌≡◌, ◌∙◌, ap, sym, refl, Bool, ◌&&◌, ◌++◌, List, [], ◌∷◌, length, Option, Some, None, Ordering, is_eq, String, string_bytes}
 use Rattle.std.specs.Ordering.{ordering_then}
 use Rattle.std.specs.Option.{option_cmp, option_eq}
 use Rattle.std.specs.Cmp.Lexicographic.{slice_cmp, pointwise, texts_ties, lists_ties}
@@ -9,6 +9,7 @@ use Rattle.std.specs.Hash as fed
 use Rattle.std.specs.Hash.{HashWrites}
 use Rattle.std.specs.String.{string_cmp, string_eq}
 use Rattle.std.specs.declared.alloc.Global.{Global}
+use Rattle.std.specs.Cmp.{tied_then}
 use Rattle.filing_model.specs.Text.{text_cmp}
 use Rattle.filing_model.specs.Dimensions.{dims_cmp, dims_eq}
 use Rattle.oim_fact.specs.Texts.{text_of}
@@ -45,13 +46,8 @@ nullable_eq None (Some y) = refl
 nullable_eq (Some x) None = refl
 nullable_eq (Some x) (Some y) = texts_ties (string_bytes x) (string_bytes y)
 
-both_equal : (o p : Ordering) → (is_eq o && is_eq p) ≡ is_eq (ordering_then o p)
-both_equal Less p = refl
-both_equal Equal p = refl
-both_equal Greater p = refl
-
 held_ties : (p q : Held) → held_eq p q ≡ is_eq (held_cmp p q)
-held_ties p q = (λ i. texts_ties (string_bytes p.0) (string_bytes q.0) i && nullable_eq p.1 q.1 i) ∙ both_equal (string_cmp p.0 q.0) (option_cmp string_cmp p.1 q.1)
+held_ties p q = (λ i. texts_ties (string_bytes p.0) (string_bytes q.0) i && nullable_eq p.1 q.1 i) ∙ tied_then (string_cmp p.0 q.0) (option_cmp string_cmp p.1 q.1)
 
 pub equal : (ps qs : List Held) → pointwise held_eq ps qs ≡ dims_eq (dims_view ps) (dims_view qs)
 equal ps qs = lists_ties held_cmp held_ties ps qs ∙ ap is_eq (compared ps qs)

@@ -1,11 +1,10 @@
 -- Prefixes with their URIs that are sorted by either column.
-use Rattle.std.proofs.Common.{◌≡◌, ◌∙◌, ap, sym, refl, subst, Bool, true, false, cond, T, List, [], ◌∷◌, map, Result, Ok, Err, IsPermutation, is_lt, String, string_bytes, ℕ, length, get_or, Option, Some, None, MatchResult}
+use Rattle.std.proofs.Common.{◌≡◌, ◌∙◌, ap, sym, refl, subst, Bool, true, false, cond, T, List, [], ◌∷◌, map, Result, Ok, Err, IsPermutation, is_lt, string_bytes, ℕ, length, get_or, Option, Some, None, MatchResult}
 use Rattle.std.specs.Result.{result_map_both}
 use Rattle.std.specs.Cmp.{IsStrictWeakOrder}
 use Rattle.std.specs.Cmp.Lexicographic.{nat_list_cmp_total}
 use Rattle.std.specs.List.Sorted.{IsSortedBy, IsSearchInRange, IsBinarySearchResult}
 use Rattle.std.specs.FinMap.Entries.{is_sorted}
-use Rattle.std.specs.declared.alloc.Global.{Global}
 use Rattle.std.proofs.lemmas.List.Sorted.{IsPermutation-map, ranks_by}
 use Rattle.filing_model.specs.Text.{Text, text_cmp, has_repeats}
 use Rattle.filing_model.specs.TextMap.{TextMap, get, from_entries}
@@ -22,10 +21,7 @@ use Rattle.oim_fact.specs.Names.{names_of, text_in, column}
 use Rattle.oim_fact.specs.declared.names.Column.{Column}
 use Rattle.oim_fact.specs.declared.names.Column.TheVariants.{Prefix, Uri}
 use Rattle.oim_fact.proofs.SortedTexts.{Rises-names, repeated_are_neighbours, NoneFalls-sorted}
-
--- a prefix with its URI as the program holds them
-abbrev pub Held : Type 0
-Held = String Global × String Global
+use Rattle.oim_fact.proofs.NumericRows.{Held}
 
 abbrev pub held_text : Column → Held → Text
 held_text c row = text_in c (row_of row)

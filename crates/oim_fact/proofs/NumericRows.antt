@@ -1,8 +1,8 @@
--- A numeric table that is sorted with no row twice is the table of its rows.
-use Rattle.std.proofs.Common.{◌≡◌, ◌∙◌, ap, sym, refl, subst, ℕ, Bool, true, false, ◌&&◌, ◌||◌, cond, T, List, [], ◌∷◌, map, fold, Option, Some, None, is_some, Ordering, Less, Equal, Greater, is_eq, is_lt, true≢false, IsPermutation, String, string_bytes, Result, is_ok, length}
-use Rattle.std.specs.Cmp.{first_so, second_so}
+-- A numeric table that is sorted with no row asked_twice is the table of its rows.
+use Rattle.std.proofs.Common.{◌≡◌, ◌∙◌, ap, sym, refl, subst, ℕ, Bool, true, false, ◌&&◌, ◌||◌, cond, T, List, [], ◌∷◌, map, fold, Option, Some, None, is_some, Less, Equal, Greater, is_lt, true≢false, IsPermutation, String, string_bytes, Result, is_ok, length}
+use Rattle.std.specs.Cmp.{first_so, second_so, tied_then}
 use Rattle.std.specs.Cmp.Lexicographic.{texts_ties, same_text}
-use Rattle.std.specs.Ordering.{ordering_then, match_ordering, eq_by_cmp}
+use Rattle.std.specs.Ordering.{match_ordering, eq_by_cmp}
 use Rattle.std.specs.String.{string_eq}
 use Rattle.std.specs.BTreeSet.{insert_key}
 use Rattle.std.specs.List.{list_any, dedup, dedup_from, AllByRecursion}
@@ -14,6 +14,7 @@ use Rattle.filing_model.specs.Text.{Text, text_cmp, text_eq}
 use Rattle.filing_model.specs.Facts.{Table, is_numeric}
 use Rattle.filing_model.specs.Tables.{row_cmp, table_of}
 use Rattle.filing_model.proofs.NumericTables.{row_cmp-total, row_cmp-Equal, is_numeric-table_of}
+use Rattle.filing_model.proofs.Tests.{both_hold, asked_twice}
 use Rattle.oim_fact.specs.Texts.{row_of, rows_view}
 use Rattle.oim_fact.specs.Tables.{keyed, is_table}
 use Rattle.oim_fact.proofs.SearchedEntries.{search_finds}
@@ -38,11 +39,6 @@ is_table-table_of rows = folded rows [] tt
 
 -- ---- tables with the same rows are equal
 
-both_equal : (o p : Ordering) → (is_eq o && is_eq p) ≡ is_eq (ordering_then o p)
-both_equal Less p = refl
-both_equal Equal p = refl
-both_equal Greater p = refl
-
 keys_keyed : (rows : Table) → map (λ e. e.0) (keyed rows) ≡ rows
 keys_keyed [] = refl
 keys_keyed (row ∷ rows) = ap (λ rs. row ∷ rs) (keys_keyed rows)
@@ -51,7 +47,7 @@ keys_keyed (row ∷ rows) = ap (λ rs. row ∷ rs) (keys_keyed rows)
 pub is_numeric-find : (rows : Table) (concept : Text × Text) → is_some (find row_cmp concept (keyed rows)) ≡ is_numeric rows concept
 is_numeric-find rows concept =
     is_some-find row_cmp concept (keyed rows) ∙ ap (λ rs. list_any (eq_by_cmp row_cmp concept) rs) (keys_keyed rows)
-    ∙ sym (λ i. list_any (λ row. both_equal (text_cmp concept.0 row.0) (text_cmp concept.1 row.1) i) rows)
+    ∙ sym (λ i. list_any (λ row. tied_then (text_cmp concept.0 row.0) (text_cmp concept.1 row.1) i) rows)
 
 same_nothing : (x y : Option (Unit {0})) → is_some x ≡ is_some y → x ≡ y
 same_nothing None None h = refl
@@ -74,21 +70,17 @@ abbrev pub held_eq : Held → Held → Bool
 held_eq r s = string_eq r.0 s.0 && string_eq r.1 s.1
 
 pub held_ties : (r s : Held) → held_eq r s ≡ eq_by_cmp (λ p q. row_cmp (row_of p) (row_of q)) r s
-held_ties r s = (λ i. texts_ties (string_bytes r.0) (string_bytes s.0) i && texts_ties (string_bytes r.1) (string_bytes s.1) i) ∙ both_equal (text_cmp (string_bytes r.0) (string_bytes s.0)) (text_cmp (string_bytes r.1) (string_bytes s.1))
+held_ties r s = (λ i. texts_ties (string_bytes r.0) (string_bytes s.0) i && texts_ties (string_bytes r.1) (string_bytes s.1) i) ∙ tied_then (text_cmp (string_bytes r.0) (string_bytes s.0)) (text_cmp (string_bytes r.1) (string_bytes s.1))
 
 same_row : (r s : Held) → held_eq r s ≡ true → row_of r ≡ row_of s
 same_row r s h = λ i. (same_text (string_bytes r.0) (string_bytes s.0) (sym (first_so (string_eq r.0 s.0) (string_eq r.1 s.1) h)) i, same_text (string_bytes r.1) (string_bytes s.1) (sym (second_so (string_eq r.0 s.0) (string_eq r.1 s.1) h)) i)
-
-twice : (a b : Bool) → (a || b) ≡ (a || (a || b))
-twice true b = refl
-twice false b = refl
 
 module _ (test : Text × Text → Bool) where
   any_from : (r : Held) (rs : List Held) → list_any test (rows_view (dedup_from held_eq r rs)) ≡ (test (row_of r) || list_any test (rows_view rs))
   any_from r [] = refl
   any_from r (s ∷ rs) =
       elim (held_eq s r) as (λ b. held_eq s r ≡ b → list_any test (rows_view (cond b (dedup_from held_eq r rs) (r ∷ dedup_from held_eq s rs))) ≡ (test (row_of r) || (test (row_of s) || list_any test (rows_view rs)))) [
-        | true ↦ λ e. any_from r rs ∙ twice (test (row_of r)) (list_any test (rows_view rs)) ∙ ap (λ x. test (row_of r) || (test x || list_any test (rows_view rs))) (sym (same_row s r e))
+        | true ↦ λ e. any_from r rs ∙ asked_twice (test (row_of r)) (list_any test (rows_view rs)) ∙ ap (λ x. test (row_of r) || (test x || list_any test (rows_view rs))) (sym (same_row s r e))
         | false ↦ λ _. ap (λ b. test (row_of r) || b) (any_from s rs)
       ] refl
 
@@ -96,18 +88,14 @@ module _ (test : Text × Text → Bool) where
   any-dedup [] = refl
   any-dedup (r ∷ rs) = any_from r rs
 
-both : (a b : Bool) → T a → T b → T (a && b)
-both true b p q = q
-both false b p q = p
-
 below : (r : Held) (rs : List Held) → AllByRecursion (λ s. row_cmp (row_of r) (row_of s) ≡ Less) rs → T (below_all row_cmp (row_of r) (keyed (rows_view rs)))
 below r [] h = tt
-below r (s ∷ rs) h = both _ _ (subst (λ o. T (is_lt o)) (sym h.0) tt) (below r rs h.1)
+below r (s ∷ rs) h = both_hold _ _ (subst (λ o. T (is_lt o)) (sym h.0) tt) (below r rs h.1)
 
 pub is_table-held : (rs : List Held) → IsStrictlySortedBy (λ p q. row_cmp (row_of p) (row_of q)) rs → T (is_table (rows_view rs))
 unfolding IsStrictlySortedBy
 is_table-held [] h = tt
-is_table-held (r ∷ rs) h = both _ _ (below r rs h.0) (is_table-held rs h.1)
+is_table-held (r ∷ rs) h = both_hold _ _ (below r rs h.0) (is_table-held rs h.1)
 
 -- the table of the rows before they were sorted
 pub table_of-kept : (rows sorted : List Held) → IsPermutation rows sorted → T (is_table (rows_view (dedup held_eq sorted))) → rows_view (dedup held_eq sorted) ≡ table_of (rows_view rows)

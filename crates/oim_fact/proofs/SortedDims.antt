@@ -1,25 +1,20 @@
 -- Dimensions that were sorted: the set is the list itself, unless a test fails.
-use Rattle.std.proofs.Common.{cond, not, None, Some, Result, Ok, Err, String, string_bytes, IsPermutation, ◌≡◌, ◌∙◌, ap, sym, subst, refl, true, false, List, [], ◌∷◌, map, Option, Ordering, Less, Equal, Greater, is_lt, IsSorted}
+use Rattle.std.proofs.Common.{cond, not, None, Some, Result, Ok, Err, string_bytes, IsPermutation, ◌≡◌, ◌∙◌, ap, sym, subst, refl, true, false, List, [], ◌∷◌, map, Option, Ordering, Less, Equal, Greater, is_lt, IsSorted}
 use Rattle.std.specs.Ordering.{ordering_then}
 use Rattle.std.specs.List.{list_any}
-use Rattle.std.specs.Option.{option_cmp}
 use Rattle.std.specs.String.{string_cmp}
-use Rattle.std.specs.declared.alloc.Global.{Global}
 use Rattle.std.proofs.lemmas.List.Sorted.{IsPermutation-map}
 use Rattle.filing_model.specs.TextMap.{from_entries}
 use Rattle.filing_model.specs.Text.{has_repeats}
 use Rattle.filing_model.specs.Dimensions.{Dims, dims_of, is_null_core, is_concept, is_long_dim}
 use Rattle.filing_model.specs.declared.faults.DimFault.{DimFault}
 use Rattle.filing_model.specs.declared.faults.DimFault.TheVariants.{NameTwice, NullCore, NoConcept, TooLong}
-use Rattle.filing_model.proofs.DimensionSets.{dims_of-IsPermutation}
+use Rattle.filing_model.proofs.DimensionSets.{dims_of-IsPermutation, judged}
 use Rattle.filing_model.proofs.MapsOfLists.{sorted_from_rises, from_entries-sorted}
 use Rattle.oim_fact.specs.Texts.{text_of, names_in, NoneFalls, has_neighbours}
 use Rattle.oim_fact.specs.Dims.{dims_view, unless}
 use Rattle.oim_fact.proofs.SortedTexts.{Rises-names, repeated_are_neighbours, NoneFalls-sorted}
-
--- the fault or the set, where no name stands twice
-abbrev judged : Dims → Dims → Result Dims DimFault
-judged named dims = cond (list_any is_null_core named) (Err NullCore) (cond (not (list_any is_concept named)) (Err NoConcept) (cond (list_any is_long_dim named) (Err TooLong) (Ok dims)))
+use Rattle.oim_fact.proofs.ComparedDims.{Held, held_cmp}
 
 -- the set by its tests, where the list itself is the set
 pub dims_of_by_tests : (ds : Dims) → NoneFalls (names_in ds)
@@ -31,18 +26,10 @@ dims_of_by_tests ds h =
     ] refl
     ∙ ap (λ b. cond b (Err NameTwice) (judged ds ds)) (repeated_are_neighbours ds h)
 
-first_not_less : (o p : Ordering) → is_lt (ordering_then o p) ≡ false → is_lt o ≡ false
-first_not_less Less p h = h
-first_not_less Equal p h = refl
-first_not_less Greater p h = h
-
--- a dimension as the program holds it
-abbrev Held : Type 0
-Held = String Global × Option (String Global)
-
--- by name, and then by value
-abbrev held_cmp : Held → Held → Ordering
-held_cmp p q = ordering_then (string_cmp p.0 q.0) (option_cmp string_cmp p.1 q.1)
+first_is_not_less : (o p : Ordering) → is_lt (ordering_then o p) ≡ false → is_lt o ≡ false
+first_is_not_less Less p h = h
+first_is_not_less Equal p h = refl
+first_is_not_less Greater p h = h
 
 names_view : (ps : List Held) → map (λ p. string_bytes p.0) ps ≡ names_in (dims_view ps)
 names_view [] = refl
@@ -50,7 +37,7 @@ names_view (p ∷ ps) = ap (λ ts. string_bytes p.0 ∷ ts) (names_view ps)
 
 -- names that were sorted do not fall
 pub NoneFalls-dims : (ps : List Held) → IsSorted held_cmp ps → NoneFalls (names_in (dims_view ps))
-NoneFalls-dims ps h = subst NoneFalls (names_view ps) (NoneFalls-sorted (λ p. string_bytes p.0) (λ p q. is_lt (held_cmp p q)) (λ p q. first_not_less (string_cmp p.0 q.0) _) ps h)
+NoneFalls-dims ps h = subst NoneFalls (names_view ps) (NoneFalls-sorted (λ p. string_bytes p.0) (λ p q. is_lt (held_cmp p q)) (λ p q. first_is_not_less (string_cmp p.0 q.0) _) ps h)
 
 -- the set is that of the pairs before they were sorted
 pub dims_of-moved : (ps qs : List Held) → IsPermutation ps qs → dims_of (dims_view qs) ≡ dims_of (dims_view ps)

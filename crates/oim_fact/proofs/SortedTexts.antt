@@ -1,51 +1,21 @@
 -- Texts that were sorted: of those that stand twice, two are neighbours.
-use Rattle.std.proofs.Common.{suc, ◌+◌, arith, ◌≡◌, ◌∙◌, ap, sym, subst, refl, Bool, true, false, ◌&&◌, ◌||◌, T, List, [], ◌∷◌, map, Ordering, Less, Equal, Greater, is_lt, is_eq, true≢false}
-use Rattle.std.specs.Ordering.{ordering_reverse}
+use Rattle.std.proofs.Common.{suc, ◌+◌, arith, ◌≡◌, ◌∙◌, ap, sym, subst, refl, Bool, true, false, ◌||◌, T, List, [], ◌∷◌, map, Less, is_lt}
+use Rattle.std.proofs.lemmas.Bool.{or_right}
 use Rattle.std.specs.List.{list_any}
 use Rattle.std.specs.List.Sorted.{IsSortedBy}
 use Rattle.std.specs.Cmp.Lexicographic.{nat_list_cmp_total}
-use Rattle.std.specs.FinMap.Entries.{is_sorted, below_all}
+use Rattle.std.specs.FinMap.Entries.{is_sorted}
 use Rattle.filing_model.specs.Text.{Text, text_cmp, text_eq, has_repeats}
-use Rattle.filing_model.proofs.MapsOfLists.{Rises, sorted_from_rises, no_repeats_from_sorted}
+use Rattle.filing_model.proofs.MapsOfLists.{Rises, sorted_from_rises, no_repeats_from_sorted, below_from_less}
+use Rattle.filing_model.proofs.Tests.{both_hold, first_holds, less_from_not_greater}
 use Rattle.oim_fact.specs.Texts.{names_in, NoneFalls, has_neighbours}
 
-both : (a b : Bool) → T a → T b → T (a && b)
-both true b p q = q
-both false b p q = p
-
-first : (a b : Bool) → T (a && b) → T a
-first true b p = tt
-first false b p = p
-
-second : (a b : Bool) → T (a && b) → T b
-second true b p = p
-second false b p = absurd p
-
-less : (o : Ordering) → T (is_lt o) → o ≡ Less
-less Less p = refl
-less Equal p = absurd p
-less Greater p = absurd p
-
-not_greater : (o : Ordering) → is_lt (ordering_reverse o) ≡ false → is_eq o ≡ false → o ≡ Less
-not_greater Less h n = refl
-not_greater Equal h n = absurd (true≢false n)
-not_greater Greater h n = absurd (true≢false h)
-
-or_true : (b : Bool) → b || true ≡ true
-or_true true = refl
-or_true false = refl
-
 module _ {X : Type 0} where
-  below_from_less : (x y : Text) (es : List (Text × X)) → text_cmp x y ≡ Less → T (below_all text_cmp y es) → T (below_all text_cmp x es)
-  below_from_less x y [] l h = tt
-  below_from_less x y (e ∷ es) l h =
-      both _ _ (subst (λ o. T (is_lt o)) (sym (nat_list_cmp_total.trans x y e.0 l (less _ (first _ _ h)))) tt) (below_from_less x y es l (second _ _ h))
-
   -- a name that is not the next one's is below all names that follow
   sorted_more : (d e : Text × X) (es : List (Text × X)) → is_lt (text_cmp e.0 d.0) ≡ false → text_eq d.0 e.0 ≡ false → T (is_sorted text_cmp (e ∷ es)) → T (is_sorted text_cmp (d ∷ e ∷ es))
   sorted_more d e es r apart h =
-      let l : text_cmp d.0 e.0 ≡ Less = not_greater _ (ap is_lt (sym (nat_list_cmp_total.antisymm e.0 d.0)) ∙ r) apart in
-      both _ _ (both _ _ (subst (λ o. T (is_lt o)) (sym l) tt) (below_from_less d.0 e.0 es l (first _ _ h))) h
+      let l : text_cmp d.0 e.0 ≡ Less = less_from_not_greater _ (ap is_lt (sym (nat_list_cmp_total.antisymm e.0 d.0)) ∙ r) apart in
+      both_hold _ _ (both_hold _ _ (subst (λ o. T (is_lt o)) (sym l) tt) (below_from_less d.0 e.0 es l (first_holds _ _ h))) h
 
   neighbours : (es : List (Text × X)) → Rises es → has_repeats (names_in es) ≡ has_neighbours (names_in es)
   neighbours [] r = refl
@@ -56,7 +26,7 @@ module _ {X : Type 0} where
         | true ↦ λ _. refl
         | false ↦ λ apart.
             elim (has_repeats (names_in (e ∷ es))) as (λ b. has_repeats (names_in (e ∷ es)) ≡ b → list_any (text_eq d.0) (names_in es) || has_repeats (names_in (e ∷ es)) ≡ has_neighbours (names_in (e ∷ es))) [
-              | true ↦ λ again. ap (λ b. list_any (text_eq d.0) (names_in es) || b) again ∙ or_true _ ∙ sym again ∙ rest
+              | true ↦ λ again. ap (λ b. list_any (text_eq d.0) (names_in es) || b) again ∙ or_right _ true refl ∙ sym again ∙ rest
               | false ↦ λ once.
                   sym (ap (λ b. (b || list_any (text_eq d.0) (names_in es)) || has_repeats (names_in (e ∷ es))) apart)
                   ∙ no_repeats_from_sorted (d ∷ e ∷ es) (sorted_more d e es r.0 apart (sorted_from_rises (e ∷ es) r.1 once))

@@ -3,13 +3,13 @@ use Rattle.std.proofs.Common.{◌≡◌, ◌∙◌, ap, sym, refl, ◌↔◌, Bo
 use Rattle.std.specs.List.{list_all}
 use Rattle.std.proofs.lemmas.Int.{ints}
 use Rattle.std.proofs.lemmas.List.Folds.{list_all-append}
+use Rattle.std.proofs.lemmas.Bool.{and_parts, and_from}
 use Rattle.filing_model.specs.Facts.{Fact}
 use Rattle.filing_model.specs.Intervals.{Interval, meets}
 use Rattle.filing_model.specs.Duplicates.{every_pair, pair_of, value_pair, is_apart, is_complete, is_consistent, has_dims, class_of}
 use Rattle.filing_model.specs.declared.duplicates.Class.TheVariants as class
 use Rattle.filing_model.specs.declared.duplicates.Pair.{Pair}
 use Rattle.filing_model.specs.declared.duplicates.Pair.TheVariants as pair
-use Rattle.filing_model.proofs.Tests.{both, all_hold}
 use Rattle.filing_model.proofs.DimensionSets.{dims_decides}
 use Rattle.oim_fact.specs.declared.tally.Tally.{Tally}
 use Rattle.oim_fact.specs.Tallies.{Describes, IsCommonPart, IsFilled, IsIn, IsInAll, interval_in, has_value_of, is_empty}
@@ -48,16 +48,16 @@ every_complete first others together =
 
 all_consistent_with : (f : Fact) (facts : List Fact) (x : ℤ) → IsIn (interval_in f.value) x → IsInAll facts x → list_all (are_consistent f) facts ≡ true
 all_consistent_with f [] x here rest = refl
-all_consistent_with f (g ∷ facts) x here (next, rest) = all_hold (are_consistent f g) (list_all (are_consistent f) facts) (consistent_at f.value g.value x here next) (all_consistent_with f facts x here rest)
+all_consistent_with f (g ∷ facts) x here (next, rest) = and_from (are_consistent f g) (list_all (are_consistent f) facts) (consistent_at f.value g.value x here next) (all_consistent_with f facts x here rest)
 
 consistent_in_all : (facts : List Fact) (x : ℤ) → IsInAll facts x → every_pair are_consistent facts ≡ true
 consistent_in_all [] x numbers = refl
-consistent_in_all (f ∷ facts) x (here, rest) = all_hold (list_all (are_consistent f) facts) (every_pair are_consistent facts) (all_consistent_with f facts x here rest) (consistent_in_all facts x rest)
+consistent_in_all (f ∷ facts) x (here, rest) = and_from (list_all (are_consistent f) facts) (every_pair are_consistent facts) (all_consistent_with f facts x here rest) (consistent_in_all facts x rest)
 
 in_all : (first : Fact) (others : List Fact) (i : Interval) (x : ℤ) → interval_in first.value ≡ Some i → list_all (are_consistent first) others ≡ true → IsInEach (λ f. interval_for f.value) x others → IsInAll others x
 in_all first [] i x number holds within = tt
 in_all first (f ∷ others) i x number holds (here, rest) =
-    let parts = both (are_consistent first f) (list_all (are_consistent first) others) holds in
+    let parts = and_parts (are_consistent first f) (list_all (are_consistent first) others) holds in
     (number_with_number first.value f.value i x number parts.0 here, in_all first others i x number parts.1 rest)
 
 common_number : (first : Fact) (others : List Fact) → every_pair are_consistent (first ∷ others) ≡ true → (x : ℤ) × IsInEach (λ f. interval_for f.value) x (first ∷ others)
@@ -68,7 +68,7 @@ common_number first others consistent =
 -- pairs that are consistent and not all complete are of numbers, and one is in all intervals
 in_common : (first : Fact) (others : List Fact) → every_pair are_consistent (first ∷ others) ≡ true → list_all (has_value_of first) others ≡ false → (x : ℤ) × IsInAll (first ∷ others) x
 in_common first others consistent some =
-    let parts = both (list_all (are_consistent first) others) (every_pair are_consistent others) consistent in
+    let parts = and_parts (list_all (are_consistent first) others) (every_pair are_consistent others) consistent in
     elim (interval_in first.value) as (λ o. interval_in first.value ≡ o → (x : ℤ) × IsInAll (first ∷ others) x) [
       | None ↦ λ none.
           let complete : list_all (has_value_of first) others ≡ true = all_implied (are_consistent first) (has_value_of first) (λ f e. sym (complete_without_interval first.value f.value none) ∙ e) others parts.0 in

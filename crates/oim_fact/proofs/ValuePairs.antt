@@ -5,12 +5,12 @@ use Rattle.std.proofs.lemmas.Int.{ints}
 use Rattle.std.specs.Ordering.{int_eq}
 use Rattle.std.specs.Option.{option_eq}
 use Rattle.std.proofs.lemmas.Bool.Decides.{Decides-int_eq}
+use Rattle.std.proofs.lemmas.Bool.{and_parts, and_from, or_right}
 use Rattle.filing_model.specs.Text.{text_eq}
 use Rattle.filing_model.specs.Facts.{FactValue, Nil, Written, Number}
 use Rattle.filing_model.specs.Intervals.{Interval, IsWithin, interval_of, meets}
 use Rattle.filing_model.specs.Duplicates.{value_pair, is_complete, is_consistent}
 use Rattle.filing_model.specs.declared.duplicates.Pair.TheVariants as pair
-use Rattle.filing_model.proofs.Tests.{both, all_hold}
 use Rattle.filing_model.proofs.Texts.{text_decides}
 use Rattle.filing_model.proofs.Intervals.{meets_where_a_number_is_shared, numbers_have_their_interval}
 use Rattle.oim_fact.specs.Tallies.{interval_in, IsIn}
@@ -48,10 +48,10 @@ complete_decides (Written s) (Written t) =
     let same = text_decides s t in
     rw same_text_if (λ h. ap Written (same.0 h), λ h. same.1 (cc))
 complete_decides (Number s n d) (Number t m e) =
-    let both_same = both (int_eq n m) (option_eq int_eq d e) in
+    let both_same = and_parts (int_eq n m) (option_eq int_eq d e) in
     rw complete_if (
       λ h. let p = (Decides-int_eq n m).0 (both_same h).0 in let q = (decimals_decide d e).0 (both_same h).1 in cc,
-      λ h. all_hold (int_eq n m) (option_eq int_eq d e) ((Decides-int_eq n m).1 (cc)) ((decimals_decide d e).1 (cc)),
+      λ h. and_from (int_eq n m) (option_eq int_eq d e) ((Decides-int_eq n m).1 (cc)) ((decimals_decide d e).1 (cc)),
     )
 complete_decides v w = (λ h. absurd (cc), λ h. absurd (cc))
 
@@ -85,19 +85,15 @@ consistent_meet Nil Nil h = refl
 consistent_meet (Written s) (Written t) h = refl
 consistent_meet (Number s n d) (Number t m e) h =
     either_holds (int_eq n m && option_eq int_eq d e) (meets (interval_of n d) (interval_of m e))
-    (λ same. let parts = both (int_eq n m) (option_eq int_eq d e) same in meets_itself n m d e ((Decides-int_eq n m).0 parts.0) ((decimals_decide d e).0 parts.1))
+    (λ same. let parts = and_parts (int_eq n m) (option_eq int_eq d e) same in meets_itself n m d e ((Decides-int_eq n m).0 parts.0) ((decimals_decide d e).0 parts.1))
     (sym (consistent_if (int_eq n m && option_eq int_eq d e) (meets (interval_of n d) (interval_of m e))) ∙ h)
 consistent_meet v w h = absurd (cc)
-
-or_true : (a b : Bool) → b ≡ true → (a || b) ≡ true
-or_true true b e = refl
-or_true false b e = e
 
 -- values with a number in common are consistent
 pub consistent_at : (v w : FactValue) (x : ℤ) → IsIn (interval_in v) x → IsIn (interval_in w) x → is_consistent (value_pair v w) ≡ true
 consistent_at (Number s n d) (Number t m e) x p q =
     let met = (meets_where_a_number_is_shared (interval_of n d) (interval_of m e) (numbers_have_their_interval n d) (numbers_have_their_interval m e)).1 (x, p, q) in
-    consistent_if (int_eq n m && option_eq int_eq d e) (meets (interval_of n d) (interval_of m e)) ∙ or_true (int_eq n m && option_eq int_eq d e) (meets (interval_of n d) (interval_of m e)) met
+    consistent_if (int_eq n m && option_eq int_eq d e) (meets (interval_of n d) (interval_of m e)) ∙ or_right (int_eq n m && option_eq int_eq d e) (meets (interval_of n d) (interval_of m e)) met
 consistent_at (Number s n d) w x p q = absurd q
 consistent_at v w x p q = absurd p
 

@@ -1,12 +1,12 @@
 -- Lemmas of a running number: what one digit more does to it.
-use Rattle.std.proofs.Common.{◌≡◌, ℕ, suc, ◌+◌, ◌-◌, ◌*◌, ◌^◌, ◌<◌, ◌≤◌, true, ◌∷◌, length, drop, get_or, ap, sym, subst, ◌∙◌, arith, IsTrue, drop-cons}
+use Rattle.std.proofs.Common.{◌≡◌, ℕ, suc, ◌+◌, ◌-◌, ◌*◌, ◌^◌, ◌<◌, ◌≤◌, ◌∷◌, length, drop, get_or, ap, sym, subst, ◌∙◌, arith, IsTrue, drop-cons}
 use Rattle.std.proofs.Math.Nat.{mul-le-mul_right, pow-le-pow_right, pow-suc}
-use Rattle.std.proofs.lemmas.Bool.Decides.{nat_tests}
+use Rattle.std.proofs.lemmas.Bool.{and_parts}
 use Rattle.std.specs.List.{list_all}
 use Rattle.std.specs.Char.{is_ascii_digit}
 use Rattle.filing_model.specs.Text.{Text}
 use Rattle.filing_model.specs.Numerals.{place_sum}
-use Rattle.filing_model.proofs.Tests.{both}
+use Rattle.filing_model.proofs.Bounds.{digit_is_small}
 use Rattle.oim_value.specs.Numbers.{number_limit}
 
 -- the digits that are left are few enough behind the running number, and together they make the whole one
@@ -14,9 +14,6 @@ pub record Makes (number : ℕ) (left : Text) (whole : ℕ) : Type 0 where
   pub few : (number + 1) * 10 ^ length left ≤ number_limit
   pub digits : IsTrue (list_all is_ascii_digit left)
   pub value : number * 10 ^ length left + place_sum left ≡ whole
-
-digit_is_small : (d : ℕ) → is_ascii_digit d ≡ true → d - 48 ≤ 9
-digit_is_small d e = grind (arith, nat_tests)
 
 one_more_is_few : (n d p : ℕ) → d ≤ 9 → (n + 1) * (p * 10) ≤ number_limit → (n * 10 + d + 1) * p ≤ number_limit
 one_more_is_few n d p small few = let m : (n * 10 + d + 1) * p ≤ ((n + 1) * 10) * p = mul-le-mul_right p (omega arith) in omega arith
@@ -31,7 +28,7 @@ one_more_fits n d p small some few = let m : 1 * (n * 10 + 10) ≤ p * (n * 10 +
 more : (n d : ℕ) (ds : Text) (whole : ℕ) → Makes n (d ∷ ds) whole → Makes (n * 10 + (d - 48)) ds whole × (n * 10 + (d - 48) < number_limit)
 more n d ds whole h =
     let p = 10 ^ length ds in
-    let t = both (is_ascii_digit d) (list_all is_ascii_digit ds) h.digits in
+    let t = and_parts (is_ascii_digit d) (list_all is_ascii_digit ds) h.digits in
     let small = digit_is_small d t.0 in
     let some : 0 < p = pow-le-pow_right {n = 10} (omega arith) {i = 0} {j = length ds} (omega arith) in
     let power : 10 ^ suc (length ds) ≡ p * 10 = pow-suc 10 (length ds) in

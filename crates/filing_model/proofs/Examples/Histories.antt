@@ -2,14 +2,14 @@
 use Rattle.std.proofs.Common.{◌≡◌, ℕ, refl, ap, arith, List, [], ◌∷◌, ◌++◌, Option, Some, None}
 use Rattle.std.specs.Prelude.{codes, true, false, pos}
 use Rattle.filing_model.specs.Text.{Text}
-use Rattle.filing_model.specs.TextMap.{TextMap, empty, insert}
-use Rattle.filing_model.specs.Facts.{Fact, FactValue, Written}
+use Rattle.filing_model.specs.TextMap.{empty}
+use Rattle.filing_model.specs.Facts.{FactValue, Written}
 use Rattle.filing_model.specs.Reports.{Report}
 use Rattle.filing_model.specs.Replies.{Reply, NoReport, Absent, Found, Cell, Page, ReadOnly, BadFact, Staged, Loaded, NameTaken, Disallowed, Opened, Closed, Committed, Conflict}
 use Rattle.filing_model.specs.Things as thing
 use Rattle.filing_model.specs.Lawful.{IsLawful}
 use Rattle.filing_model.proofs.NextReply.{not_lawful}
-use Rattle.filing_model.proofs.Examples.Setting.{report_with, holding, of_concept, raw_of, raw, fact_of, fact, Line, load, amend, review, gets, looks, pages, adds, removes, commits, closes, played, told, with_last_reply}
+use Rattle.filing_model.proofs.Examples.Setting.{report_with, holding, of_concept, raw_of, raw, fact, Line, load, amend, review, gets, looks, pages, adds, removes, commits, closes, played, told, with_last_reply}
 use Rattle.filing_model.specs.declared.duplicates.Allowed.TheVariants.{Never, All}
 use Rattle.filing_model.specs.declared.duplicates.Class.TheVariants.{Empty, Single, Complete}
 use Rattle.filing_model.specs.declared.faults.FactFault.TheVariants.{UnboundPrefix, Misplaced}

@@ -6,7 +6,7 @@ use Rattle.filing_model.specs.TextMap.{TextMap, empty, insert}
 use Rattle.filing_model.specs.Dimensions.{Dims}
 use Rattle.filing_model.specs.Facts.{Fact, RawFact, Written, Names}
 use Rattle.filing_model.specs.Reports.{Report}
-use Rattle.filing_model.specs.Calls.{Call, Get, Cell, Page, Add, Remove}
+use Rattle.filing_model.specs.Calls.{Get, Cell, Page, Add, Remove}
 use Rattle.filing_model.specs.Replies.{Reply}
 use Rattle.filing_model.specs.History.{Step, Load, Open, Ask, Commit, Close, History}
 use Rattle.filing_model.specs.Lawful.{after_step}
