@@ -1,4 +1,4 @@
--- What is found first in maps that answer alike is the same.
+-- What is found first_holds in maps that answer alike is the same.
 use Rattle.std.proofs.Common.{◌≡◌, ◌∙◌, ap, sym, refl, subst, Bool, true, false, cond, T, List, [], ◌∷◌, filter_map, Option, Some, None, option_map, option_and_then, is_lt}
 use Rattle.std.specs.List.{cons_option, list_all}
 use Rattle.std.specs.Option.{option_or}
@@ -6,10 +6,11 @@ use Rattle.std.specs.Cmp.Lexicographic.{nat_list_cmp_total}
 use Rattle.std.specs.FinMap.Entries.{find, is_sorted, below_all, same_entries}
 use Rattle.std.proofs.lemmas.Bool.{and_parts}
 use Rattle.filing_model.specs.Text.{Text, text_cmp, text_eq}
+use Rattle.filing_model.proofs.Texts.{text_same, text_cmp-Equal, text_eq-refl}
+use Rattle.filing_model.proofs.Tests.{both_hold, first_holds, second_holds}
+use Rattle.filing_model.proofs.MapsOfLists.{below_is_not_found}
 use Rattle.filing_laws.specs.NetChange.{find_map}
-use Rattle.filing_laws.proofs.Each.{Each, each_mapped}
-use Rattle.filing_laws.proofs.Equal.{text_same, text_tied, text_eq_itself}
-use Rattle.filing_laws.proofs.Those.{both, first, second, below_is_not_found}
+use Rattle.filing_laws.proofs.EachElement.{Each, each_mapped}
 
 -- ---- entries are found
 
@@ -17,8 +18,8 @@ use Rattle.filing_laws.proofs.Those.{both, first, second, below_is_not_found}
 pub each_is_found : {X : Type 0} (es : List (Text × X)) → T (is_sorted text_cmp es) → Each (λ e. find text_cmp e.0 es ≡ Some e.1) es
 each_is_found [] sorted = tt
 each_is_found {X} (e ∷ es) sorted = (
-  ap (λ b. cond b (Some e.1) (find text_cmp e.0 es)) (text_eq_itself e.0),
-  each_mapped (λ x. find text_cmp x.0 es ≡ Some x.1) (λ x. find text_cmp x.0 (e ∷ es) ≡ Some x.1) later es (each_is_found es (second (below_all text_cmp e.0 es) (is_sorted text_cmp es) sorted)),
+  ap (λ b. cond b (Some e.1) (find text_cmp e.0 es)) (text_eq-refl e.0),
+  each_mapped (λ x. find text_cmp x.0 es ≡ Some x.1) (λ x. find text_cmp x.0 (e ∷ es) ≡ Some x.1) later es (each_is_found es (second_holds (below_all text_cmp e.0 es) (is_sorted text_cmp es) sorted)),
 )
   where
     later : (x : Text × X) → find text_cmp x.0 es ≡ Some x.1 → find text_cmp x.0 (e ∷ es) ≡ Some x.1
@@ -26,7 +27,7 @@ each_is_found {X} (e ∷ es) sorted = (
       where
         by : (b : Bool) → text_eq x.0 e.0 ≡ b → cond b (Some e.1) (find text_cmp x.0 es) ≡ Some x.1
         by true same =
-            let gone : find text_cmp x.0 es ≡ None = subst (λ q. find text_cmp q es ≡ None) (sym (text_same x.0 e.0 same)) (below_is_not_found e.0 es (first (below_all text_cmp e.0 es) (is_sorted text_cmp es) sorted)) in
+            let gone : find text_cmp x.0 es ≡ None = subst (λ q. find text_cmp q es ≡ None) (sym (text_same x.0 e.0 same)) (below_is_not_found e.0 es (first_holds (below_all text_cmp e.0 es) (is_sorted text_cmp es) sorted)) in
             let apart : None ≡ Some x.1 = sym gone ∙ found in
             cc
         by false other = found
@@ -54,27 +55,27 @@ module _ {X B : Type 0} (f : Text → X → Option B) where
 
   below-made : (x : Text) (es : List (Text × X)) → T (below_all text_cmp x es) → T (below_all text_cmp x (made es))
   below-made x [] below = tt
-  below-made x (e ∷ es) below = by (f e.0 e.1) (below-made x es (second (is_lt (text_cmp x e.0)) (below_all text_cmp x es) below))
+  below-made x (e ∷ es) below = by (f e.0 e.1) (below-made x es (second_holds (is_lt (text_cmp x e.0)) (below_all text_cmp x es) below))
     where
       by : (o : Option B) → T (below_all text_cmp x (made es)) → T (below_all text_cmp x (cons_option (option_map (λ b. (e.0, b)) o) (made es)))
       by None later = later
-      by (Some b) later = both _ _ (first (is_lt (text_cmp x e.0)) (below_all text_cmp x es) below) later
+      by (Some b) later = both_hold _ _ (first_holds (is_lt (text_cmp x e.0)) (below_all text_cmp x es) below) later
 
   sorted-made : (es : List (Text × X)) → T (is_sorted text_cmp es) → T (is_sorted text_cmp (made es))
   sorted-made [] sorted = tt
   sorted-made (e ∷ es) sorted =
-      by (f e.0 e.1) (below-made e.0 es (first (below_all text_cmp e.0 es) (is_sorted text_cmp es) sorted)) (sorted-made es (second (below_all text_cmp e.0 es) (is_sorted text_cmp es) sorted))
+      by (f e.0 e.1) (below-made e.0 es (first_holds (below_all text_cmp e.0 es) (is_sorted text_cmp es) sorted)) (sorted-made es (second_holds (below_all text_cmp e.0 es) (is_sorted text_cmp es) sorted))
     where
       by : (o : Option B) → T (below_all text_cmp e.0 (made es)) → T (is_sorted text_cmp (made es)) → T (is_sorted text_cmp (cons_option (option_map (λ b. (e.0, b)) o) (made es)))
       by None below later = later
-      by (Some b) below later = both _ _ below later
+      by (Some b) below later = both_hold _ _ below later
 
   find-made : (q : Text) (es : List (Text × X)) → T (is_sorted text_cmp es) → find text_cmp q (made es) ≡ option_and_then (f q) (find text_cmp q es)
   find-made q [] sorted = refl
-  find-made q (e ∷ es) sorted = by (text_eq q e.0) refl (f e.0 e.1) refl (find-made q es (second (below_all text_cmp e.0 es) (is_sorted text_cmp es) sorted))
+  find-made q (e ∷ es) sorted = by (text_eq q e.0) refl (f e.0 e.1) refl (find-made q es (second_holds (below_all text_cmp e.0 es) (is_sorted text_cmp es) sorted))
     where
       gone : text_eq q e.0 ≡ true → find text_cmp q es ≡ None
-      gone same = below_is_not_found q es (subst (λ x. T (below_all text_cmp x es)) (sym (text_same q e.0 same)) (first (below_all text_cmp e.0 es) (is_sorted text_cmp es) sorted))
+      gone same = below_is_not_found q es (subst (λ x. T (below_all text_cmp x es)) (sym (text_same q e.0 same)) (first_holds (below_all text_cmp e.0 es) (is_sorted text_cmp es) sorted))
 
       by : (b : Bool) → text_eq q e.0 ≡ b → (o : Option B) → f e.0 e.1 ≡ o → find text_cmp q (made es) ≡ option_and_then (f q) (find text_cmp q es)
           → find text_cmp q (cons_option (option_map (λ b. (e.0, b)) o) (made es)) ≡ option_and_then (f q) (cond b (Some e.1) (find text_cmp q es))
@@ -83,7 +84,7 @@ module _ {X B : Type 0} (f : Text → X → Option B) where
       by false other None is later = later
       by false other (Some x) is later = ap (λ b. cond b (Some x) (find text_cmp q (made es))) other ∙ later
 
--- ---- the first
+-- ---- the first_holds
 
 abbrev front : {A : Type 0} → List A → Option A
 front [] = None
@@ -102,5 +103,5 @@ pub first_same : {X Y B : Type 0} (f : Text → X → Option B) (g : Text → Y 
     → find_map (keyed f) es ≡ find_map (keyed g) ys
 first_same f g es ys es_sorted ys_sorted alike =
     find_map-front (keyed f) es
-    ∙ ap front (same_entries text_cmp nat_list_cmp_total text_tied (made f es) (made g ys) (sorted-made f es es_sorted) (sorted-made g ys ys_sorted) (λ q. find-made f q es es_sorted ∙ alike q ∙ sym (find-made g q ys ys_sorted)))
+    ∙ ap front (same_entries text_cmp nat_list_cmp_total text_cmp-Equal (made f es) (made g ys) (sorted-made f es es_sorted) (sorted-made g ys ys_sorted) (λ q. find-made f q es es_sorted ∙ alike q ∙ sym (find-made g q ys ys_sorted)))
     ∙ sym (find_map-front (keyed g) ys)

@@ -1,5 +1,6 @@
 -- The laws at worked histories and reports: each premise is met there, and what the law says of them computes.
 use Rattle.std.proofs.Common.{◌≡◌, ◌∙◌, sym, refl, subst, ℕ, List, [], ◌∷◌, Option, Some, None, true}
+use Rattle.std.proofs.lemmas.Option.{same_Some}
 use Rattle.std.specs.Prelude.{codes, All}
 use Rattle.filing_model.specs.Dimensions.{Dims}
 use Rattle.filing_model.specs.Repository.{Repository, nothing, with_report, with_fact_at}
@@ -15,14 +16,15 @@ use Rattle.filing_model.specs.declared.duplicates.Class.TheVariants as class
 use Rattle.filing_model.proofs.Examples.Setting.{Line, played, fact}
 use Rattle.filing_model.proofs.Examples.Histories.{r1, blank, no_net_change_before, no_net_change_lines, no_duplicates_before, newest_version_lines, stored_run_lines}
 use Rattle.filing_model.proofs.Examples.Duplicates.{assets, entries, neighbours_obey_consistent, no_cell_is_disallowed, the_cell_of_the_neighbours_is_disallowed}
+use Rattle.filing_model.proofs.DisallowedCells.{obeys_where_no_cell_is_disallowed}
 use Rattle.filing_laws.specs.NextReply.{MayBeTaken, IsOneNextReply, FollowsLawfully}
 use Rattle.filing_laws.specs.Untouched.{RepliesAlone, ReadsAreUntouched}
 use Rattle.filing_laws.specs.Obeying.{is_allowed, IsLeastDisallowed}
-use Rattle.filing_laws.proofs.Playing as playing
+use Rattle.filing_laws.proofs.PlayedHistories as playing
 use Rattle.filing_laws.proofs.OwnReplies.{own_replies}
-use Rattle.filing_laws.proofs.Serial.{serial, each_step_has_one_reply, each_entry_follows_lawfully}
-use Rattle.filing_laws.proofs.Cells.{obeys_where_each_cell_is_allowed, obeys_where_no_cell_is_disallowed, least_disallowed_is_the_least, repository_obeys_where_not_refused}
-use Rattle.filing_laws.proofs.Chain.{each_version_obeys, versions_are_a_chain}
+use Rattle.filing_laws.proofs.UntouchedIsSerial.{serial, each_step_has_one_reply, each_entry_follows_lawfully}
+use Rattle.filing_laws.proofs.AllowedCells.{obeys_where_each_cell_is_allowed, least_disallowed_is_the_least, repository_obeys_where_not_refused}
+use Rattle.filing_laws.proofs.VersionChain.{each_version_obeys, versions_are_a_chain}
 
 -- ---- whatever is played is lawful
 
@@ -86,12 +88,9 @@ review_is_told_the_old_fact = sym review_replies_as_at_its_opening
 
 -- ---- one next reply
 
-told_alike : (x y : Reply) → Some x ≡ Some y → x ≡ y
-told_alike x y e = cc
-
 -- the reply that computes is the one of the law
 one_is : (h : History) (session : Option ℕ) (step : Step) (r : Reply) → next_reply h session step ≡ Some r → (q : Reply) × IsOneNextReply h session step q → IsOneNextReply h session step r
-one_is h session step r computes (q, one) = subst (λ x. IsOneNextReply h session step x) (told_alike q r (sym one.told ∙ computes)) one
+one_is h session step r computes (q, one) = subst (λ x. IsOneNextReply h session step x) (same_Some q r (sym one.told ∙ computes)) one
 
 pub one_reply : (h : History) (session : Option ℕ) (step : Step) (r : Reply) → IsLawful h → MayBeTaken h session step → next_reply h session step ≡ Some r → IsOneNextReply h session step r
 one_reply h session step r lawful taken computes = one_is h session step r computes (each_step_has_one_reply h session step lawful taken)

@@ -1,19 +1,19 @@
 -- What stands at each place of a repository with a change laid over it, and that repositories with the same reports are one.
-use Rattle.std.proofs.Common.{◌≡◌, ◌∙◌, ap, sym, refl, subst, Bool, true, false, cond, T, List, [], ◌∷◌, Option, Some, None, option_map, option_and_then, unwrap_or}
+use Rattle.std.proofs.Common.{◌≡◌, ◌∙◌, ap, sym, refl, subst, Bool, true, false, cond, T, List, [], ◌∷◌, Option, Some, None, option_map, unwrap_or}
 use Rattle.std.specs.Option.{option_map_or}
 use Rattle.std.specs.FinMap.Entries.{find, is_sorted, below_all}
 use Rattle.filing_model.specs.Text.{Text, text_cmp, text_eq}
 use Rattle.filing_model.specs.TextMap.{TextMap, empty, get, insert}
 use Rattle.filing_model.specs.Facts.{Fact}
 use Rattle.filing_model.specs.Reports.{Report}
-use Rattle.filing_model.specs.Repository.{Repository, report_at, fact_in, fact_at, with_fact, with_fact_at}
-use Rattle.filing_model.specs.Touches.{Change, change_at}
-use Rattle.filing_model.proofs.TextMaps.{same_map}
+use Rattle.filing_model.specs.Repository.{Repository, report_at, fact_in, with_fact, with_fact_at}
+use Rattle.filing_model.specs.Touches.{Change}
+use Rattle.filing_model.proofs.TextMaps.{same_map, get-insert}
+use Rattle.filing_model.proofs.Texts.{text_same}
+use Rattle.filing_model.proofs.Tests.{first_holds, second_holds}
+use Rattle.filing_model.proofs.MapsOfLists.{below_is_not_found}
 use Rattle.filing_laws.specs.NetChange.{with_facts, with_facts_at, with_reports, laid_over}
-use Rattle.filing_laws.proofs.Equal.{text_same}
-use Rattle.filing_laws.proofs.Look.{get-insert, fact_in-with_fact, report_at-with_fact_at}
-use Rattle.filing_laws.proofs.Those.{first, second, below_is_not_found}
-use Rattle.filing_laws.proofs.Changes.{ids_at}
+use Rattle.filing_laws.proofs.WithOneFact.{fact_in-with_fact, report_at-with_fact_at}
 
 -- ---- one report
 
@@ -73,10 +73,10 @@ report_at-with_reports : (es : List (Text × TextMap (Option Fact))) (c : Reposi
 report_at-with_reports [] c m sorted = sym (unchanged (report_at c m))
 report_at-with_reports (e ∷ es) c m sorted =
     report_at-with_facts_at (with_reports es c) e m
-    ∙ by (text_eq m e.0) refl (report_at-with_reports es c m (second (below_all text_cmp e.0 es) (is_sorted text_cmp es) sorted))
+    ∙ by (text_eq m e.0) refl (report_at-with_reports es c m (second_holds (below_all text_cmp e.0 es) (is_sorted text_cmp es) sorted))
   where
     gone : text_eq m e.0 ≡ true → find text_cmp m es ≡ None
-    gone same = below_is_not_found m es (subst (λ x. T (below_all text_cmp x es)) (sym (text_same m e.0 same)) (first (below_all text_cmp e.0 es) (is_sorted text_cmp es) sorted))
+    gone same = below_is_not_found m es (subst (λ x. T (below_all text_cmp x es)) (sym (text_same m e.0 same)) (first_holds (below_all text_cmp e.0 es) (is_sorted text_cmp es) sorted))
 
     by : (b : Bool) → text_eq m e.0 ≡ b → report_at (with_reports es c) m ≡ option_map (changed es m) (report_at c m)
         → cond b (option_map (with_facts e.1.entries) (report_at (with_reports es c) m)) (report_at (with_reports es c) m)
@@ -89,14 +89,6 @@ report_at-with_reports (e ∷ es) c m sorted =
 -- each report that is there has the change's facts for it
 pub report_at-laid_over : (change : Change) (c : Repository) (m : Text) → report_at (laid_over change c) m ≡ option_map (with_facts (unwrap_or (get change m) empty).entries) (report_at c m)
 report_at-laid_over change c m = report_at-with_reports change.entries c m change.sorted
-
--- each place of a report that is there has what the change has for it, and else what it had
-pub fact_at-laid_over : (change : Change) (c : Repository) (m q : Text) → fact_at (laid_over change c) m q ≡ option_and_then (λ r. unwrap_or (change_at change m q) (fact_in r q)) (report_at c m)
-fact_at-laid_over change c m q = ap (option_and_then (λ r. fact_in r q)) (report_at-laid_over change c m) ∙ by (report_at c m)
-  where
-    by : (o : Option Report) → option_and_then (λ r. fact_in r q) (option_map (with_facts (unwrap_or (get change m) empty).entries) o) ≡ option_and_then (λ r. unwrap_or (change_at change m q) (fact_in r q)) o
-    by None = refl
-    by (Some r) = fact_in-with_facts (unwrap_or (get change m) empty).entries r q ∙ ap (λ o. unwrap_or o (fact_in r q)) (ids_at change m q (get change m) refl)
 
 count-with_facts_at : (c : Repository) (e : Text × TextMap (Option Fact)) → (with_facts_at c e).count ≡ c.count
 count-with_facts_at c e = by (report_at c e.0)

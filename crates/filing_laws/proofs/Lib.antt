@@ -1,34 +1,43 @@
-pub mod Fresh
+-- ---- lists, things, and repositories in which one fact was put or removed
+pub mod EachElement
+pub mod EqualThings
+pub mod FilteredFacts
+pub mod WithOneFact
+-- ---- sessions: not opened yet, and their replies as at their opening
+pub mod NotYetOpened
 pub mod OwnReplies
-pub mod Next
-pub mod Equal
-pub mod Look
-pub mod Those
-pub mod Each
-pub mod Agree
-pub mod Alike
-pub mod Runs
-pub mod Changes
-pub mod Cases
-pub mod Known
-pub mod Serial
-pub mod Classes
-pub mod Cells
-pub mod Chain
-pub mod Counting
-pub mod NumberInstances
-pub mod Playing
+-- ---- repositories that agree on what a session reads
+pub mod AgreeOnThings
+pub mod AnsweredAlike
+pub mod RunsAlike
+-- ---- what an entry changes, and what no entry touched
+pub mod EntryCases
+pub mod ChangedPlaces
+pub mod UntouchedThingsStand
+-- ---- one next reply, and histories that are played
+pub mod LawfulNextReply
+pub mod UntouchedIsSerial
+pub mod PlayedHistories
+-- ---- allowed duplicates, versions and numbers
+pub mod AllowedCells
+pub mod VersionChain
+pub mod RisingNumbers
+-- ---- serial validation: each session's whole run, and the repository turn by turn
 pub mod SessionRuns
-pub mod Leaving
-pub mod InTurn
-pub mod Serially
-pub mod WholeRunInstances
-pub mod Instances
+pub mod UncommittedLeaveNothing
+pub mod RepositoryInTurn
+pub mod LawfulIsSerial
+-- ---- net changes, and the new facts that decide a refusal
 pub mod LaidOver
 pub mod NetChanges
 pub mod FirstFound
 pub mod NewFacts
-pub mod NetChangeInstances
+-- ---- histories that are read in order, and replies that are compared
 pub mod SameReplies
 pub mod ReadingOrders
+-- ---- the laws at worked histories and reports
+pub mod Instances
+pub mod NumberInstances
+pub mod WholeRunInstances
+pub mod NetChangeInstances
 pub mod ReadingOrderInstances

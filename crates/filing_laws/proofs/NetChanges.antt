@@ -4,7 +4,8 @@ use Rattle.std.specs.List.{list_any}
 use Rattle.std.specs.Option.{option_map_or}
 use Rattle.std.specs.declared.result.Result.{Result}
 use Rattle.std.specs.declared.result.Result.TheVariants.{Ok, Err}
-use Rattle.std.proofs.lemmas.Bool.{and_parts}
+use Rattle.std.proofs.lemmas.Bool.{and_parts, or_parts, and_right}
+use Rattle.std.proofs.lemmas.Option.{same_Some}
 use Rattle.filing_model.specs.Text.{Text, text_eq}
 use Rattle.filing_model.specs.TextMap.{empty, get}
 use Rattle.filing_model.specs.Facts.{Fact, fit_of}
@@ -23,16 +24,17 @@ use Rattle.filing_model.specs.Versions.{counts}
 use Rattle.filing_model.specs.declared.faults.FactFault.{FactFault}
 use Rattle.filing_model.specs.declared.kind.Kind.{Kind}
 use Rattle.filing_model.specs.declared.kind.Kind.TheVariants.{Review, Amend}
+use Rattle.filing_model.proofs.Texts.{text_same}
+use Rattle.filing_model.proofs.Tests.{none_from_not_is_some}
 use Rattle.filing_laws.specs.NetChange.{with_facts, laid_over, IsUntouchedAmendment, copy_now, after_change, EachNetChangeMakesTheCopy, EachCommitLaysItsNetChange}
-use Rattle.filing_laws.proofs.Equal.{text_same}
-use Rattle.filing_laws.proofs.Each.{Each, IsNever, neither}
-use Rattle.filing_laws.proofs.Agree.{Agree, agree_fact}
-use Rattle.filing_laws.proofs.Runs.{reads, run_alike, IsAlikeRun, run_leaves_facts, staged_were_read, is_place}
-use Rattle.filing_laws.proofs.Changes.{ids_at, change_at-with_change}
+use Rattle.filing_laws.proofs.EachElement.{Each, IsNever}
+use Rattle.filing_laws.proofs.AgreeOnThings.{Agree, agree_fact}
+use Rattle.filing_laws.proofs.RunsAlike.{reads, run_alike, IsAlikeRun, run_leaves_facts, staged_were_read, is_place}
+use Rattle.filing_laws.proofs.ChangedPlaces.{ids_at, change_at-with_change}
 use Rattle.filing_laws.proofs.OwnReplies.{own_replies}
-use Rattle.filing_laws.proofs.Known.{known, reads_agree}
-use Rattle.filing_laws.proofs.Serial.{serial}
-use Rattle.filing_laws.proofs.Cases.{EntryCase, Quiet, Accepted, Passed, entry_case}
+use Rattle.filing_laws.proofs.UntouchedThingsStand.{known, reads_agree}
+use Rattle.filing_laws.proofs.UntouchedIsSerial.{serial}
+use Rattle.filing_laws.proofs.EntryCases.{EntryCase, Quiet, Accepted, Passed, entry_case}
 use Rattle.filing_laws.proofs.LaidOver.{bare, bare-with_facts, fact_in-with_facts, reports_same, repositories_same, report_at-laid_over, count-laid_over, count-with_fact_at, bare-with_fact_at}
 
 -- ---- what a net change has at each place
@@ -40,10 +42,6 @@ use Rattle.filing_laws.proofs.LaidOver.{bare, bare-with_facts, fact_in-with_fact
 -- whether a change between these two has the place, once it was staged
 abbrev pub is_kept : Repository → Repository → Text → Text → Bool
 is_kept opening copy m q = is_some (fact_at opening m q) || is_some (fact_at copy m q)
-
-and_not : (b : Bool) → (b && false) ≡ false
-and_not true = refl
-and_not false = refl
 
 pub change_at-change_between : (opening copy : Repository) (places : List (Text × Text)) (m q : Text)
     → change_at (change_between opening copy places) m q ≡ cond (list_any (is_place m q) places && is_kept opening copy m q) (Some (fact_at copy m q)) None
@@ -74,7 +72,7 @@ change_at-change_between opening copy (p ∷ ps) m q = by (is_place m q p) refl 
         let left : is_kept opening copy m q ≡ false = sym (kept_as here) ∙ out in
         later
         ∙ ap (λ b. cond (list_any (is_place m q) ps && b) (Some (fact_at copy m q)) None) left
-        ∙ ap (λ b. cond b (Some (fact_at copy m q)) None) (and_not (list_any (is_place m q) ps) ∙ sym left)
+        ∙ ap (λ b. cond b (Some (fact_at copy m q)) None) (and_right (list_any (is_place m q) ps) false refl ∙ sym left)
     by false apart true kept later = with_it false apart ∙ later
     by false apart false out later = later
 
@@ -127,10 +125,6 @@ each_placed P m q (p ∷ ps) each placed = by (each_placed P m q ps each.1) (is_
     by later true here placed = let parts = and_parts (text_eq m p.0) (text_eq q p.1) here in subst P (sym (λ i. (text_same m p.0 parts.0 i, text_same q p.1 parts.1 i))) each.0
     by later false apart placed = later placed
 
-gone : (o : Option Fact) → is_some o ≡ false → o ≡ None
-gone None e = refl
-gone (Some fact) e = absurd (true≢false e)
-
 module _ (h : History) (s : ℕ) (amendment : IsUntouchedAmendment h s) where
   abbrev now : Repository
   now = repository h
@@ -157,10 +151,10 @@ module _ (h : History) (s : ℕ) (amendment : IsUntouchedAmendment h s) where
       → unwrap_or (cond b (Some (fact_at (solo_copy Amend opening calls) m q)) None) (fact_at now m q) ≡ fact_at (solo_copy Amend now calls) m q
   staged_fact m q same true kept = agree_fact m q (solo_copy Amend opening calls) (solo_copy Amend now calls) (run.kept (thing.Id m q) same)
   staged_fact m q same false out =
-      let parts = neither (is_some (fact_at opening m q)) (is_some (fact_at (solo_copy Amend opening calls) m q)) out in
+      let parts = or_parts (is_some (fact_at opening m q)) (is_some (fact_at (solo_copy Amend opening calls) m q)) out in
       sym (agree_fact m q opening now same)
-      ∙ gone (fact_at opening m q) parts.0
-      ∙ sym (gone (fact_at (solo_copy Amend opening calls) m q) parts.1)
+      ∙ none_from_not_is_some (fact_at opening m q) parts.0
+      ∙ sym (none_from_not_is_some (fact_at (solo_copy Amend opening calls) m q) parts.1)
       ∙ agree_fact m q (solo_copy Amend opening calls) (solo_copy Amend now calls) (run.kept (thing.Id m q) same)
 
   -- at each place the copy has what the net change has, and else what stands there now
@@ -196,9 +190,6 @@ each_net_change_makes_the_copy h s amendment = net_change_makes_the_copy h s ame
 
 -- ---- accepted commits
 
-same_number : (m n : ℕ) → Some m ≡ Some n → m ≡ n
-same_number m n e = cc
-
 pub each_commit_lays_its_net_change : EachCommitLaysItsNetChange
 each_commit_lays_its_net_change h e s n lawful of_it told = by (entry_case h e lawful.1)
   where
@@ -209,4 +200,4 @@ each_commit_lays_its_net_change h e s n lawful of_it told = by (entry_case h e l
         let amendment : IsUntouchedAmendment h passed.s = record { lawful = lawful.0; live = passed.live; untouched = passed.untouched } in
         passed.result
         ∙ ap (λ (c : Repository). record c { count = (repository h).count + 1 }) (sym (each_net_change_makes_the_copy h passed.s amendment))
-        ∙ ap (λ x. after_change (net_change_of x h) (repository h)) (same_number passed.s s (sym passed.of_it ∙ of_it))
+        ∙ ap (λ x. after_change (net_change_of x h) (repository h)) (same_Some passed.s s (sym passed.of_it ∙ of_it))

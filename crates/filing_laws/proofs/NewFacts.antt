@@ -1,5 +1,6 @@
 -- Where a change is laid over a repository that obeys, its new facts alone decide which cells are disallowed.
 use Rattle.std.proofs.Common.{◌≡◌, ◌∙◌, ap, sym, refl, subst, Bool, true, false, cond, not, ◌&&◌, ◌||◌, List, [], ◌∷◌, map, filter, filter_map, Option, Some, None, is_some, option_map, option_and_then, unwrap_or, true≢false, Ordering, Less, Equal, Greater, is_gt}
+use Rattle.std.proofs.lemmas.Bool.{not-true}
 use Rattle.std.specs.List.{list_all, list_any, cons_option, find as find_in}
 use Rattle.std.specs.Option.{option_map_or, option_or}
 use Rattle.std.specs.Ordering.{ordering_reverse}
@@ -21,13 +22,15 @@ use Rattle.filing_model.specs.declared.duplicates.Allowed.{Allowed}
 use Rattle.filing_model.specs.declared.duplicates.Class.TheVariants.{Empty}
 use Rattle.filing_laws.specs.Obeying.{is_allowed}
 use Rattle.filing_laws.specs.NetChange.{with_facts, laid_over, new_facts, IsDisallowedCell, find_map, least_among, first_disallowed, least_disallowed_of, refusal_at, IsDecidedByNewFacts, EachDisallowedCellHoldsANewFact, EachDisallowedCellOfACopyHoldsANewFact, EachChangeIsDecidedByItsNewFacts, EachCopyIsDecidedByItsNewFacts}
-use Rattle.filing_laws.proofs.Each.{Each, OnEach, IsNever, never_parts}
-use Rattle.filing_laws.proofs.Equal.{text_tied, dims_same, dims_tied, dims_total}
+use Rattle.filing_laws.proofs.EachElement.{Each, OnEach, IsNever, never_parts}
 use Rattle.filing_model.proofs.EveryPair.{pairs_filter}
-use Rattle.filing_laws.proofs.Those.{only, those_same}
-use Rattle.filing_laws.proofs.Changes.{each_found, ids_at}
-use Rattle.filing_laws.proofs.Cells.{has_these, passes_each, kept_where_passed, nothing_least, disallowed_is_there, entries_allowed, each_has, least_of, obeys_where_each_cell_is_allowed, obeys_where_no_cell_is_disallowed}
-use Rattle.filing_laws.proofs.Chain.{repository_obeys_always}
+use Rattle.filing_model.proofs.Texts.{text_cmp-Equal}
+use Rattle.filing_model.proofs.DimensionSets.{dims_same, dims_cmp-Equal, dims_cmp-total}
+use Rattle.filing_model.proofs.DisallowedCells.{obeys_where_no_cell_is_disallowed}
+use Rattle.filing_laws.proofs.FilteredFacts.{only, those_same}
+use Rattle.filing_laws.proofs.ChangedPlaces.{each_found, ids_at}
+use Rattle.filing_laws.proofs.AllowedCells.{has_these, passes_each, kept_where_passed, nothing_least, disallowed_is_there, entries_allowed, each_has, least_of, obeys_where_each_cell_is_allowed}
+use Rattle.filing_laws.proofs.VersionChain.{repository_obeys_always}
 use Rattle.filing_laws.proofs.LaidOver.{bare-with_facts, fact_in-with_facts, report_at-laid_over}
 use Rattle.filing_laws.proofs.NetChanges.{each_net_change_makes_the_copy}
 use Rattle.filing_laws.proofs.FirstFound.{each_is_found, all_found, first_same}
@@ -90,7 +93,7 @@ module _ (r : Report) (ids : TextMap (Option Fact)) where
   left_facts = record { entries = where_key text_cmp is_left r.facts.entries; sorted = is_sorted-where_key text_cmp is_left r.facts.entries r.facts.sorted }
 
   get-left_facts : (q : Text) → get left_facts q ≡ cond (is_left q) (get r.facts q) None
-  get-left_facts q = find-where_key text_cmp is_left q (λ x same. ap is_left (sym (text_tied q x same))) r.facts.entries
+  get-left_facts q = find-where_key text_cmp is_left q (λ x same. ap is_left (sym (text_cmp-Equal q x same))) r.facts.entries
 
   left_alike : (dims : Dims) (q : Text) → IsNever (has_dims dims) (new_facts ids) → only (has_dims dims) (get (with_facts ids.entries r).facts q) ≡ only (has_dims dims) (get left_facts q)
   left_alike dims q never =
@@ -141,8 +144,8 @@ least_where p xs ys in_xs in_ys = by (least_dims (filter p xs)) refl (least_dims
         true≢false (sym (kept_where_passed p d ds passes (in_ds d passes)) ∙ ap (has_these d) (nothing_least (filter p ds) none))
 
     tied : (d e : Dims) → is_gt (dims_cmp d e) ≡ false → is_gt (dims_cmp e d) ≡ false → (o : Ordering) → dims_cmp d e ≡ o → d ≡ e
-    tied d e de ed Less is = absurd (true≢false (sym (ap is_gt (dims_total.antisymm e d ∙ ap ordering_reverse is)) ∙ ed))
-    tied d e de ed Equal is = dims_tied d e is
+    tied d e de ed Less is = absurd (true≢false (sym (ap is_gt (dims_cmp-total.antisymm e d ∙ ap ordering_reverse is)) ∙ ed))
+    tied d e de ed Equal is = dims_cmp-Equal d e is
     tied d e de ed Greater is = absurd (true≢false (sym (ap is_gt is) ∙ de))
 
     by : (o : Option Dims) → least_dims (filter p xs) ≡ o → (q : Option Dims) → least_dims (filter p ys) ≡ q → o ≡ q
@@ -156,16 +159,12 @@ least_where p xs ys in_xs in_ys = by (least_dims (filter p xs)) refl (least_dims
         let down = each_has (λ x. is_gt (dims_cmp e x) ≡ false) d (filter p ys) two.1 (kept_where_passed p d ys one.0 (in_ys d one.0)) in
         ap Some (tied d e up down (dims_cmp d e) refl)
 
-not_allowed : (b : Bool) → not b ≡ true → b ≡ false
-not_allowed true e = absurd (true≢false (sym e))
-not_allowed false e = refl
-
 -- of one report: the least among the new facts is the least of all
 least_of_report : (r : Report) (ids : TextMap (Option Fact)) → report_obeys r ≡ true
     → least_among (new_facts ids) (with_facts ids.entries r) ≡ least_disallowed (with_facts ids.entries r).allowed (with_facts ids.entries r).facts.entries
 least_of_report r ids holds =
     least_where (is_disallowed x.allowed (facts_of x.facts.entries)) (map (λ f. f.dims) (new_facts ids)) (map (λ f. f.dims) (facts_of x.facts.entries))
-    (λ d disallowed. any_map (dims_eq d) (λ f. f.dims) (new_facts ids) ∙ new_where_disallowed r ids holds d (entries_allowed x.allowed x.facts.entries d ∙ not_allowed _ disallowed))
+    (λ d disallowed. any_map (dims_eq d) (λ f. f.dims) (new_facts ids) ∙ new_where_disallowed r ids holds d (entries_allowed x.allowed x.facts.entries d ∙ not-true _ disallowed))
     (λ d disallowed. disallowed_is_there x.allowed (facts_of x.facts.entries) d disallowed)
   where
     x : Report

@@ -1,5 +1,6 @@
 -- What a lawful history holds of each session: nothing before its opening, its replies while it goes on, and its whole run once it has ended.
-use Rattle.std.proofs.Common.{◌≡◌, ◌∙◌, ap, sym, refl, subst, ℕ, ◌+◌, ◌==◌, arith, Bool, true, false, cond, ◌&&◌, List, [], ◌∷◌, ◌++◌, Option, Some, None, unwrap_or, true≢false}
+use Rattle.std.proofs.Common.{◌≡◌, ◌∙◌, ap, sym, refl, subst, ℕ, ◌+◌, ◌==◌, arith, Bool, true, false, cond, ◌&&◌, List, [], ◌∷◌, ◌++◌, Option, Some, None, unwrap_or, true≢false, append-nil}
+use Rattle.std.proofs.lemmas.Option.{same_Some}
 use Rattle.std.specs.Option.{option_map_or}
 use Rattle.filing_model.specs.Repository.{Repository}
 use Rattle.filing_model.specs.Calls.{Call}
@@ -12,9 +13,9 @@ use Rattle.filing_model.specs.Versions.{counts}
 use Rattle.filing_model.specs.declared.kind.Kind.{Kind}
 use Rattle.filing_model.specs.declared.kind.Kind.TheVariants.{Review, Amend}
 use Rattle.filing_laws.specs.WholeRuns.{all_replies_of, kind_after, kind_of, ending_after, ending_of, is_commit, told_at_commit, before_commit, after_commit, AreSoloReplies}
-use Rattle.filing_laws.proofs.Fresh.{IsFresh, not_opened, append_nothing}
+use Rattle.filing_laws.proofs.NotYetOpened.{IsFresh, not_opened}
 use Rattle.filing_laws.proofs.OwnReplies.{number_known, own_replies}
-use Rattle.filing_laws.proofs.Cases.{EntryCase, Quiet, Accepted, Passed, entry_case, passed_copy}
+use Rattle.filing_laws.proofs.EntryCases.{EntryCase, Quiet, Accepted, Passed, entry_case, passed_copy}
 
 -- ---- all that a history holds of a session
 
@@ -58,9 +59,9 @@ part_with mine s e older = record {
 
 part_other : (s : ℕ) (e : Entry) (older : History) → part_with false s e older ≡ part_of s older
 part_other s e older = λ i. record (part_of s older) {
-  calls = append_nothing (calls_of s older) i;
-  replies = append_nothing (replies_of s older) i;
-  all = append_nothing (all_replies_of s older) i;
+  calls = append-nil (calls_of s older) i;
+  replies = append-nil (replies_of s older) i;
+  all = append-nil (all_replies_of s older) i;
 }
 
 -- ---- where it stands
@@ -98,9 +99,6 @@ IsAt Ended p = IsKnown p
 same_kind : (k kind : Kind) → Live k ≡ Live kind → k ≡ kind
 same_kind k kind e = cc
 
-kinds_alike : (k kind : Kind) → Some k ≡ Some kind → k ≡ kind
-kinds_alike k kind e = cc
-
 was_opened : (o : Option Kind) (kind : Kind) (all : List Reply) → o ≡ Some kind → o ≡ None → all ≡ []
 was_opened o kind all some none = let apart : Some kind ≡ None = sym some ∙ none in cc
 
@@ -113,7 +111,7 @@ module _ (older : History) (session : Option ℕ) (s : ℕ) (r : Reply) where
   all_at_end kind lawful live going =
       ap (λ rs. rs ++ r ∷ []) going.all
       ∙ ap (λ rs. reply.Opened ∷ rs ++ r ∷ []) (own_replies older s kind lawful live)
-      ∙ ap (λ cs. reply.Opened ∷ solo_replies kind (base_of s older) cs ++ r ∷ []) (sym (append_nothing (calls_of s older)))
+      ∙ ap (λ cs. reply.Opened ∷ solo_replies kind (base_of s older) cs ++ r ∷ []) (sym (append-nil (calls_of s older)))
 
   closed_at : (kind : Kind) → IsLawful older → status_of s older ≡ Live kind → IsGoing kind (part_of s older) → r ≡ reply.Closed
       → AreSoloReplies kind Closing (base_of s older) (calls_of s older ++ []) (all_replies_of s older ++ r ∷ [])
@@ -124,13 +122,13 @@ module _ (older : History) (session : Option ℕ) (s : ℕ) (r : Reply) where
       → AreSoloReplies kind Committing (base_of s older) (calls_of s older ++ []) (all_replies_of s older ++ r ∷ [])
   committed_at Review lawful live going is = all_at_end Review lawful live going ∙ ap (λ x. reply.Opened ∷ solo_replies Review (base_of s older) (calls_of s older ++ []) ++ x ∷ []) is
   committed_at Amend lawful live going is =
-      (r, all_at_end Amend lawful live going ∙ ap (λ rs. reply.Opened ∷ rs ++ r ∷ []) (sym (append_nothing (solo_replies Amend (base_of s older) (calls_of s older ++ [])))))
+      (r, all_at_end Amend lawful live going ∙ ap (λ rs. reply.Opened ∷ rs ++ r ∷ []) (sym (append-nil (solo_replies Amend (base_of s older) (calls_of s older ++ [])))))
 
   closing : (kind : Kind) → IsLawful older → status_of s older ≡ Live kind → IsGoing kind (part_of s older) → r ≡ reply.Closed
       → IsKnown (part_with true s (record { session = session; step = Close; reply = r }) older)
   closing kind lawful live going is = record {
     committed = λ n e. absurd (untold (told_at_commit s older) n going.told e);
-    opened = λ k of_kind. subst (λ k. AreSoloReplies k Closing (base_of s older) (calls_of s older ++ []) (all_replies_of s older ++ r ∷ [])) (kinds_alike kind k (sym going.of_kind ∙ of_kind)) (closed_at kind lawful live going is);
+    opened = λ k of_kind. subst (λ k. AreSoloReplies k Closing (base_of s older) (calls_of s older ++ []) (all_replies_of s older ++ r ∷ [])) (same_Some kind k (sym going.of_kind ∙ of_kind)) (closed_at kind lawful live going is);
     unopened = was_opened (kind_of s older) kind (all_replies_of s older ++ r ∷ []) going.of_kind;
   }
 
@@ -149,7 +147,7 @@ module _ (older : History) (session : Option ℕ) (s : ℕ) (r : Reply) where
       let obeys : refusal_of (passed_copy s older) ≡ None = subst (λ m. refusal_of (passed_copy m older) ≡ None) same it.obeys in
       let result : repository (entry ∷ older) ≡ record (passed_copy s older) { count = (repository older).count + 1 } = subst (λ m. repository (entry ∷ older) ≡ record (passed_copy m older) { count = (repository older).count + 1 }) same it.result in
       let number : r ≡ unwrap_or (refusal_of (passed_copy s older)) (reply.Committed ((repository older).count + 1)) = it.reply ∙ sym (ap (λ o. unwrap_or o (reply.Committed ((repository older).count + 1))) obeys) in
-      subst (λ cs. IsWhole (record (part_with true s entry older) { calls = cs })) (sym (append_nothing (calls_of s older))) (record {
+      subst (λ cs. IsWhole (record (part_with true s entry older) { calls = cs })) (sym (append-nil (calls_of s older))) (record {
         kind = going.of_kind ∙ ap Some amends;
         replies = ap (λ rs. rs ++ r ∷ []) going.all ∙ (λ i. reply.Opened ∷ earlier i ++ number i ∷ []);
         effect = result ∙ sym (ap (λ (o : Option Reply). option_map_or (λ (refusal : Reply). repository older) o (record (passed_copy s older) { count = (repository older).count + 1 })) obeys);
@@ -159,7 +157,7 @@ module _ (older : History) (session : Option ℕ) (s : ℕ) (r : Reply) where
       → IsKnown (part_with true s entry older)
   committing kind lawful next mine live going is = record {
     committed = λ n e. passed kind n next mine live going (let told : Some r ≡ Some (reply.Committed n) = e in cc) (entry_case older entry next);
-    opened = λ k of_kind. subst (λ k. AreSoloReplies k Committing (base_of s older) (calls_of s older ++ []) (all_replies_of s older ++ r ∷ [])) (kinds_alike kind k (sym going.of_kind ∙ of_kind)) (committed_at kind lawful live going is);
+    opened = λ k of_kind. subst (λ k. AreSoloReplies k Committing (base_of s older) (calls_of s older ++ []) (all_replies_of s older ++ r ∷ [])) (same_Some kind k (sym going.of_kind ∙ of_kind)) (committed_at kind lawful live going is);
     unopened = was_opened (kind_of s older) kind (all_replies_of s older ++ r ∷ []) going.of_kind;
   }
 
@@ -221,14 +219,14 @@ where_it_stands (e ∷ older) s lawful = by (is_of s e) refl (where_it_stands ol
 -- ---- both laws, wherever it stands
 
 not_ended : (kind : Kind) (c : Repository) (calls : List Call) → AreSoloReplies kind Unended c calls (reply.Opened ∷ solo_replies kind c calls)
-not_ended Review c calls = sym (ap (λ rs. reply.Opened ∷ rs) (append_nothing (solo_replies Review c calls)))
-not_ended Amend c calls = sym (ap (λ rs. reply.Opened ∷ rs) (append_nothing (solo_replies Amend c calls)))
+not_ended Review c calls = sym (ap (λ rs. reply.Opened ∷ rs) (append-nil (solo_replies Review c calls)))
+not_ended Amend c calls = sym (ap (λ rs. reply.Opened ∷ rs) (append-nil (solo_replies Amend c calls)))
 
 going_known : (h : History) (s : ℕ) (kind : Kind) → IsLawful h → status_of s h ≡ Live kind → IsGoing kind (part_of s h) → IsKnown (part_of s h)
 going_known h s kind lawful live going = record {
   committed = λ n e. absurd (untold (told_at_commit s h) n going.told e);
   opened = λ k of_kind.
-      subst (λ k. AreSoloReplies k (ending_of s h) (base_of s h) (calls_of s h) (all_replies_of s h)) (kinds_alike kind k (sym going.of_kind ∙ of_kind))
+      subst (λ k. AreSoloReplies k (ending_of s h) (base_of s h) (calls_of s h) (all_replies_of s h)) (same_Some kind k (sym going.of_kind ∙ of_kind))
       (subst (λ ending. AreSoloReplies kind ending (base_of s h) (calls_of s h) (all_replies_of s h)) (sym going.ending)
       (subst (AreSoloReplies kind Unended (base_of s h) (calls_of s h)) (sym (going.all ∙ ap (λ rs. reply.Opened ∷ rs) (own_replies h s kind lawful live))) (not_ended kind (base_of s h) (calls_of s h))));
   unopened = was_opened (kind_of s h) kind (all_replies_of s h) going.of_kind;

@@ -1,5 +1,6 @@
 -- The law of serial validation at worked histories: write skew, a snapshot, and duplicates that are disallowed at a commit. Each premise is met there, and what the law says of them computes.
-use Rattle.std.proofs.Common.{◌≡◌, ◌∙◌, ap, sym, refl, ℕ, List, [], ◌∷◌, ◌++◌, All, Some, None, true, take}
+use Rattle.std.proofs.Common.{◌≡◌, ◌∙◌, ap, sym, refl, List, [], ◌∷◌, ◌++◌, All, Some, None, true, take}
+use Rattle.std.proofs.lemmas.Option.{same_Some}
 use Rattle.std.specs.Prelude.{codes}
 use Rattle.filing_model.specs.Repository.{Repository, nothing, with_report, with_fact_at}
 use Rattle.filing_model.specs.Calls as call
@@ -17,8 +18,8 @@ use Rattle.filing_model.proofs.Examples.Histories.{r1, blank, write_skew_lines, 
 use Rattle.filing_laws.specs.NextReply.{MayBeTaken}
 use Rattle.filing_laws.specs.Played.{played, steps_of}
 use Rattle.filing_laws.specs.WholeRuns.{all_replies_of, ending_of, before_commit, IsCommitted, without, Loading, Running, after_turns, turns_of, IsSerial}
-use Rattle.filing_laws.proofs.Playing.{played_are_the_lawful}
-use Rattle.filing_laws.proofs.Serially.{each_order_of_steps_is_serial, each_lawful_history_is_serial}
+use Rattle.filing_laws.proofs.PlayedHistories.{played_are_the_lawful}
+use Rattle.filing_laws.proofs.LawfulIsSerial.{each_order_of_steps_is_serial, each_lawful_history_is_serial}
 
 -- ---- write skew: each session reads the cell into which the other writes. The first is committed, and the second is told a conflict
 
@@ -171,9 +172,6 @@ last_ran_whole = sym (mixed_is_serial.committed 4 (3, refl)).replies
 
 -- ---- what is played
 
-number_alike : (m n : ℕ) → Some m ≡ Some n → m ≡ n
-number_alike m n e = cc
-
 pub skewed_is_played : played (steps_of skewed) ≡ skewed
 skewed_is_played = played_are_the_lawful.all skewed (played_are_the_lawful.lawful write_skew_lines)
 
@@ -183,7 +181,7 @@ stranger_makes_no_entry = played_are_the_lawful.no_entry skewed (Some 3) Commit 
   where
     not_open : ¬ MayBeTaken skewed (Some 3) Commit
     not_open (s, kind, ongoing) =
-        let same : 3 ≡ s = number_alike 3 s ongoing.of_it in
+        let same : 3 ≡ s = same_Some 3 s ongoing.of_it in
         let differ : Unknown ≡ Live kind = ap (λ m. status_of m skewed) same ∙ ongoing.live in
         cc
 
@@ -192,6 +190,6 @@ refused_makes_no_entry = played_are_the_lawful.no_entry skewed (Some 2) Commit n
   where
     not_open : ¬ MayBeTaken skewed (Some 2) Commit
     not_open (s, kind, ongoing) =
-        let same : 2 ≡ s = number_alike 2 s ongoing.of_it in
+        let same : 2 ≡ s = same_Some 2 s ongoing.of_it in
         let differ : Ended ≡ Live kind = ap (λ m. status_of m skewed) same ∙ ongoing.live in
         cc

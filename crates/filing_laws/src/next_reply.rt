@@ -3,7 +3,7 @@
 ghost use Rattle.filing_laws.specs.NextReply.{EachStepHasOneReply, EachEntryFollowsLawfully};
 
 /// After a lawful history each load, each opening and each step of an open session has exactly one reply that keeps it lawful.
-#[tactic(auto, using(crate::proofs::Serial::each_step_has_one_reply))]
+#[tactic(auto, using(crate::proofs::UntouchedIsSerial::each_step_has_one_reply))]
 pub fn each_step_has_one_reply()
     ensures { EachStepHasOneReply }
 {}

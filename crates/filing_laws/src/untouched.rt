@@ -9,7 +9,7 @@ pub fn each_session_replies_as_at_its_opening()
 {}
 
 /// Where nothing that it has read was touched since, they are also those of its solo run at the repository of the history.
-#[tactic(auto, using(crate::proofs::Serial::serial))]
+#[tactic(auto, using(crate::proofs::UntouchedIsSerial::serial))]
 pub fn each_untouched_session_replies_as_now()
     ensures { EachUntouchedSessionRepliesAsNow }
 {}

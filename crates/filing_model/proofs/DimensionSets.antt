@@ -111,6 +111,9 @@ dims_eq-refl ds = ap is_eq (tied_itself dims_cmp-total ds)
 pub dims_decides : (ds es : Dims) → Decides (dims_eq ds es) (ds ≡ es)
 dims_decides ds es = (λ h. dims_cmp-Equal ds es ((Equal-is (dims_cmp ds es)).0 h), λ h. ap (dims_eq ds) (sym h) ∙ dims_eq-refl ds)
 
+pub dims_same : (ds es : Dims) → dims_eq ds es ≡ true → ds ≡ es
+dims_same ds es e = (dims_decides ds es).0 e
+
 -- ---- a dimension set has a concept
 
 not_none : (o : Option Text) → is_none o ≡ false → is_some (option_flatten (Some o)) ≡ true

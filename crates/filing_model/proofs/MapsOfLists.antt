@@ -1,5 +1,5 @@
 -- Lemmas on finite maps from texts that are made of lists.
-use Rattle.std.proofs.Common.{◌≡◌, true, false, cond, T, List, [], ◌∷◌, map, Some, is_some, IsPermutation, Less, Equal, Greater, is_eq, is_lt, ap, sym, subst, ◌∙◌, refl, true≢false}
+use Rattle.std.proofs.Common.{◌≡◌, true, false, cond, T, List, [], ◌∷◌, map, Some, is_some, IsPermutation, Less, Equal, Greater, is_eq, is_lt, ap, sym, subst, ◌∙◌, refl, true≢false, None}
 use Rattle.std.specs.FinMap.Entries.{by_order, below_all, put, find, is_sorted, same_entries, is_some-find}
 use Rattle.std.specs.Prelude.{⊤}
 use Rattle.std.specs.List.{list_any, AllByRecursion}
@@ -20,6 +20,12 @@ module _ {X : Type 0} where
   -- entries in order are the map's own
   pub from_entries-sorted : (es : List (Text × X)) → T (is_sorted text_cmp es) → (from_entries es).entries ≡ es
   from_entries-sorted es h = same_entries text_cmp nat_list_cmp_total text_cmp-Equal _ es (from_entries es).sorted h (get-from_entries es)
+
+  -- a text below all names is none of them
+  pub below_is_not_found : (q : Text) (es : List (Text × X)) → T (below_all text_cmp q es) → find text_cmp q es ≡ None
+  below_is_not_found q [] h = refl
+  below_is_not_found q (e ∷ es) h =
+      ap (λ o. cond (is_eq o) (Some e.1) (find text_cmp q es)) (less_from_is_lt (text_cmp q e.0) (first_holds _ _ h)) ∙ below_is_not_found q es (second_holds _ _ h)
 
   -- ---- entries that change places
 

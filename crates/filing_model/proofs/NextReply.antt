@@ -1,5 +1,5 @@
 -- What follows a lawful history lawfully is entered under the next number and has the one next reply.
-use Rattle.std.proofs.Common.{◌≡◌, ◌≢◌, ◌∙◌, ap, sym, ℕ, Option, Some, None, [], ◌∷◌}
+use Rattle.std.proofs.Common.{◌≡◌, ◌≢◌, ◌∙◌, ap, sym, ℕ, Option, Some, None, [], ◌∷◌, ◌++◌}
 use Rattle.std.specs.Prelude.{MatchOption}
 use Rattle.std.specs.Option.{option_and_then, option_map_or}
 use Rattle.filing_model.specs.Replies.{Reply}
@@ -49,3 +49,8 @@ LastIsWrong (e ∷ older) = next_reply older e.session e.step ≢ Some e.reply
 pub not_lawful : (h : History) → LastIsWrong h → ¬ IsLawful h
 not_lawful [] wrong lawful = wrong
 not_lawful (e ∷ older) wrong lawful = wrong (next_reply-IsNext older e lawful.1)
+
+-- the older part of a lawful history is lawful
+pub older_is_lawful : (newer older : History) → IsLawful (newer ++ older) → IsLawful older
+older_is_lawful [] older lawful = lawful
+older_is_lawful (e ∷ newer) older lawful = older_is_lawful newer older lawful.0

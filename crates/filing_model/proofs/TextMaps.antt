@@ -1,10 +1,11 @@
 -- Finite maps from texts as functions: what a look-up finds after an insertion, and that maps which answer alike are equal.
-use Rattle.std.proofs.Common.{◌≡◌, ◌∙◌, ap, sym, refl, T, List, [], ◌∷◌, Some, cond}
+use Rattle.std.proofs.Common.{◌≡◌, ◌∙◌, ap, sym, refl, T, List, [], ◌∷◌, Some, cond, not, Bool, true, false, None}
 use Rattle.std.specs.Cmp.Lexicographic.{nat_list_cmp_total}
 use Rattle.std.specs.FinMap.{slice_cmp-IsAntisymmetric, nat_cmp-IsAntisymmetric}
-use Rattle.std.specs.FinMap.Entries.{find, put, is_sorted, find-put, same_entries}
+use Rattle.std.specs.FinMap.Entries.{find, put, is_sorted, find-put, same_entries, find-where_key}
 use Rattle.filing_model.specs.Text.{Text, text_cmp, text_eq}
-use Rattle.filing_model.specs.TextMap.{TextMap, get, insert, from_entries}
+use Rattle.filing_model.specs.TextMap.{TextMap, get, insert, from_entries, remove}
+use Rattle.filing_model.proofs.Texts.{text_cmp-Equal, text_eq-sym}
 use mathlib.Core.HLevel.{Σ_prop_path}
 use lib.Dec.{T_prop}
 
@@ -20,6 +21,16 @@ same_map m n alike = same_list m n (same_entries text_cmp nat_list_cmp_total (sl
 
 pub get-insert : {X : Type 0} (m : TextMap X) (key : Text) (x : X) (q : Text) → get (insert m key x) q ≡ cond (text_eq q key) (Some x) (get m q)
 get-insert m key x q = find-put text_cmp nat_list_cmp_total q key x m.entries
+
+other_way : {A : Type 0} (b : Bool) (x y : A) → cond (not b) x y ≡ cond b y x
+other_way true x y = refl
+other_way false x y = refl
+
+pub get-remove : {X : Type 0} (m : TextMap X) (key : Text) (q : Text) → get (remove m key) q ≡ cond (text_eq q key) None (get m q)
+get-remove m key q =
+    find-where_key text_cmp (λ k. not (text_eq key k)) q (λ x same. ap (λ k. not (text_eq key k)) (sym (text_cmp-Equal q x same))) m.entries
+    ∙ other_way (text_eq key q) (get m q) None
+    ∙ ap (λ b. cond b None (get m q)) (text_eq-sym key q)
 
 -- the first value of a key counts, in whatever order the entries stand
 pub get-from_entries : {X : Type 0} (es : List (Text × X)) (q : Text) → get (from_entries es) q ≡ find text_cmp q es

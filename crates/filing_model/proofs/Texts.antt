@@ -21,6 +21,9 @@ text_eq-sym = (eq_by_cmp_equiv nat_list_cmp_total).symm
 pub text_decides : (x y : Text) → Decides (text_eq x y) (x ≡ y)
 text_decides x y = (λ e. text_cmp-Equal x y ((Equal-is (text_cmp x y)).0 e), λ e. ap (text_eq x) (sym e) ∙ text_eq-refl x)
 
+pub text_same : (x y : Text) → text_eq x y ≡ true → x ≡ y
+text_same x y e = (text_decides x y).0 e
+
 -- ---- no text stands twice: the test and std's fact
 
 none_equal : (x : Text) (ts : List Text) → list_any (text_eq x) ts ≡ false → AllByRecursion (λ y. text_eq x y ≡ false) ts

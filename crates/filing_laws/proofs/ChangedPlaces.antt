@@ -11,11 +11,11 @@ use Rattle.filing_model.specs.Repository.{Repository, fact_at}
 use Rattle.filing_model.specs.Things as thing
 use Rattle.filing_model.specs.Things.{Thing, thing_eq}
 use Rattle.filing_model.specs.Touches.{Change, change_at, with_change, change_between, things_of_fact, things_at, things_of_change}
-use Rattle.filing_laws.proofs.Equal.{text_same, text_eq_itself}
-use Rattle.filing_laws.proofs.Each.{Each, IsNever, never_parts, never_appended, never_flat}
-use Rattle.filing_laws.proofs.Look.{get-insert}
-use Rattle.filing_laws.proofs.Agree.{report_of, shown}
-use Rattle.filing_laws.proofs.Runs.{is_place}
+use Rattle.filing_model.proofs.Texts.{text_same, text_eq-refl}
+use Rattle.filing_model.proofs.TextMaps.{get-insert}
+use Rattle.filing_laws.proofs.EachElement.{Each, IsNever, never_parts, never_appended, never_flat}
+use Rattle.filing_laws.proofs.AgreeOnThings.{report_of, shown}
+use Rattle.filing_laws.proofs.RunsAlike.{is_place}
 
 -- ---- looking up
 
@@ -113,17 +113,17 @@ hidden_from_query : (name concept : Text) (period : Option Text) (fact : Fact) (
     → (option_eq text_eq (Some concept) o && option_eq text_eq period (period_of fact.dims)) ≡ false
 hidden_from_query name concept period fact None is never = refl
 hidden_from_query name concept period fact (Some c) is never =
-    alone_of_three (text_eq name name) (text_eq concept c) (option_eq text_eq period (period_of fact.dims)) (text_eq_itself name)
+    alone_of_three (text_eq name name) (text_eq concept c) (option_eq text_eq period (period_of fact.dims)) (text_eq-refl name)
     (never_parts (thing_eq (thing.Query name concept period)) (thing.Query name c (period_of fact.dims)) [] never).0
 
 -- a thing that is apart from an identifier and from its fact's cell and query shows nothing there
 hidden : (t : Thing) (id : Text) → thing_eq t (thing.Id (report_of t) id) ≡ false → (o : Option Fact) → IsNever (thing_eq t) (option_map_or (things_of_fact (report_of t)) o []) → shown t id o ≡ None
 hidden (thing.Report name) id apart o never = refl
-hidden (thing.Id name i) id apart o never = ap (λ b. cond b o None) (alone (text_eq name name) (text_eq i id) (text_eq_itself name) apart)
+hidden (thing.Id name i) id apart o never = ap (λ b. cond b o None) (alone (text_eq name name) (text_eq i id) (text_eq-refl name) apart)
 hidden (thing.Cell name dims) id apart None never = refl
 hidden (thing.Cell name dims) id apart (Some fact) never =
     let parts = never_parts (thing_eq (thing.Cell name dims)) (thing.Cell name fact.dims) (option_to_list (option_map (λ c. thing.Query name c (period_of fact.dims)) (concept_of fact.dims))) never in
-    ap (λ b. cond b (Some fact) None) (alone (text_eq name name) (dims_eq dims fact.dims) (text_eq_itself name) parts.0)
+    ap (λ b. cond b (Some fact) None) (alone (text_eq name name) (dims_eq dims fact.dims) (text_eq-refl name) parts.0)
 hidden (thing.Query name concept period) id apart None never = refl
 hidden (thing.Query name concept period) id apart (Some fact) never =
     let parts = never_parts (thing_eq (thing.Query name concept period)) (thing.Cell name fact.dims) (option_to_list (option_map (λ c. thing.Query name c (period_of fact.dims)) (concept_of fact.dims))) never in

@@ -1,64 +1,24 @@
 -- A report obeys its allowed duplicates exactly where each of its cells is allowed, and what the least disallowed cell is.
 use Rattle.std.proofs.Common.{◌≡◌, ◌∙◌, ap, sym, refl, subst, Bool, true, false, cond, not, ◌↔◌, ◌&&◌, ◌||◌, List, [], ◌∷◌, map, filter, find, fold, Some, None, option_map, Ordering, Less, Equal, Greater, is_lt, is_gt, true≢false}
 use Rattle.std.specs.List.{list_all, list_any}
-use Rattle.std.specs.Option.{option_eq}
-use Rattle.std.specs.Ordering.{ord_min, ordering_reverse, int_eq}
+use Rattle.std.specs.Ordering.{ord_min, ordering_reverse}
 use Rattle.std.specs.Cmp.{IsTotalOrder}
-use Rattle.std.proofs.lemmas.Bool.{and_parts, and_from}
+use Rattle.std.proofs.lemmas.Bool.{or_parts, not-true}
 use Rattle.std.proofs.lemmas.Cmp.{upto, tied_itself}
-use Rattle.filing_model.specs.Text.{Text, text_eq}
+use Rattle.std.proofs.lemmas.Option.{same_Some}
+use Rattle.filing_model.specs.Text.{Text}
 use Rattle.filing_model.specs.Dimensions.{Dims, dims_cmp, dims_eq}
-use Rattle.filing_model.specs.Facts.{Fact, FactValue, Nil, Written, Number}
-use Rattle.filing_model.specs.Intervals.{interval_of, meets}
+use Rattle.filing_model.specs.Facts.{Fact}
 use Rattle.filing_model.specs.Reports.{Report}
-use Rattle.filing_model.specs.Duplicates.{value_pair, pair_of, is_apart, class_of, every_pair, allows, permits, facts_of, has_dims, cell_of, is_disallowed, disallowed_dims, lesser_dims, least_dims}
+use Rattle.filing_model.specs.Duplicates.{pair_of, class_of, every_pair, allows, permits, facts_of, has_dims, cell_of, is_disallowed, disallowed_dims, lesser_dims, least_dims}
 use Rattle.filing_model.specs.Sessions.{report_obeys, disallowed_cell}
 use Rattle.filing_model.specs.declared.duplicates.Allowed.{Allowed}
-use Rattle.filing_model.specs.declared.duplicates.Allowed.TheVariants as allowed
-use Rattle.filing_model.specs.declared.duplicates.Pair.TheVariants as pair
-use Rattle.filing_laws.specs.Obeying.{is_allowed, ObeysWhereEachCellIsAllowed, ObeysWhereNoCellIsDisallowed, LeastDisallowedIsTheLeast, RepositoryObeysWhereNotRefused}
-use Rattle.filing_laws.proofs.Each.{Each, neither}
-use Rattle.filing_laws.proofs.Equal.{dims_same, dims_eq_itself, dims_total}
-use Rattle.filing_laws.proofs.Classes.{AreTogether, allows-class_by, empty_is_allowed, shut}
+use Rattle.filing_laws.specs.Obeying.{is_allowed, ObeysWhereEachCellIsAllowed, LeastDisallowedIsTheLeast, RepositoryObeysWhereNotRefused}
+use Rattle.filing_laws.proofs.EachElement.{Each}
 use Rattle.filing_model.proofs.EveryPair.{pairs_filter}
-
--- ---- the pairs of a cell
-
-either_pair : (a b : Bool) → is_apart (cond a pair.Complete (cond b pair.Consistent pair.Inconsistent)) ≡ false
-either_pair true b = refl
-either_pair false true = refl
-either_pair false false = refl
-
-text_pair : (a : Bool) → is_apart (cond a pair.Complete pair.Inconsistent) ≡ false
-text_pair true = refl
-text_pair false = refl
-
-values_not_apart : (v w : FactValue) → is_apart (value_pair v w) ≡ false
-values_not_apart Nil Nil = refl
-values_not_apart (Written s) (Written t) = text_pair (text_eq s t)
-values_not_apart (Number s n d) (Number t m e) = either_pair (int_eq n m && option_eq int_eq d e) (meets (interval_of n d) (interval_of m e))
-values_not_apart v w = refl
-
-in_one_cell : (dims : Dims) (f g : Fact) → has_dims dims f ≡ true → has_dims dims g ≡ true → not (is_apart (pair_of f g)) ≡ true
-in_one_cell dims f g in_f in_g =
-    ap (λ b. not (is_apart (cond b (value_pair f.value g.value) pair.Apart))) (subst (λ d. dims_eq d g.dims ≡ true) (dims_same dims f.dims in_f) in_g)
-    ∙ ap not (values_not_apart f.value g.value)
-
-pub passes_each : {A : Type 0} (p : A → Bool) (xs : List A) → Each (λ x. p x ≡ true) (filter p xs)
-passes_each p [] = tt
-passes_each p (x ∷ xs) = by (p x) refl (passes_each p xs)
-  where
-    by : (b : Bool) → p x ≡ b → Each (λ x. p x ≡ true) (filter p xs) → Each (λ x. p x ≡ true) (cond b (x ∷ filter p xs) (filter p xs))
-    by true is rest = (is, rest)
-    by false is rest = rest
-
-each_pair : (dims : Dims) (fs : List Fact) → Each (λ f. has_dims dims f ≡ true) fs → AreTogether pair_of fs
-each_pair dims [] each = refl
-each_pair dims (f ∷ fs) each = and_from _ _ (with_first dims f fs each.0 each.1) (each_pair dims fs each.1)
-  where
-    with_first : (dims : Dims) (f : Fact) (fs : List Fact) → has_dims dims f ≡ true → Each (λ f. has_dims dims f ≡ true) fs → list_all (λ g. not (is_apart (pair_of f g))) fs ≡ true
-    with_first dims f [] here each = refl
-    with_first dims f (g ∷ gs) here each = and_from _ _ (in_one_cell dims f g here each.0) (with_first dims f gs here each.1)
+use Rattle.filing_model.proofs.DimensionSets.{dims_same, dims_cmp-total}
+use Rattle.filing_model.proofs.AllowedClasses.{empty_is_allowed}
+use Rattle.filing_model.proofs.DisallowedCells.{allows-cell, permitted_by_cells}
 
 -- ---- cells
 
@@ -68,47 +28,6 @@ are_permitted a facts = every_pair (λ f g. permits a (pair_of f g)) facts
 
 abbrev pub facts_at : Dims → List Fact → List Fact
 facts_at dims facts = filter (has_dims dims) facts
-
--- a cell is allowed exactly where its pairs are permitted
-cell_allowed : (a : Allowed) (dims : Dims) (facts : List Fact) → allows a (class_of (facts_at dims facts)) ≡ are_permitted a (facts_at dims facts)
-cell_allowed a dims facts = allows-class_by pair_of a (facts_at dims facts) (each_pair dims (facts_at dims facts) (passes_each (has_dims dims) facts))
-
-abbrev CellsArePermitted : Allowed → List Fact → Type 0
-CellsArePermitted a facts = (dims : Dims) → are_permitted a (facts_at dims facts) ≡ true
-
-pairs_of_rest : (a : Allowed) (x : Fact) (xs : List Fact) → CellsArePermitted a (x ∷ xs) → CellsArePermitted a xs
-pairs_of_rest a x xs cells dims = by (has_dims dims x) (cells dims)
-  where
-    by : (b : Bool) → are_permitted a (cond b (x ∷ facts_at dims xs) (facts_at dims xs)) ≡ true → are_permitted a (facts_at dims xs) ≡ true
-    by true holds = (and_parts (list_all (λ g. permits a (pair_of x g)) (facts_at dims xs)) (are_permitted a (facts_at dims xs)) holds).1
-    by false holds = holds
-
-apart_is_permitted : (a : Allowed) → permits a pair.Apart ≡ true
-apart_is_permitted allowed.Never = refl
-apart_is_permitted allowed.Complete = refl
-apart_is_permitted allowed.Consistent = refl
-apart_is_permitted allowed.All = refl
-
--- a fact is permitted beside all where it is beside those of its cell
-first_with_all : (a : Allowed) (x : Fact) (xs : List Fact) → list_all (λ g. permits a (pair_of x g)) (facts_at x.dims xs) ≡ true → list_all (λ g. permits a (pair_of x g)) xs ≡ true
-first_with_all a x [] holds = refl
-first_with_all a x (y ∷ ys) holds = by (first_with_all a x ys) (has_dims x.dims y) refl holds
-  where
-    by : (list_all (λ g. permits a (pair_of x g)) (facts_at x.dims ys) ≡ true → list_all (λ g. permits a (pair_of x g)) ys ≡ true)
-        → (b : Bool) → has_dims x.dims y ≡ b → list_all (λ g. permits a (pair_of x g)) (cond b (y ∷ facts_at x.dims ys) (facts_at x.dims ys)) ≡ true
-        → (permits a (pair_of x y) && list_all (λ g. permits a (pair_of x g)) ys) ≡ true
-    by rest true is holds =
-        let parts = and_parts (permits a (pair_of x y)) (list_all (λ g. permits a (pair_of x g)) (facts_at x.dims ys)) holds in
-        and_from _ _ parts.0 (rest parts.1)
-    by rest false is holds = and_from _ _ (ap (λ b. permits a (cond b (value_pair x.value y.value) pair.Apart)) is ∙ apart_is_permitted a) (rest holds)
-
-all_permitted : (a : Allowed) (facts : List Fact) → CellsArePermitted a facts → are_permitted a facts ≡ true
-all_permitted a [] cells = refl
-all_permitted a (x ∷ xs) cells =
-    and_from _ _
-    (first_with_all a x xs (and_parts (list_all (λ g. permits a (pair_of x g)) (facts_at x.dims xs)) (are_permitted a (facts_at x.dims xs))
-    (ap (λ b. are_permitted a (cond b (x ∷ facts_at x.dims xs) (facts_at x.dims xs))) (sym (dims_eq_itself x.dims)) ∙ cells x.dims)).0)
-    (all_permitted a xs (pairs_of_rest a x xs cells))
 
 -- ---- the cells of a report, by its entries
 
@@ -121,12 +40,12 @@ facts-cell_of dims (e ∷ es) = by (facts-cell_of dims es) (has_dims dims e.1)
     by rest false = rest
 
 pub cell_is_permitted : (a : Allowed) (entries : List (Text × Fact)) (dims : Dims) → is_allowed a entries dims ≡ are_permitted a (facts_at dims (facts_of entries))
-cell_is_permitted a entries dims = ap (λ fs. allows a (class_of fs)) (facts-cell_of dims entries) ∙ cell_allowed a dims (facts_of entries)
+cell_is_permitted a entries dims = ap (λ fs. allows a (class_of fs)) (facts-cell_of dims entries) ∙ allows-cell a dims (facts_of entries)
 
 pub obeys_where_each_cell_is_allowed : ObeysWhereEachCellIsAllowed
 obeys_where_each_cell_is_allowed a entries = (
   λ obeys dims. cell_is_permitted a entries dims ∙ pairs_filter (λ f g. permits a (pair_of f g)) (has_dims dims) (facts_of entries) obeys,
-  λ each. all_permitted a (facts_of entries) (λ dims. sym (cell_is_permitted a entries dims) ∙ each dims),
+  λ each. permitted_by_cells a (facts_of entries) (λ dims. sym (cell_is_permitted a entries dims) ∙ each dims),
 )
 
 -- ---- the disallowed cells
@@ -138,7 +57,7 @@ has_these dims ds = list_any (dims_eq dims) ds
 no_facts_at : (dims : Dims) (facts : List Fact) → has_these dims (map (λ f. f.dims) facts) ≡ false → facts_at dims facts ≡ []
 no_facts_at dims [] none = refl
 no_facts_at dims (f ∷ fs) none =
-    let parts = neither (has_dims dims f) (has_these dims (map (λ f. f.dims) fs)) none in
+    let parts = or_parts (has_dims dims f) (has_these dims (map (λ f. f.dims) fs)) none in
     ap (λ b. cond b (f ∷ facts_at dims fs) (facts_at dims fs)) parts.0 ∙ no_facts_at dims fs parts.1
 
 -- a cell that is disallowed is that of a fact
@@ -148,6 +67,14 @@ disallowed_is_there a facts dims disallowed = by (has_these dims (map (λ f. f.d
     by : (b : Bool) → has_these dims (map (λ f. f.dims) facts) ≡ b → b ≡ true
     by true is = refl
     by false is = absurd (true≢false (sym disallowed ∙ ap (λ fs. not (allows a (class_of fs))) (no_facts_at dims facts is) ∙ ap not (empty_is_allowed a)))
+
+pub passes_each : {A : Type 0} (p : A → Bool) (xs : List A) → Each (λ x. p x ≡ true) (filter p xs)
+passes_each p [] = tt
+passes_each p (x ∷ xs) = by (p x) refl (passes_each p xs)
+  where
+    by : (b : Bool) → p x ≡ b → Each (λ x. p x ≡ true) (filter p xs) → Each (λ x. p x ≡ true) (cond b (x ∷ filter p xs) (filter p xs))
+    by true is rest = (is, rest)
+    by false is rest = rest
 
 pub kept_where_passed : (p : Dims → Bool) (dims : Dims) (ds : List Dims) → p dims ≡ true → has_these dims ds ≡ true → has_these dims (filter p ds) ≡ true
 kept_where_passed p dims [] passes there = there
@@ -171,31 +98,9 @@ pub nothing_least : (ds : List Dims) → least_dims ds ≡ None → ds ≡ []
 nothing_least [] none = refl
 nothing_least (d ∷ ds) none = let some : Some (fold (ord_min dims_cmp) d ds) ≡ None = sym (lesser_fold d ds) ∙ none in cc
 
--- where there is no least disallowed cell, each cell is allowed
-pub allowed_where_none : (a : Allowed) (facts : List Fact) → least_dims (disallowed_dims a facts) ≡ None → (dims : Dims) → is_disallowed a facts dims ≡ false
-allowed_where_none a facts none dims = by (is_disallowed a facts dims) refl
-  where
-    by : (b : Bool) → is_disallowed a facts dims ≡ b → b ≡ false
-    by true is = sym (disallowed_is_listed a facts dims is) ∙ ap (has_these dims) (nothing_least (disallowed_dims a facts) none)
-    by false is = refl
-
-none_passes : {A : Type 0} (p : A → Bool) → ((x : A) → p x ≡ false) → (xs : List A) → filter p xs ≡ []
-none_passes p fails [] = refl
-none_passes p fails (x ∷ xs) = ap (λ b. cond b (x ∷ filter p xs) (filter p xs)) (fails x) ∙ none_passes p fails xs
-
-allowed_back : (b : Bool) → not b ≡ false → b ≡ true
-allowed_back true e = refl
-allowed_back false e = absurd (true≢false e)
-
 -- by the cell of the facts and by that of the entries
 pub entries_allowed : (a : Allowed) (entries : List (Text × Fact)) (dims : Dims) → is_allowed a entries dims ≡ allows a (class_of (facts_at dims (facts_of entries)))
 entries_allowed a entries dims = ap (λ fs. allows a (class_of fs)) (facts-cell_of dims entries)
-
-pub obeys_where_no_cell_is_disallowed : ObeysWhereNoCellIsDisallowed
-obeys_where_no_cell_is_disallowed a entries = (
-  λ obeys. ap least_dims (none_passes (is_disallowed a (facts_of entries)) (λ dims. ap not (sym (entries_allowed a entries dims) ∙ (obeys_where_each_cell_is_allowed a entries).0 obeys dims)) (map (λ f. f.dims) (facts_of entries))),
-  λ none. (obeys_where_each_cell_is_allowed a entries).1 (λ dims. entries_allowed a entries dims ∙ allowed_back (allows a (class_of (facts_at dims (facts_of entries)))) (allowed_where_none a (facts_of entries) none dims)),
-)
 
 -- ---- the least of them
 
@@ -247,16 +152,13 @@ each_has P dims (d ∷ ds) each there = by (each_has P dims ds each.1) (dims_eq 
 pub least_of : (P : Dims → Type 0) (ds : List Dims) (dims : Dims) → Each P ds → least_dims ds ≡ Some dims → P dims × Each (λ d. is_gt (dims_cmp dims d) ≡ false) ds
 least_of P [] dims each is = let apart : None ≡ Some dims = is in cc
 least_of P (d ∷ ds) dims each is =
-    let same : fold (ord_min dims_cmp) d ds ≡ dims = some_same (fold (ord_min dims_cmp) d ds) dims (sym (lesser_fold d ds) ∙ is) in
+    let same : fold (ord_min dims_cmp) d ds ≡ dims = same_Some (fold (ord_min dims_cmp) d ds) dims (sym (lesser_fold d ds) ∙ is) in
     subst (λ m. P m × Each (λ d. is_gt (dims_cmp m d) ≡ false) (d ∷ ds)) same
-    (least_is_one dims_cmp dims_total P d ds each.0 each.1, (up_to_first dims_cmp dims_total d ds, up_to_each dims_cmp dims_total d ds))
-  where
-    some_same : (x y : Dims) → Some x ≡ Some y → x ≡ y
-    some_same x y e = cc
+    (least_is_one dims_cmp dims_cmp-total P d ds each.0 each.1, (up_to_first dims_cmp dims_cmp-total d ds, up_to_each dims_cmp dims_cmp-total d ds))
 
 pub least_disallowed_is_the_least : LeastDisallowedIsTheLeast
 least_disallowed_is_the_least a entries dims is = record {
-  disallowed = entries_allowed a entries dims ∙ shut (allows a (class_of (facts_at dims facts))) both.0;
+  disallowed = entries_allowed a entries dims ∙ not-true (allows a (class_of (facts_at dims facts))) both.0;
   least = λ lesser less. entries_allowed a entries lesser ∙ by lesser less (allows a (class_of (facts_at lesser facts))) refl;
 }
   where
@@ -270,7 +172,7 @@ least_disallowed_is_the_least a entries dims is = record {
     by lesser less true allowed = refl
     by lesser less false disallowed =
         let up_to = each_has (λ d. is_gt (dims_cmp dims d) ≡ false) lesser (disallowed_dims a facts) both.1 (disallowed_is_listed a facts lesser (ap not disallowed)) in
-        absurd (true≢false (ap (λ r. is_gt (ordering_reverse r)) (sym less) ∙ ap is_gt (sym (dims_total.antisymm dims lesser)) ∙ up_to))
+        absurd (true≢false (ap (λ r. is_gt (ordering_reverse r)) (sym less) ∙ ap is_gt (sym (dims_cmp-total.antisymm dims lesser)) ∙ up_to))
 
 -- ---- repositories
 

@@ -6,7 +6,7 @@ use Rattle.filing_model.specs.History.{Step, Load, Open, Ask, Commit, Close, Ent
 use Rattle.filing_model.specs.Lawful.{IsLawful, next_reply, reply_at_status, after_step, entered_under}
 use Rattle.filing_laws.specs.NextReply.{IsOfOpenSession, MayBeTaken}
 use Rattle.filing_laws.specs.Played.{SessionStep, played_on, played, steps_of, PlayedAreTheLawful}
-use Rattle.filing_laws.proofs.Serial.{next_reply_is_lawful, each_entry_follows_lawfully}
+use Rattle.filing_laws.proofs.UntouchedIsSerial.{next_reply_is_lawful, each_entry_follows_lawfully}
 
 -- ---- whatever is played is lawful
 

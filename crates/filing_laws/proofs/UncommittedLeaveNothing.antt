@@ -1,5 +1,5 @@
 -- A session that was not committed leaves the repository that would be there without its entries.
-use Rattle.std.proofs.Common.{◌≡◌, ◌∙◌, ap, sym, refl, subst, ℕ, ◌+◌, ◌==◌, arith, Bool, true, false, cond, not, ◌&&◌, [], ◌∷◌, ◌++◌, Option, Some, None, eq-eqb, eqb-true, ne_eqb, true≢false}
+use Rattle.std.proofs.Common.{◌≡◌, ◌∙◌, ap, sym, refl, subst, ℕ, ◌+◌, ◌==◌, arith, Bool, true, false, cond, not, ◌&&◌, [], ◌∷◌, ◌++◌, Option, Some, None, eq-eqb, eqb-true, ne_eqb, true≢false, append-nil}
 use Rattle.std.specs.Option.{option_map_or}
 use Rattle.filing_model.specs.Repository.{Repository}
 use Rattle.filing_model.specs.Replies as reply
@@ -8,9 +8,9 @@ use Rattle.filing_model.specs.History.{Step, Load, Open, Ask, Commit, Close, Ent
 use Rattle.filing_model.specs.Lawful.{IsLawful, IsNextStep, IsOngoing, openings}
 use Rattle.filing_laws.specs.WholeRuns.{is_commit, told_at_commit, IsCommitted, without}
 use Rattle.filing_model.specs.declared.kind.Kind.{Kind}
-use Rattle.filing_laws.proofs.Fresh.{not_opened, append_nothing}
+use Rattle.filing_laws.proofs.NotYetOpened.{not_opened}
 use Rattle.filing_laws.proofs.OwnReplies.{number_known}
-use Rattle.filing_laws.proofs.Cases.{EntryCase, Quiet, Accepted, Passed, entry_case, quiet_repository}
+use Rattle.filing_laws.proofs.EntryCases.{EntryCase, Quiet, Accepted, Passed, entry_case, quiet_repository}
 use Rattle.filing_laws.proofs.SessionRuns.{IsAt, part_of, where_it_stands}
 
 -- ---- what is known of another session
@@ -36,7 +36,7 @@ module _ (s n : ℕ) (other : (n == s) ≡ false) where
   calls_without (e ∷ older) = by (is_of s e) refl (calls_without older)
     where
       by : (mine : Bool) → is_of s e ≡ mine → calls_of n (without s older) ≡ calls_of n older → calls_of n (cond (not mine) (e ∷ without s older) (without s older)) ≡ calls_of n (e ∷ older)
-      by true mine rest = rest ∙ sym (ap (λ b. calls_of n older ++ cond b (call_in e.step) []) (apart s n other e.session mine) ∙ append_nothing (calls_of n older))
+      by true mine rest = rest ∙ sym (ap (λ b. calls_of n older ++ cond b (call_in e.step) []) (apart s n other e.session mine) ∙ append-nil (calls_of n older))
       by false not_mine rest = ap (λ calls. calls ++ cond (is_of n e) (call_in e.step) []) rest
 
 -- an entry of another session has the same effect

@@ -1,37 +1,17 @@
 -- What stands at each place of a repository in which one fact was put or removed.
-use Rattle.std.proofs.Common.{◌≡◌, ◌∙◌, ap, sym, refl, Bool, true, false, cond, not, ◌&&◌, Option, Some, None, is_some, option_map, option_and_then, true≢false}
+use Rattle.std.proofs.Common.{◌≡◌, ◌∙◌, ap, sym, refl, Bool, true, false, cond, ◌&&◌, Option, Some, None, is_some, option_map, option_and_then, true≢false}
 use Rattle.std.specs.Option.{option_map_or}
-use Rattle.std.specs.Cmp.Lexicographic.{nat_list_cmp_total}
-use Rattle.std.specs.FinMap.Entries.{find-put, find-where_key}
-use Rattle.std.proofs.lemmas.Cmp.{eq_by_cmp_equiv}
-use Rattle.filing_model.specs.Text.{Text, text_cmp, text_eq}
-use Rattle.filing_model.specs.TextMap.{TextMap, get, insert, remove}
+use Rattle.filing_model.specs.Text.{Text, text_eq}
+use Rattle.filing_model.specs.TextMap.{insert}
 use Rattle.filing_model.specs.Facts.{Fact, Names}
 use Rattle.filing_model.specs.Reports.{Report}
 use Rattle.filing_model.specs.Repository.{Repository, report_at, fact_in, fact_at, with_fact, with_fact_at}
-use Rattle.filing_laws.proofs.Equal.{text_same, text_tied}
+use Rattle.filing_model.proofs.Texts.{text_same}
+use Rattle.filing_model.proofs.TextMaps.{get-insert, get-remove}
 
 -- the names by which the facts of a report are read, where it is there
 abbrev pub names_at : Repository → Text → Option Names
 names_at c name = option_map (λ r. r.names) (report_at c name)
-
--- ---- maps
-
-pub get-insert : {X : Type 0} (m : TextMap X) (key : Text) (x : X) (q : Text) → get (insert m key x) q ≡ cond (text_eq q key) (Some x) (get m q)
-get-insert m key x q = find-put text_cmp nat_list_cmp_total q key x m.entries
-
-not_kept : {A : Type 0} (b : Bool) (x y : A) → cond (not b) x y ≡ cond b y x
-not_kept true x y = refl
-not_kept false x y = refl
-
-text_eq_back : (x y : Text) → text_eq x y ≡ text_eq y x
-text_eq_back x y = (eq_by_cmp_equiv nat_list_cmp_total).symm x y
-
-pub get-remove : {X : Type 0} (m : TextMap X) (key : Text) (q : Text) → get (remove m key) q ≡ cond (text_eq q key) None (get m q)
-get-remove m key q =
-    find-where_key text_cmp (λ k. not (text_eq key k)) q (λ x same. ap (λ k. not (text_eq key k)) (sym (text_tied q x same))) m.entries
-    ∙ not_kept (text_eq key q) (get m q) None
-    ∙ ap (λ b. cond b None (get m q)) (text_eq_back key q)
 
 -- ---- reports
 

@@ -19,10 +19,10 @@ use Rattle.filing_model.specs.Touches.{report_of_call, read_by, staged_at, stage
 use Rattle.filing_model.specs.declared.kind.Kind.{Kind}
 use Rattle.filing_model.specs.declared.kind.Kind.TheVariants.{Review, Amend}
 use Rattle.filing_model.specs.declared.faults.FactFault.{FactFault}
-use Rattle.filing_laws.proofs.Each.{Each, OnEach, each_mapped, each_parts, each_joined, IsNever, never_parts}
-use Rattle.filing_laws.proofs.Look.{names_at, names_at-with_fact_at, fact_at-with_fact_at}
-use Rattle.filing_laws.proofs.Agree.{Agree, report_of}
-use Rattle.filing_laws.proofs.Alike.{call_alike, got_reads, fitted_reads, removed_reads, there}
+use Rattle.filing_laws.proofs.EachElement.{Each, OnEach, each_mapped, each_parts, each_joined, IsNever, never_parts}
+use Rattle.filing_laws.proofs.WithOneFact.{names_at, names_at-with_fact_at, fact_at-with_fact_at}
+use Rattle.filing_laws.proofs.AgreeOnThings.{Agree, report_of}
+use Rattle.filing_laws.proofs.AnsweredAlike.{call_alike, got_reads, fitted_reads, removed_reads, there}
 
 -- what was read, as often as it was
 abbrev pub reads : List Call → List Reply → List Thing

@@ -1,5 +1,6 @@
 -- What holds of each element of a list, and of what an option holds.
-use Rattle.std.proofs.Common.{◌≡◌, refl, Bool, true, false, ◌||◌, List, [], ◌∷◌, ◌++◌, Option, Some, None, flat_map}
+use Rattle.std.proofs.Common.{◌≡◌, refl, Bool, false, ◌||◌, List, [], ◌∷◌, ◌++◌, Option, Some, None, flat_map}
+use Rattle.std.proofs.lemmas.Bool.{or_parts}
 use Rattle.std.specs.List.{list_any, cons_option}
 
 abbrev pub Each : {A : Type 0} → (A → Type 0) → List A → Type 0
@@ -27,12 +28,8 @@ each_joined P (Some x) xs h hs = (h, hs)
 abbrev pub IsNever : {A : Type 0} → (A → Bool) → List A → Type 0
 IsNever test xs = list_any test xs ≡ false
 
-pub neither : (a b : Bool) → (a || b) ≡ false → (a ≡ false) × (b ≡ false)
-neither true b e = cc
-neither false b e = (refl, e)
-
 pub never_parts : {A : Type 0} (test : A → Bool) (x : A) (xs : List A) → IsNever test (x ∷ xs) → (test x ≡ false) × IsNever test xs
-never_parts test x xs h = neither (test x) (list_any test xs) h
+never_parts test x xs h = or_parts (test x) (list_any test xs) h
 
 pub never_appended : {A : Type 0} (test : A → Bool) (xs ys : List A) → IsNever test (xs ++ ys) → IsNever test xs × IsNever test ys
 never_appended test [] ys h = (refl, h)

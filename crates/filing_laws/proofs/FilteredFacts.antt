@@ -1,56 +1,35 @@
 -- The facts of a report that pass a test are one list, whichever report they are seen in.
-use Rattle.std.proofs.Common.{◌≡◌, ◌∙◌, ap, sym, refl, subst, Bool, true, false, cond, ◌&&◌, T, List, [], ◌∷◌, Option, Some, None, filter, Ordering, Less, Equal, Greater, is_lt, is_eq}
+use Rattle.std.proofs.Common.{◌≡◌, ◌∙◌, ap, sym, refl, subst, Bool, true, false, cond, T, List, [], ◌∷◌, Option, Some, None, filter, is_lt}
 use Rattle.std.specs.Cmp.Lexicographic.{nat_list_cmp_total}
 use Rattle.std.specs.FinMap.Entries.{find, is_sorted, below_all, same_entries}
 use Rattle.filing_model.specs.Text.{Text, text_cmp, text_eq}
 use Rattle.filing_model.specs.TextMap.{TextMap, get}
 use Rattle.filing_model.specs.Facts.{Fact}
-use Rattle.filing_laws.proofs.Equal.{text_same, text_tied}
+use Rattle.filing_model.proofs.Texts.{text_same, text_cmp-Equal}
+use Rattle.filing_model.proofs.Tests.{both_hold, first_holds, second_holds}
+use Rattle.filing_model.proofs.MapsOfLists.{below_is_not_found}
 
 -- the fact where it passes the test
 abbrev pub only : (Fact → Bool) → Option Fact → Option Fact
 only test None = None
 only test (Some fact) = cond (test fact) (Some fact) None
 
-pub both : (a b : Bool) → T a → T b → T (a && b)
-both true b p q = q
-both false b p q = absurd p
-
-pub first : (a b : Bool) → T (a && b) → T a
-first true b p = tt
-first false b p = absurd p
-
-pub second : (a b : Bool) → T (a && b) → T b
-second true b p = p
-second false b p = absurd p
-
-not_tied : (o : Ordering) → T (is_lt o) → is_eq o ≡ false
-not_tied Less p = refl
-not_tied Equal p = absurd p
-not_tied Greater p = absurd p
-
-pub below_is_not_found : {X : Type 0} (q : Text) (es : List (Text × X)) → T (below_all text_cmp q es) → find text_cmp q es ≡ None
-below_is_not_found q [] h = refl
-below_is_not_found q (e ∷ es) h =
-    ap (λ b. cond b (Some e.1) (find text_cmp q es)) (not_tied (text_cmp q e.0) (first (is_lt (text_cmp q e.0)) (below_all text_cmp q es) h))
-    ∙ below_is_not_found q es (second (is_lt (text_cmp q e.0)) (below_all text_cmp q es) h)
-
 module _ (test : Fact → Bool) where
   below-filter : (x : Text) (es : List (Text × Fact)) → T (below_all text_cmp x es) → T (below_all text_cmp x (filter (λ e. test e.1) es))
   below-filter x [] h = tt
   below-filter x (e ∷ es) h =
-      let rest = below-filter x es (second (is_lt (text_cmp x e.0)) (below_all text_cmp x es) h) in
+      let rest = below-filter x es (second_holds (is_lt (text_cmp x e.0)) (below_all text_cmp x es) h) in
       elim (test e.1) as (λ b. T (below_all text_cmp x (cond b (e ∷ filter (λ e. test e.1) es) (filter (λ e. test e.1) es)))) [
-        | true ↦ both _ _ (first (is_lt (text_cmp x e.0)) (below_all text_cmp x es) h) rest
+        | true ↦ both_hold _ _ (first_holds (is_lt (text_cmp x e.0)) (below_all text_cmp x es) h) rest
         | false ↦ rest
       ]
 
   sorted-filter : (es : List (Text × Fact)) → T (is_sorted text_cmp es) → T (is_sorted text_cmp (filter (λ e. test e.1) es))
   sorted-filter [] h = tt
   sorted-filter (e ∷ es) h =
-      let rest = sorted-filter es (second (below_all text_cmp e.0 es) (is_sorted text_cmp es) h) in
+      let rest = sorted-filter es (second_holds (below_all text_cmp e.0 es) (is_sorted text_cmp es) h) in
       elim (test e.1) as (λ b. T (is_sorted text_cmp (cond b (e ∷ filter (λ e. test e.1) es) (filter (λ e. test e.1) es)))) [
-        | true ↦ both _ _ (below-filter e.0 es (first (below_all text_cmp e.0 es) (is_sorted text_cmp es) h)) rest
+        | true ↦ both_hold _ _ (below-filter e.0 es (first_holds (below_all text_cmp e.0 es) (is_sorted text_cmp es) h)) rest
         | false ↦ rest
       ]
 
@@ -65,10 +44,10 @@ module _ (test : Fact → Bool) where
 
   pub find-filter : (q : Text) (es : List (Text × Fact)) → T (is_sorted text_cmp es) → find text_cmp q (filter (λ e. test e.1) es) ≡ only test (find text_cmp q es)
   find-filter q [] h = refl
-  find-filter q (e ∷ es) h = found q e es (first (below_all text_cmp e.0 es) (is_sorted text_cmp es) h) (text_eq q e.0) (test e.1) refl refl (find-filter q es (second (below_all text_cmp e.0 es) (is_sorted text_cmp es) h))
+  find-filter q (e ∷ es) h = found q e es (first_holds (below_all text_cmp e.0 es) (is_sorted text_cmp es) h) (text_eq q e.0) (test e.1) refl refl (find-filter q es (second_holds (below_all text_cmp e.0 es) (is_sorted text_cmp es) h))
 
   -- maps that show the same facts that pass have the same entries that pass
   pub those_same : (m n : TextMap Fact) → ((id : Text) → only test (get m id) ≡ only test (get n id)) → filter (λ e. test e.1) m.entries ≡ filter (λ e. test e.1) n.entries
   those_same m n alike =
-      same_entries text_cmp nat_list_cmp_total text_tied (filter (λ e. test e.1) m.entries) (filter (λ e. test e.1) n.entries) (sorted-filter m.entries m.sorted) (sorted-filter n.entries n.sorted)
+      same_entries text_cmp nat_list_cmp_total text_cmp-Equal (filter (λ e. test e.1) m.entries) (filter (λ e. test e.1) n.entries) (sorted-filter m.entries m.sorted) (sorted-filter n.entries n.sorted)
       (λ q. find-filter q m.entries m.sorted ∙ alike q ∙ sym (find-filter q n.entries n.sorted))

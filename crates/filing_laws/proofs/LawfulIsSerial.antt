@@ -5,11 +5,11 @@ use Rattle.filing_model.specs.Lawful.{IsLawful}
 use Rattle.filing_model.specs.declared.kind.Kind.{Kind}
 use Rattle.filing_laws.specs.Played.{played}
 use Rattle.filing_laws.specs.WholeRuns.{all_replies_of, kind_of, ending_of, AreSoloReplies, CommittedSessionsRunWholeAtTheirCommit, EachLawfulHistoryIsSerial, EachOrderOfStepsIsSerial}
-use Rattle.filing_laws.proofs.Playing.{played_is_lawful}
+use Rattle.filing_laws.proofs.PlayedHistories.{played_is_lawful}
 use Rattle.filing_laws.proofs.SessionRuns.{known}
-use Rattle.filing_laws.proofs.Leaving.{leaves}
-use Rattle.filing_laws.proofs.Chain.{each_version_obeys}
-use Rattle.filing_laws.proofs.InTurn.{in_turn, newest, other_entries}
+use Rattle.filing_laws.proofs.UncommittedLeaveNothing.{leaves}
+use Rattle.filing_laws.proofs.VersionChain.{each_version_obeys}
+use Rattle.filing_laws.proofs.RepositoryInTurn.{in_turn, newest, other_entries}
 
 run_whole : (h : History) → IsLawful h → CommittedSessionsRunWholeAtTheirCommit h
 run_whole h lawful s (n, told) =

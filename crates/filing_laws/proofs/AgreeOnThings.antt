@@ -6,9 +6,9 @@ use Rattle.filing_model.specs.Duplicates.{has_dims}
 use Rattle.filing_model.specs.Queries.{answers_query}
 use Rattle.filing_model.specs.Repository.{Repository, report_at, fact_at, with_fact_at}
 use Rattle.filing_model.specs.Things.{Thing, Report, Id, Cell, Query}
-use Rattle.filing_laws.proofs.Equal.{text_eq_itself}
-use Rattle.filing_laws.proofs.Look.{names_at, names_at-with_fact_at, fact_at-with_fact_at}
-use Rattle.filing_laws.proofs.Those.{only}
+use Rattle.filing_model.proofs.Texts.{text_eq-refl}
+use Rattle.filing_laws.proofs.WithOneFact.{names_at, names_at-with_fact_at, fact_at-with_fact_at}
+use Rattle.filing_laws.proofs.FilteredFacts.{only}
 
 -- where a thing lies
 abbrev pub report_of : Thing → Text
@@ -37,9 +37,9 @@ agree_then t c d e a b = record { names = a.names ∙ b.names; facts = λ id. a.
 -- of an identifier they show the fact
 pub agree_fact : (name id : Text) (c d : Repository) → Agree (Id name id) c d → fact_at c name id ≡ fact_at d name id
 agree_fact name id c d a =
-    sym (ap (λ b. cond b (fact_at c name id) None) (text_eq_itself id))
+    sym (ap (λ b. cond b (fact_at c name id) None) (text_eq-refl id))
     ∙ a.facts id
-    ∙ ap (λ b. cond b (fact_at d name id) None) (text_eq_itself id)
+    ∙ ap (λ b. cond b (fact_at d name id) None) (text_eq-refl id)
 
 shown_either : (t : Thing) (q : Text) (b : Bool) (fact x y : Option Fact) → shown t q x ≡ shown t q y → shown t q (cond b fact x) ≡ shown t q (cond b fact y)
 shown_either t q true fact x y same = refl

@@ -21,10 +21,10 @@ use Rattle.filing_model.specs.Touches.{report_of_call, read_by}
 use Rattle.filing_model.specs.declared.kind.Kind.{Kind}
 use Rattle.filing_model.specs.declared.kind.Kind.TheVariants.{Review, Amend}
 use Rattle.filing_model.specs.declared.faults.FactFault.{FactFault}
-use Rattle.filing_laws.proofs.Each.{OnEach}
-use Rattle.filing_laws.proofs.Look.{names_at}
-use Rattle.filing_laws.proofs.Those.{only, those_same}
-use Rattle.filing_laws.proofs.Agree.{Agree, report_of, agree_fact, agree_kept}
+use Rattle.filing_laws.proofs.EachElement.{OnEach}
+use Rattle.filing_laws.proofs.WithOneFact.{names_at}
+use Rattle.filing_laws.proofs.FilteredFacts.{only, those_same}
+use Rattle.filing_laws.proofs.AgreeOnThings.{Agree, report_of, agree_fact, agree_kept}
 
 -- they agree on what was read, if anything was
 abbrev pub AgreeOn : Option Thing → Repository → Repository → Type 0

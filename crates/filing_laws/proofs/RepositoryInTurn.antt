@@ -1,5 +1,5 @@
 -- The repository of a lawful history is that of the sequential repository after its turns, and the newest of its versions.
-use Rattle.std.proofs.Common.{◌≡◌, ◌∙◌, ap, sym, refl, subst, ℕ, ◌+◌, Bool, true, false, cond, List, [], ◌∷◌, ◌++◌, Option, Some, None, true≢false}
+use Rattle.std.proofs.Common.{◌≡◌, ◌∙◌, ap, sym, refl, subst, ℕ, ◌+◌, Bool, true, false, cond, List, [], ◌∷◌, ◌++◌, Option, Some, None, true≢false, append-nil}
 use Rattle.std.specs.List.{last_or}
 use Rattle.std.specs.Option.{option_map_or}
 use Rattle.filing_model.specs.Repository.{Repository, nothing}
@@ -8,11 +8,10 @@ use Rattle.filing_model.specs.Replies.{Reply}
 use Rattle.filing_model.specs.History.{Step, Entry, History, repository}
 use Rattle.filing_model.specs.Lawful.{IsLawful}
 use Rattle.filing_model.specs.Versions.{counts, versions}
+use Rattle.filing_model.proofs.NextReply.{older_is_lawful}
 use Rattle.filing_laws.specs.Numbers.{IsEntryOf}
 use Rattle.filing_laws.specs.WholeRuns.{is_accepted, Turn, after_turn, after_turns, turn_in, turns_of}
-use Rattle.filing_laws.proofs.Fresh.{append_nothing}
-use Rattle.filing_laws.proofs.Cases.{EntryCase, Quiet, Accepted, Passed, entry_case, passed_copy, quiet_repository}
-use Rattle.filing_laws.proofs.Counting.{older_is_lawful}
+use Rattle.filing_laws.proofs.EntryCases.{EntryCase, Quiet, Accepted, Passed, entry_case, passed_copy, quiet_repository}
 
 -- ---- turns
 
@@ -53,7 +52,7 @@ newest (e ∷ older) = by (counts e.reply) refl (newest older)
   where
     by : (b : Bool) → counts e.reply ≡ b → last_or None (versions older) ≡ Some (repository older) → last_or None (versions older ++ cond b (repository (e ∷ older) ∷ []) []) ≡ Some (repository (e ∷ older))
     by true is rest = last_pushed None (versions older) (repository (e ∷ older))
-    by false quiet rest = ap (last_or None) (append_nothing (versions older)) ∙ rest ∙ ap Some (sym (quiet_repository older e quiet))
+    by false quiet rest = ap (last_or None) (append-nil (versions older)) ∙ rest ∙ ap Some (sym (quiet_repository older e quiet))
 
 -- ---- every other entry
 
