@@ -1,16 +1,15 @@
 -- Calls of devices, one after another.
-use Rattle.std.proofs.Common.{◌≡◌, ℕ, ◌+◌, ◌<◌, [], ◌++◌, length, take, drop, refl, sym, ◌∙◌, ap, subst, arith, append_assoc}
+use Rattle.std.proofs.Common.{◌≡◌, ℕ, [], ◌++◌, take, drop, refl, sym, ◌∙◌, ap, arith, append_assoc, append-nil}
 use Rattle.std.specs.declared.option.Option.{Option}
 use Rattle.std.specs.declared.option.Option.TheVariants.{None, Some}
 use Rattle.std.specs.Io.KnownBytes.{Keeps, Appends, Consumes}
 use Rattle.std.proofs.lemmas.List.{take-append-drop}
 use Rattle.filing_cli.specs.Text.{Text}
 use Rattle.filing_cli.specs.Devices.{SinkState, Took, TookPart}
-use Rattle.filing_cli.proofs.Nothing.{append_nil}
 
 pub appends_none : (known : Option Text) → Appends known known []
 appends_none None = tt
-appends_none (Some xs) = sym (append_nil xs)
+appends_none (Some xs) = sym (append-nil xs)
 
 pub appends_more : (a b c : Option Text) (x y : Text) → Appends a b x → Appends b c y → Appends a c (x ++ y)
 appends_more None b c x y p q = tt
@@ -78,18 +77,3 @@ up_to_more {b = b} {c = c} {rest = rest} {rest' = rest'} count p appended same i
       parts = p.parts ∙ (ap (λ m. p.front ++ m) cut ∙ sym (append_assoc p.front (take count rest) rest'));
       took = took_more p.took step;
     }
-
-pub up_to_all : {a b : SinkState} {bytes rest : Text} → IsUpTo a b bytes rest → rest ≡ [] → Took a b bytes 0
-up_to_all {a} {b} {bytes} {rest} p empty =
-    let whole : p.front ≡ bytes = sym (p.parts ∙ (ap (λ m. p.front ++ m) empty ∙ append_nil p.front)) in
-    subst (λ m. Took a b m 0) whole p.took
-
-pub up_to_failed : {a b c : SinkState} {bytes rest : Text} → IsUpTo a b bytes rest → 0 < length rest
-    → Keeps b.written c.written → c.failed ≡ b.failed + 1 → TookPart a c bytes
-up_to_failed {a} {b} {c} {rest = rest} p some kept counted = record {
-  part = p.front;
-  left = rest;
-  parts = p.parts;
-  some_left = some;
-  took = record { bytes = appends_kept a.written b.written c.written p.front p.took.bytes kept; failures = omega (arith, p.took.failures) };
-}

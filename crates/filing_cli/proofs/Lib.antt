@@ -1,13 +1,15 @@
-pub mod Nothing
+-- ---- devices, and the lines and replies that pass through them
 pub mod DeviceSteps
-pub mod Cuts
-pub mod Sending
-pub mod Taking
-pub mod Reading
-pub mod Examples
-pub mod Answering
-pub mod Freeing
-pub mod Busy
-pub mod Refusing
-pub mod Loads
+pub mod CutLines
+pub mod SentReplies
+pub mod TakenLines
+pub mod RunByReads
+-- ---- the lines of a script
+pub mod AnsweringMachines
+pub mod FreedNames
+pub mod BusySessions
+pub mod RefusedReports
+pub mod ReportOfLoad
 pub mod Scripts
+-- ---- examples that compute
+pub mod Examples

@@ -10,8 +10,8 @@ use Rattle.filing_cli.specs.Script.{State, start, line_answer, script_output, sc
 use Rattle.filing_cli.specs.ScriptRun.{IsReply, IsScriptEnded, IsScriptStopped}
 use Rattle.filing_cli.specs.declared.fault.ScriptFault.{ScriptFault}
 use Rattle.filing_cli.specs.declared.fault.ScriptFault.TheVariants.{NoMemory}
-use Rattle.filing_cli.proofs.Answering.{answers_of_function}
-use Rattle.filing_cli.proofs.Reading.{starved_at_once}
+use Rattle.filing_cli.proofs.AnsweringMachines.{answers_of_function}
+use Rattle.filing_cli.proofs.RunByReads.{starved_at_once}
 
 pub script_ended : (table : Table) (before after : State) (source source' : SourceState) (sink sink' : SinkState) (history : History)
     → IsAnswered IsReply before after source source' sink sink' → before ≡ start table → history ≡ after.history → IsScriptEnded table source source' sink sink' history

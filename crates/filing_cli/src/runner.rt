@@ -156,7 +156,7 @@ impl Runner {
     }
 
     /// Answers a load.
-    #[tactic(auto, using(crate::proofs::Refusing::load_is_refused))]
+    #[tactic(auto, using(crate::proofs::RefusedReports::load_is_refused))]
     fn load(&mut self, alloc: Global, name: String, report: Value) -> Result<String, AllocError>
         ensures { IfOk result (λ text. answered self.old (judged_load self.old (string_bytes name) (report_in self.old.table (view report))) ≡ (string_bytes text, self.new)) }
     {
@@ -261,7 +261,7 @@ impl Runner {
     }
 
     /// Answers a line that is JSON. The report of a load moves out of it.
-    #[tactic(auto, using(crate::proofs::Loads::loaded_part))]
+    #[tactic(auto, using(crate::proofs::ReportOfLoad::loaded_part))]
     fn answer_value(&mut self, alloc: Global, value: Value) -> Result<String, AllocError>
         ensures { IfOk result (λ text. value_answer self.old (Some (view value)) ≡ (string_bytes text, self.new)) }
     {

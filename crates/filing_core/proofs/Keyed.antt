@@ -1,22 +1,23 @@
 -- What the contracts of `BTreeMap` say of the finite map that it is.
-use Rattle.std.proofs.Common.{◌≡◌, ◌∙◌, ap, sym, refl, subst, T, ℕ, suc, ◌+◌, ◌<◌, arith, length, take, get_or, List, [], ◌∷◌, ◌++◌, Some, Bool, ◌&&◌, cond, true, false, is_some}
+use Rattle.std.proofs.Common.{◌≡◌, ◌∙◌, ap, sym, refl, subst, T, ℕ, suc, ◌+◌, ◌<◌, arith, length, take, get_or, List, [], ◌∷◌, ◌++◌, Some, cond, true, false, is_some}
 use Rattle.std.specs.Prelude.{String, string_bytes, option_map}
 use Rattle.std.specs.declared.alloc.Global.{Global}
-use Rattle.std.specs.declared.cmp.Ordering.{Ordering}
 use Rattle.std.specs.declared.cmp.Ordering.TheVariants.{Less, Equal, Greater}
 use Rattle.std.specs.Ordering.{match_ordering, is_eq, is_lt}
 use Rattle.std.specs.String.{string_cmp}
 use Rattle.std.specs.Map.{lookup, keys_of, set_value}
-use Rattle.std.specs.List.{AllZip, AllByRecursion}
+use Rattle.std.specs.List.{AllByRecursion}
 use Rattle.std.specs.List.Sorted.{IsStrictlySortedBy}
-use Rattle.std.specs.FinMap.{slice_cmp-IsAntisymmetric, nat_cmp-IsAntisymmetric}
 use mathlib.Core.Bool.{true≢false}
 use Rattle.std.specs.BTreeMap.{insert_entry, is_at}
 use Rattle.std.specs.FinMap.Entries.{find, put, by_order, below_all, is_sorted}
 use Rattle.filing_model.specs.Text.{Text, text_cmp, text_eq}
 use Rattle.filing_model.specs.TextMap.{TextMap, get, insert, from_entries}
 use Rattle.filing_model.proofs.TextMaps.{get-from_entries, from_entries-put, get-insert, same_map}
-use Rattle.filing_core.proofs.Laid.{from_entries_sorted}
+use Rattle.filing_model.proofs.Tests.{both_hold}
+use Rattle.filing_model.proofs.Texts.{text_same}
+use Rattle.filing_model.proofs.MapsOfLists.{from_entries-sorted}
+use Rattle.filing_core.proofs.Laid.{laid_entries_more}
 use Rattle.std.proofs.Math.Seq.{take-suc}
 use Rattle.filing_core.specs.Keyed.{entry_of, keyed, keyed_map}
 use Rattle.filing_core.specs.Laid.{laid, laid_entries}
@@ -49,33 +50,15 @@ keyed_map_insert_entry f es k v = ap (λ x. from_entries x) (keyed-insert_entry 
 -- the keys of a tree rise, so its entries are those of the map
 sorted_below : {V X : Type 0} (f : V → X) (k : String Global) (es : List (String Global × V)) → AllByRecursion (λ y. string_cmp k y ≡ Less) (keys_of es) → T (below_all text_cmp (string_bytes k) (keyed f es))
 sorted_below f k [] h = tt
-sorted_below f k (e ∷ es) (less, rest) = both _ _ (subst (λ o. T (is_lt o)) (sym less) tt) (sorted_below f k es rest)
-  where
-    both : (a b : Bool) → T a → T b → T (a && b)
-    both true b p q = q
-    both false b p q = p
+sorted_below f k (e ∷ es) (less, rest) = both_hold _ _ (subst (λ o. T (is_lt o)) (sym less) tt) (sorted_below f k es rest)
 
 pub sorted_keyed : {V X : Type 0} (f : V → X) (es : List (String Global × V)) → IsStrictlySortedBy string_cmp (keys_of es) → T (is_sorted text_cmp (keyed f es))
 unfolding IsStrictlySortedBy
 sorted_keyed f [] h = tt
-sorted_keyed f (e ∷ es) (below, rest) = both _ _ (sorted_below f e.0 es below) (sorted_keyed f es rest)
-  where
-    both : (a b : Bool) → T a → T b → T (a && b)
-    both true b p q = q
-    both false b p q = p
+sorted_keyed f (e ∷ es) (below, rest) = both_hold _ _ (sorted_below f e.0 es below) (sorted_keyed f es rest)
 
 pub entries-keyed_map : {V X : Type 0} (f : V → X) (es : List (String Global × V)) → IsStrictlySortedBy string_cmp (keys_of es) → (keyed_map f es).entries ≡ keyed f es
-entries-keyed_map f es h = from_entries_sorted (keyed f es) (sorted_keyed f es h)
-
-keyed_clone : {V X : Type 0} (f : V → X) (es fs : List (String Global × V)) → AllZip (λ p q. (string_bytes q.0 ≡ string_bytes p.0) × (f q.1 ≡ f p.1)) es fs → keyed f fs ≡ keyed f es
-keyed_clone f [] [] h = refl
-keyed_clone f [] (q ∷ fs) h = absurd h
-keyed_clone f (p ∷ es) [] h = absurd h
-keyed_clone f (p ∷ es) (q ∷ fs) (same, rest) = λ i. (same.0 i, same.1 i) ∷ keyed_clone f es fs rest i
-
--- a clone of the tree is the same map
-pub keyed_map_clone : {V X : Type 0} (f : V → X) (es fs : List (String Global × V)) → AllZip (λ p q. (string_bytes q.0 ≡ string_bytes p.0) × (f q.1 ≡ f p.1)) es fs → keyed_map f fs ≡ keyed_map f es
-keyed_map_clone f es fs h = ap (λ x. from_entries x) (keyed_clone f es fs h)
+entries-keyed_map f es h = from_entries-sorted (keyed f es) (sorted_keyed f es h)
 
 -- ---- a loop over a tree that puts its entries into a map
 
@@ -98,10 +81,6 @@ laid_end f left es all base left_is rising before =
 
 -- ---- a loop over a list that puts its entries into a map
 
-laid_more : {X : Type 0} (es : List (Text × X)) (e : Text × X) (base : TextMap X) → laid_entries (es ++ e ∷ []) base ≡ insert (laid_entries es base) e.0 e.1
-laid_more [] e base = refl
-laid_more (x ∷ es) e base = laid_more es e (insert base x.0 x.1)
-
 keyed_more : {V X : Type 0} (f : V → X) (es : List (String Global × V)) (e : String Global × V) → keyed f (es ++ e ∷ []) ≡ keyed f es ++ entry_of f e ∷ []
 keyed_more f [] e = refl
 keyed_more f (x ∷ es) e = λ i. entry_of f x ∷ keyed_more f es e i
@@ -111,24 +90,16 @@ pub put_next : {V X : Type 0} (f : V → X) (es : List (String Global × V)) (n 
     → insert (laid_entries (keyed f (take n es)) base) (string_bytes (get_or es n d).0) (f (get_or es n d).1) ≡ laid_entries (keyed f (take (n + 1) es)) base
 put_next f es n d base low =
     let next : suc n ≡ n + 1 = omega arith in
-    sym (laid_more (keyed f (take n es)) (entry_of f (get_or es n d)) base)
+    sym (laid_entries_more (keyed f (take n es)) (entry_of f (get_or es n d)) base)
     ∙ ap (λ xs. laid_entries xs base) (sym (keyed_more f (take n es) (get_or es n d)))
     ∙ ap (λ xs. laid_entries (keyed f xs) base) (sym (take-suc es n d low))
     ∙ ap (λ k. laid_entries (keyed f (take k es)) base) next
 
 -- ---- a value that is written through `get_mut`
 
-order_of_equal : (o : Ordering) → is_eq o ≡ true → o ≡ Equal
-order_of_equal Less p = absurd (subst T (sym p) tt)
-order_of_equal Equal p = refl
-order_of_equal Greater p = absurd (subst T (sym p) tt)
-
-pub same_text : (x y : Text) → text_eq x y ≡ true → x ≡ y
-same_text x y p = slice_cmp-IsAntisymmetric nat_cmp-IsAntisymmetric x y (order_of_equal _ p)
-
--- both keys tie with the one that is looked for, and so with each other
+-- both_hold keys tie with the one that is looked for, and so with each other
 contradiction : (r q k : Text) → text_eq r k ≡ true → text_eq r q ≡ true → text_eq q k ≡ true
-contradiction r q k rk rq = ap (λ x. text_eq x k) (sym (same_text r q rq)) ∙ rk
+contradiction r q k rk rq = ap (λ x. text_eq x k) (sym (text_same r q rq)) ∙ rk
 
 find-set_value : {V X : Type 0} (f : V → X) (q r : Text) (es : List (String Global × V)) (w : V) → is_some (lookup (is_at (λ k. text_cmp q (string_bytes k))) es) ≡ true
     → find text_cmp r (keyed f (set_value (is_at (λ k. text_cmp q (string_bytes k))) es w)) ≡ cond (text_eq r q) (Some (f w)) (find text_cmp r (keyed f es))
@@ -137,10 +108,10 @@ find-set_value {V} {X} f q r (e ∷ es) w there =
     elim (text_eq q (string_bytes e.0)) as (λ b. text_eq q (string_bytes e.0) ≡ b → is_some (cond b (Some e.1) (lookup (is_at (λ k. text_cmp q (string_bytes k))) es)) ≡ true
     → find text_cmp r (keyed f (cond b ((e.0, w) ∷ es) (e ∷ set_value (is_at (λ k. text_cmp q (string_bytes k))) es w))) ≡ cond (text_eq r q) (Some (f w)) (find text_cmp r (keyed f (e ∷ es)))) [
       | true ↦ λ same _.
-          ap (λ x. cond (text_eq r x) (Some (f w)) (find text_cmp r (keyed f es))) (sym (same_text q (string_bytes e.0) same))
+          ap (λ x. cond (text_eq r x) (Some (f w)) (find text_cmp r (keyed f es))) (sym (text_same q (string_bytes e.0) same))
           ∙ elim (text_eq r q) as (λ b. text_eq r q ≡ b → cond b (Some (f w)) (find text_cmp r (keyed f es)) ≡ cond b (Some (f w)) (cond (text_eq r (string_bytes e.0)) (Some (f e.1)) (find text_cmp r (keyed f es)))) [
             | true ↦ λ _. refl
-            | false ↦ λ apart. ap (λ b. cond b (Some (f e.1)) (find text_cmp r (keyed f es))) (sym (ap (λ x. text_eq r x) (sym (same_text q (string_bytes e.0) same)) ∙ apart))
+            | false ↦ λ apart. ap (λ b. cond b (Some (f e.1)) (find text_cmp r (keyed f es))) (sym (ap (λ x. text_eq r x) (sym (text_same q (string_bytes e.0) same)) ∙ apart))
           ] refl
       | false ↦ λ other is_there.
           elim (text_eq r (string_bytes e.0)) as (λ b. text_eq r (string_bytes e.0) ≡ b → cond b (Some (f e.1)) (find text_cmp r (keyed f (set_value (is_at (λ k. text_cmp q (string_bytes k))) es w))) ≡ cond (text_eq r q) (Some (f w)) (cond b (Some (f e.1)) (find text_cmp r (keyed f es)))) [

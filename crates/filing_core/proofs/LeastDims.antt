@@ -1,13 +1,14 @@
 -- The least of some dimensions, whatever their order.
-use Rattle.std.proofs.Common.{◌≡◌, ◌∙◌, ap, sym, refl, Bool, true, false, cond, ◌&&◌, ◌||◌, List, [], ◌∷◌, filter, fold, Some, Ordering, Less, Equal, Greater, is_lt, is_eq, true≢false, IsPermutation}
+use Rattle.std.proofs.Common.{◌≡◌, ◌∙◌, ap, sym, refl, Bool, true, false, cond, ◌&&◌, ◌||◌, List, [], ◌∷◌, filter, fold, Some, Ordering, Less, Equal, Greater, is_lt, true≢false, IsPermutation, T, subst}
 use Rattle.std.specs.List.{list_any}
 use Rattle.std.specs.Ordering.{ord_min, ordering_reverse}
-use Rattle.std.proofs.lemmas.Bool.{or_parts}
+use Rattle.std.proofs.lemmas.Bool.{or_parts, or_right}
 use Rattle.std.proofs.lemmas.Cmp.{tied_itself}
 use Rattle.std.proofs.lemmas.List.Sorted.{list_any-IsPermutation}
 use Rattle.filing_model.specs.Dimensions.{Dims, dims_cmp, dims_eq}
 use Rattle.filing_model.specs.Duplicates.{lesser_dims, least_dims}
-use Rattle.filing_model.proofs.DimensionSets.{dims_cmp-total, dims_cmp-Equal, dims_decides}
+use Rattle.filing_model.proofs.DimensionSets.{dims_cmp-total, dims_cmp-Equal, dims_decides, dims_eq-refl}
+use Rattle.filing_model.proofs.Tests.{less_from_is_lt}
 
 -- ---- two dimension sets
 
@@ -23,17 +24,9 @@ neither_less d e p q = dims_cmp-Equal d e (level (dims_cmp d e) p (ap is_lt (sym
 pub not_less_itself : (d : Dims) → is_lt (dims_cmp d d) ≡ false
 not_less_itself d = ap is_lt (tied_itself dims_cmp-total d)
 
-pub same_itself : (d : Dims) → dims_eq d d ≡ true
-same_itself d = ap is_eq (tied_itself dims_cmp-total d)
-
-by_less : (o : Ordering) → is_lt o ≡ true → o ≡ Less
-by_less Less p = refl
-by_less Equal p = absurd (true≢false (sym p))
-by_less Greater p = absurd (true≢false (sym p))
-
 -- what is less than the lesser is less than the other
 less_through : (c d e : Dims) → is_lt (dims_cmp c d) ≡ true → is_lt (dims_cmp d e) ≡ true → is_lt (dims_cmp c e) ≡ true
-less_through c d e p q = ap is_lt (dims_cmp-total.trans c d e (by_less (dims_cmp c d) p) (by_less (dims_cmp d e) q))
+less_through c d e p q = ap is_lt (dims_cmp-total.trans c d e (less_from_is_lt (dims_cmp c d) (subst T (sym p) tt)) (less_from_is_lt (dims_cmp d e) (subst T (sym q) tt)))
 
 -- ---- the least of a list
 
@@ -83,17 +76,13 @@ none_lesser d e (x ∷ ds) less none =
     ] refl
 
 any_least : (d : Dims) (ds : List Dims) → (m : Dims) × IsLeast m (d ∷ ds)
-any_least d [] = (d, record { there = ap (λ b. b || false) (same_itself d); least = ap (λ b. b || false) (not_less_itself d) })
+any_least d [] = (d, record { there = ap (λ b. b || false) (dims_eq-refl d); least = ap (λ b. b || false) (not_less_itself d) })
 any_least d (e ∷ ds) =
     let (m, least) = any_least e ds in
     elim (is_lt (dims_cmp d m)) as (λ b. is_lt (dims_cmp d m) ≡ b → (m : Dims) × IsLeast m (d ∷ e ∷ ds)) [
-      | true ↦ λ less. (d, record { there = ap (λ b. b || list_any (dims_eq d) (e ∷ ds)) (same_itself d); least = ap (λ b. b || has_lesser d (e ∷ ds)) (not_less_itself d) ∙ none_lesser d m (e ∷ ds) less least.least })
-      | false ↦ λ up. (m, record { there = in_front (dims_eq m d) (list_any (dims_eq m) (e ∷ ds)) least.there; least = ap (λ b. b || has_lesser m (e ∷ ds)) up ∙ least.least })
+      | true ↦ λ less. (d, record { there = ap (λ b. b || list_any (dims_eq d) (e ∷ ds)) (dims_eq-refl d); least = ap (λ b. b || has_lesser d (e ∷ ds)) (not_less_itself d) ∙ none_lesser d m (e ∷ ds) less least.least })
+      | false ↦ λ up. (m, record { there = or_right (dims_eq m d) (list_any (dims_eq m) (e ∷ ds)) least.there; least = ap (λ b. b || has_lesser m (e ∷ ds)) up ∙ least.least })
     ] refl
-  where
-    in_front : (a b : Bool) → b ≡ true → (a || b) ≡ true
-    in_front true b p = refl
-    in_front false b p = p
 
 -- lists that no test tells apart have one least element
 same_least : (ds es : List Dims) → ((test : Dims → Bool) → list_any test ds ≡ list_any test es) → least_dims ds ≡ least_dims es

@@ -1,15 +1,18 @@
-pub mod Keyed
+-- ---- maps: held as trees, laid over one another, staged facts
 pub mod Laid
+pub mod Keyed
 pub mod StagedFacts
 pub mod NextVersions
-pub mod Keeping
-pub mod Laying
-pub mod Refusing
-pub mod Committing
-pub mod Standing
-pub mod Entering
-pub mod Entered
+-- ---- the least disallowed cell, and what is refused
 pub mod LeastDims
 pub mod SortedCells
 pub mod FoundCell
-pub mod Refusals
+pub mod RefusedReports
+pub mod FirstRefusal
+-- ---- what a core keeps, from entry to entry
+pub mod Keeping
+pub mod Standing
+pub mod CopyAsLaid
+pub mod Committing
+pub mod OneMoreEntry
+pub mod OneMoreItem

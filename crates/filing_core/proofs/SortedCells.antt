@@ -18,11 +18,11 @@ use Rattle.filing_model.specs.Facts.{Fact}
 use Rattle.filing_model.specs.Duplicates.{every_pair, has_dims, class_of, allows, is_disallowed, disallowed_dims, least_dims}
 use Rattle.filing_model.specs.declared.duplicates.Allowed.{Allowed}
 use Rattle.filing_model.specs.declared.duplicates.Class.{Class}
-use Rattle.filing_model.proofs.DimensionSets.{dims_cmp-total, dims_decides}
+use Rattle.filing_model.proofs.DimensionSets.{dims_cmp-total, dims_decides, dims_eq-refl}
 use Rattle.filing_model.proofs.EveryPair.{pairs_filter, every_pair_decides}
 use Rattle.oim_fact.specs.SharedFacts.{FactRef, facts_behind}
 use Rattle.filing_core.specs.Cells.{is_from, dims_rise}
-use Rattle.filing_core.proofs.LeastDims.{neither_less, same_itself, not_less_itself, has_lesser, least_stays, least_kept-IsPermutation}
+use Rattle.filing_core.proofs.LeastDims.{neither_less, not_less_itself, has_lesser, least_stays, least_kept-IsPermutation}
 
 -- ---- the facts in front
 
@@ -39,7 +39,7 @@ one_later d f g from other later =
       | true ↦ λ same.
           let up : is_lt (dims_cmp d f.dims) ≡ false = ap (λ x. is_lt (dims_cmp x f.dims)) ((dims_decides d g.dims).0 same) ∙ not-true (is_lt (dims_cmp g.dims f.dims)) later in
           let one : d ≡ f.dims = neither_less d f.dims up (not-true (is_lt (dims_cmp f.dims d)) from) in
-          absurd (true≢false (sym (same_itself d) ∙ ap (dims_eq d) one ∙ other))
+          absurd (true≢false (sym (dims_eq-refl d) ∙ ap (dims_eq d) one ∙ other))
       | false ↦ λ _. refl
     ] refl
 
@@ -149,7 +149,7 @@ next_is_left a all left d h allowed = record {
 
 -- the class of the facts in front is that of the cell
 pub first_is_whole : (a : Allowed) (all : List Fact) (f : Fact) (more : List Fact) → IsLeft a all (f ∷ more) → filter (has_dims f.dims) (f ∷ more) ≡ filter (has_dims f.dims) all
-first_is_whole a all f more h = h.whole f.dims (ap (λ b. b || list_any (has_dims f.dims) more) (same_itself f.dims))
+first_is_whole a all f more h = h.whole f.dims (ap (λ b. b || list_any (has_dims f.dims) more) (dims_eq-refl f.dims))
 
 pub from_the_first : (f : Fact) (more : List Fact) → dims_rise (f ∷ more) ≡ true → list_all (is_from f.dims) (f ∷ more) ≡ true
 from_the_first f more rises = and_from (is_from f.dims f) (list_all (is_from f.dims) more) (ap not (not_less_itself f.dims)) (and_parts (list_all (is_from f.dims) more) (dims_rise more) rises).0
@@ -289,5 +289,5 @@ module _ (a : Allowed) (xs : List FactRef) (start : ℕ) (x : FactRef) (n : ℕ)
 
   pub some_in_front : 0 < n
   some_in_front =
-      let one_more : n ≡ 1 + in_front (dims_behind x) (facts_behind (drop (suc start) xs)) = count ∙ ap (λ ys. in_front (dims_behind x) (facts_behind ys)) here ∙ ap (λ b. cond (not (not b)) (1 + in_front (dims_behind x) (facts_behind (drop (suc start) xs))) 0) (same_itself (dims_behind x)) in
+      let one_more : n ≡ 1 + in_front (dims_behind x) (facts_behind (drop (suc start) xs)) = count ∙ ap (λ ys. in_front (dims_behind x) (facts_behind ys)) here ∙ ap (λ b. cond (not (not b)) (1 + in_front (dims_behind x) (facts_behind (drop (suc start) xs))) 0) (dims_eq-refl (dims_behind x)) in
       omega arith

@@ -8,16 +8,17 @@ use Rattle.filing_model.specs.Text.{Text, text_cmp, text_eq}
 use Rattle.filing_model.specs.TextMap.{TextMap, empty, get, insert}
 use Rattle.filing_model.specs.Facts.{Fact}
 use Rattle.filing_model.proofs.TextMaps.{get-insert, same_map}
+use Rattle.filing_model.proofs.Texts.{text_same}
 use Rattle.filing_core.specs.Keyed.{keyed_map}
 use Rattle.filing_core.specs.Staged.{staged_with}
-use Rattle.filing_core.proofs.Keyed.{get_keyed_map, keyed_map-set_value, same_text}
+use Rattle.filing_core.proofs.Keyed.{get_keyed_map, keyed_map-set_value}
 
 -- to put in what is there changes nothing
 insert_same : {X : Type 0} (m : TextMap X) (q : Text) (x : X) → get m q ≡ Some x → insert m q x ≡ m
 insert_same m q x there = same_map _ _ (λ r.
     get-insert m q x r
     ∙ elim (text_eq r q) as (λ b. text_eq r q ≡ b → cond b (Some x) (get m r) ≡ get m r) [
-      | true ↦ λ same. sym there ∙ ap (λ k. get m k) (sym (same_text r q same))
+      | true ↦ λ same. sym there ∙ ap (λ k. get m k) (sym (text_same r q same))
       | false ↦ λ _. refl
     ] refl)
 

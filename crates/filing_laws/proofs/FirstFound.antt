@@ -14,23 +14,28 @@ use Rattle.filing_laws.proofs.EachElement.{Each, each_mapped}
 
 -- ---- entries are found
 
+-- what is found behind the first entry of a sorted list is found in the list
+pub found_behind : {X : Type 0} (e : Text × X) (es : List (Text × X)) (q : Text) (x : X) → T (below_all text_cmp e.0 es) → find text_cmp q es ≡ Some x → find text_cmp q (e ∷ es) ≡ Some x
+found_behind e es q x below found = by (text_eq q e.0) refl
+  where
+    by : (b : Bool) → text_eq q e.0 ≡ b → cond b (Some e.1) (find text_cmp q es) ≡ Some x
+    by true same =
+        let gone : find text_cmp q es ≡ None = subst (λ q. find text_cmp q es ≡ None) (sym (text_same q e.0 same)) (below_is_not_found e.0 es below) in
+        let apart : None ≡ Some x = sym gone ∙ found in
+        cc
+    by false other = found
+
+pub found_first : {X : Type 0} (e : Text × X) (es : List (Text × X)) → find text_cmp e.0 (e ∷ es) ≡ Some e.1
+found_first e es = ap (λ b. cond b (Some e.1) (find text_cmp e.0 es)) (text_eq-refl e.0)
+
 -- in a sorted list each entry is the one that is found under its key
 pub each_is_found : {X : Type 0} (es : List (Text × X)) → T (is_sorted text_cmp es) → Each (λ e. find text_cmp e.0 es ≡ Some e.1) es
 each_is_found [] sorted = tt
 each_is_found {X} (e ∷ es) sorted = (
-  ap (λ b. cond b (Some e.1) (find text_cmp e.0 es)) (text_eq-refl e.0),
-  each_mapped (λ x. find text_cmp x.0 es ≡ Some x.1) (λ x. find text_cmp x.0 (e ∷ es) ≡ Some x.1) later es (each_is_found es (second_holds (below_all text_cmp e.0 es) (is_sorted text_cmp es) sorted)),
+  found_first e es,
+  each_mapped (λ x. find text_cmp x.0 es ≡ Some x.1) (λ x. find text_cmp x.0 (e ∷ es) ≡ Some x.1) (λ x found. found_behind e es x.0 x.1 (first_holds (below_all text_cmp e.0 es) (is_sorted text_cmp es) sorted) found)
+      es (each_is_found es (second_holds (below_all text_cmp e.0 es) (is_sorted text_cmp es) sorted)),
 )
-  where
-    later : (x : Text × X) → find text_cmp x.0 es ≡ Some x.1 → find text_cmp x.0 (e ∷ es) ≡ Some x.1
-    later x found = by (text_eq x.0 e.0) refl
-      where
-        by : (b : Bool) → text_eq x.0 e.0 ≡ b → cond b (Some e.1) (find text_cmp x.0 es) ≡ Some x.1
-        by true same =
-            let gone : find text_cmp x.0 es ≡ None = subst (λ q. find text_cmp q es ≡ None) (sym (text_same x.0 e.0 same)) (below_is_not_found e.0 es (first_holds (below_all text_cmp e.0 es) (is_sorted text_cmp es) sorted)) in
-            let apart : None ≡ Some x.1 = sym gone ∙ found in
-            cc
-        by false other = found
 
 -- what passes of each entry passes of one that is found
 pub all_found : {X : Type 0} (test : X → Bool) (key : Text) (x : X) (es : List (Text × X)) → list_all (λ e. test e.1) es ≡ true → find text_cmp key es ≡ Some x → test x ≡ true

@@ -37,6 +37,9 @@ pub get-from_entries : {X : Type 0} (es : List (Text × X)) (q : Text) → get (
 get-from_entries [] q = refl
 get-from_entries (e ∷ es) q = get-insert (from_entries es) e.0 e.1 q ∙ ap (λ o. cond (text_eq q e.0) (Some e.1) o) (get-from_entries es q)
 
+pub from_entries-entries : {X : Type 0} (m : TextMap X) → from_entries m.entries ≡ m
+from_entries-entries m = same_map _ _ (get-from_entries m.entries)
+
 pub from_entries-put : {X : Type 0} (key : Text) (x : X) (es : List (Text × X)) → from_entries (put text_cmp key x es) ≡ insert (from_entries es) key x
 from_entries-put key x es = same_map _ _ (λ q.
     get-from_entries (put text_cmp key x es) q

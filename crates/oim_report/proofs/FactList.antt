@@ -1,5 +1,5 @@
 -- Facts that are read one by one into a list.
-use Rattle.std.proofs.Common.{◌≡◌, ◌∙◌, ap, sym, subst, refl, Bool, true, ◌&&◌, T, List, [], ◌∷◌, ◌++◌, map, Option, None, Some, option_map, is_lt, Result, Ok, Err, String}
+use Rattle.std.proofs.Common.{◌≡◌, ◌∙◌, ap, sym, subst, refl, Bool, true, ◌&&◌, T, List, [], ◌∷◌, ◌++◌, Option, None, Some, option_map, is_lt, Result, Ok, Err, String}
 use Rattle.std.proofs.lemmas.List.{map-append}
 use Rattle.std.specs.List.{list_all}
 use Rattle.std.specs.Arc.{arc_value}
@@ -17,6 +17,7 @@ use Rattle.filing_model.specs.ReadReport.{ReportFault, BadFact, entry_of}
 use Rattle.filing_model.specs.declared.faults.FactFault.{FactFault}
 use Rattle.filing_model.specs.declared.faults.Trouble.{Trouble}
 use Rattle.filing_model.specs.declared.faults.Trouble.TheVariants.{Fit}
+use Rattle.filing_model.proofs.MapsOfLists.{names}
 use Rattle.oim_report.specs.Parts.{fact_view, facts_view}
 use Rattle.oim_report.specs.Readable.{AreFitted}
 use Rattle.oim_report.specs.Readings.{fitted_of}
@@ -53,9 +54,6 @@ fitted_turn names before later p later_is dims fitted h =
     subst (AreFitted names) (sym (ap facts_view later_is ∙ map-append fact_view before (p ∷ []))) (fitted_grows names (facts_view before) (fact_view p) h dims fitted)
 
 -- ---- facts stand in the order of their members
-
-abbrev names : {X : Type 0} → List (Text × X) → List Text
-names es = map (λ e. e.0) es
 
 abbrev below : Text → List Text → Bool
 below k ks = list_all (λ q. is_lt (text_cmp k q)) ks

@@ -1,13 +1,16 @@
+-- ---- members of JSON objects
 pub mod EachMember
+pub mod SortedMembers
+pub mod TakenMembers
+pub mod WholeNumbers
+-- ---- what is read: facts, reports, numeric tables
+pub mod ReadFacts
 pub mod FactList
-pub mod Members
-pub mod Reports
-pub mod Whole
+pub mod ReportsByParts
 pub mod TableLines
-pub mod Taken
+-- ---- what is written, and read back
+pub mod WrittenPieces
 pub mod WrittenValues
 pub mod WrittenFacts
-pub mod WrittenPieces
 pub mod WrittenReports
-pub mod ReadFacts
 pub mod ReadBackInstances

@@ -28,8 +28,7 @@ use Rattle.filing_model.specs.declared.faults.FactFault.TheVariants.{UnboundPref
 use Rattle.filing_model.specs.declared.faults.Trouble.TheVariants as trouble
 use Rattle.filing_model.proofs.FitAgain.{fit_again}
 use Rattle.filing_model.proofs.JsonTexts.{whole-IsWritable}
-use Rattle.filing_model.proofs.MapsOfLists.{from_entries-sorted}
-use Rattle.filing_model.proofs.TextMaps.{same_list}
+use Rattle.filing_model.proofs.TextMaps.{from_entries-entries}
 use Rattle.oim_report.specs.Nesting.{NestsWithin}
 use Rattle.oim_report.specs.Parts.{IsInfo}
 use Rattle.oim_report.specs.Readable.{AreFitted, IsReadable}
@@ -156,11 +155,8 @@ document_read info facts type = ap (λ o. ok_or o WrongDocumentType >>= λ type.
 whole_read : (d : Data) → has_float d ≡ false → whole_text_of d ≡ Ok (compact_text d)
 whole_read d whole = ap (λ b. cond b (Err NotWhole) (Ok (compact_text d))) whole
 
-same_facts : (facts : TextMap Fact) → from_entries facts.entries ≡ facts
-same_facts facts = same_list (from_entries facts.entries) facts (from_entries-sorted facts.entries facts.sorted)
-
 facts_read : (names : Names) (facts : Members) (all : TextMap Fact) → each (entry_of names) (pairs facts) ≡ Ok all.entries → facts_of names (Some (object facts)) ≡ Ok all
-facts_read names facts all read = ap (λ r. r >>= λ entries. Ok (from_entries entries)) read ∙ ap (λ m. Ok m) (same_facts all)
+facts_read names facts all read = ap (λ r. r >>= λ entries. Ok (from_entries entries)) read ∙ ap (λ m. Ok m) (from_entries-entries all)
 
 report_read : (report : Report) (is : IsInfo report.info report.names.prefixes report.allowed) (facts : Members)
     → each (entry_of report.names) (pairs facts) ≡ Ok report.facts.entries → report_of report.names.table (object (report_members is.members facts)) ≡ Ok report

@@ -1,5 +1,5 @@
 -- Values that are read back from their compact text.
-use Rattle.std.proofs.Common.{◌≡◌, ℕ, ◌≤◌, ◌<◌, ◌^◌, max, pos, negsuc, T, ◌&&◌, List, [], ◌++◌, Option, Some, None, option_map, option_and_then, Ordering, Less, Equal, Greater, is_lt, refl, sym, ap, ◌∙◌, arith, append-nil, subst, inl, inr, eq-or-lt_of_le, Bool, true, false}
+use Rattle.std.proofs.Common.{◌≡◌, ℕ, ◌≤◌, ◌<◌, ◌^◌, max, pos, negsuc, T, List, [], ◌++◌, Option, Some, None, option_map, option_and_then, Less, Greater, refl, sym, ap, ◌∙◌, arith, append-nil, subst, inl, inr, eq-or-lt_of_le}
 use Rattle.std.proofs.lemmas.Cmp.{nat_list_cmp_total}
 use Rattle.std.specs.Prelude.{⊤}
 use Rattle.std.specs.Fmt.{digits, signed_decimal}
@@ -23,6 +23,7 @@ use Rattle.serde_json.proofs.Texts.{print-outline}
 use Rattle.filing_model.specs.Text.{Text, text_cmp}
 use Rattle.filing_model.specs.JsonText.{json_of, pairs, IsWhole, IsWritable, AreWritable, AreMembersWritable}
 use Rattle.filing_model.proofs.JsonTexts.{json_of-Some}
+use Rattle.filing_model.proofs.Tests.{first_holds, second_holds, less_from_is_lt}
 use Rattle.oim_report.specs.Nesting.{NestsWithin}
 
 -- what is written for the value stands for it
@@ -102,29 +103,17 @@ before_more : (ns : Members) (l : Text) (e : Data) (k : Text) → AllBefore ns k
 before_more no_members l e k h below = (below, tt)
 before_more (member m f ns) l e k h below = (h.0, before_more ns l e k h.1 below)
 
-less_from_is_lt : (o : Ordering) → T (is_lt o) → o ≡ Less
-less_from_is_lt Less h = refl
-less_from_is_lt Equal h = absurd h
-less_from_is_lt Greater h = absurd h
-
-both_true : (a b : Bool) → T (a && b) → T a × T b
-both_true true true h = (tt, tt)
-both_true true false h = absurd h
-both_true false b h = absurd h
-
 precede_more : (ns : Members) (l : Text) (e : Data) (ms : Members) → Precede ns ms → T (below_all text_cmp l (pairs ms)) → Precede (joined ns (member l e no_members)) ms
 precede_more ns l e no_members h below = tt
 precede_more ns l e (member k d ms) h below =
-    let parts = both_true (is_lt (text_cmp l k)) (below_all text_cmp l (pairs ms)) below in
-    (before_more ns l e k h.0 (less_from_is_lt _ parts.0), precede_more ns l e ms h.1 parts.1)
+    (before_more ns l e k h.0 (less_from_is_lt _ (first_holds _ _ below)), precede_more ns l e ms h.1 (second_holds _ _ below))
 
 members_back : (ns ms : Members) → Precede ns ms → T (is_sorted text_cmp (pairs ms)) → EachReads ms → of_members (members_outline ms) ns ≡ Some (joined ns ms)
 members_back ns no_members h sorted each = ap Some (sym (joined_none ns))
 members_back ns (member k d ms) h sorted each =
-    let parts = both_true (below_all text_cmp k (pairs ms)) (is_sorted text_cmp (pairs ms)) sorted in
     ap (option_and_then (λ d. of_members (members_outline ms) (put k d ns))) each.0.back
     ∙ ap (of_members (members_outline ms)) (put_last ns k d h.0)
-    ∙ members_back (joined ns (member k d no_members)) ms (precede_more ns k d ms h.1 parts.0) parts.1 each.1
+    ∙ members_back (joined ns (member k d no_members)) ms (precede_more ns k d ms h.1 (first_holds _ _ sorted)) (second_holds _ _ sorted) each.1
     ∙ ap Some (joined_more ns k d ms)
 
 none_precede : (ms : Members) → Precede no_members ms

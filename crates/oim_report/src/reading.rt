@@ -126,7 +126,7 @@ fn report_of_members(
 }
 
 /// The same of a value that is given up: the texts of the report move out of it.
-#[tactic(auto, using(crate::proofs::Reports::report_by_members))]
+#[tactic(auto, using(crate::proofs::ReportsByParts::report_by_members))]
 pub fn report_from(
     alloc: Global,
     value: Value,
@@ -139,7 +139,7 @@ pub fn report_from(
 }
 
 /// The report that a JSON value is (xBRL-JSON 1.0) by this numeric table, or the first fault, in this order: not the shape of a report, the document type, the features, the namespaces, a number in `documentInfo` that is not whole, the shape of `facts`, and the first refused fact in byte order of the identifiers.
-#[tactic(auto, using(crate::proofs::Reports::report_by_members))]
+#[tactic(auto, using(crate::proofs::ReportsByParts::report_by_members))]
 pub fn report_of(
     alloc: Global,
     value: &Value,

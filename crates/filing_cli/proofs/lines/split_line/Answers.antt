@@ -1,5 +1,5 @@
 use Rattle.std.proofs.Common.{take, drop, ap, sym, ◌∙◌, ◌+◌, arith}
-use Rattle.filing_cli.proofs.Cuts.{position_some, position_none}
+use Rattle.filing_cli.proofs.CutLines.{position_some, position_none}
 use Rattle.filing_cli.proofs.lines.split_line.Goals as goal
 
 pub returns : goal.returns

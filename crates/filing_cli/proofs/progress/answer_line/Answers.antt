@@ -1,6 +1,6 @@
 use Rattle.std.proofs.Common.{sym, ◌∙◌}
 use Rattle.std.proofs.Common.{arith}
-use Rattle.filing_cli.proofs.Taking.{answered_blank, answered_one, failed_one, starved_first}
+use Rattle.filing_cli.proofs.TakenLines.{answered_blank, answered_one, failed_one, starved_first}
 use Rattle.filing_cli.proofs.progress.answer_line.Goals as goal
 
 pub returns-then-is_blank : goal.returns-then-is_blank

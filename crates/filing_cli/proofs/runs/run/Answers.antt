@@ -1,5 +1,5 @@
 use Rattle.std.proofs.Common.{arith}
-use Rattle.filing_cli.proofs.Reading.{starved_at_once}
+use Rattle.filing_cli.proofs.RunByReads.{starved_at_once}
 use Rattle.filing_cli.proofs.runs.run.Goals as goal
 
 pub returns-in_default : goal.returns-in_default

@@ -1,7 +1,7 @@
 use Rattle.std.proofs.Common.{◌<◌, ◌≤◌, length, take, ap, ◌∙◌, arith, length-take}
 use Rattle.std.specs.declared.result.Result.TheVariants.{Err}
 use Rattle.std.proofs.lemmas.Result.{err_from_is_err_and}
-use Rattle.filing_cli.proofs.Reading.{few, read_none, read_failed, read_endless, read_ended, read_refused, read_more}
+use Rattle.filing_cli.proofs.RunByReads.{few, read_none, read_failed, read_endless, read_ended, read_refused, read_more}
 use Rattle.filing_cli.proofs.runs.run_with.Goals as goal
 
 pub loop-turn-init : goal.loop-turn-init

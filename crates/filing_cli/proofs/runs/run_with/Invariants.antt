@@ -1,4 +1,4 @@
-use Rattle.filing_cli.proofs.Reading.{IsRead}
+use Rattle.filing_cli.proofs.RunByReads.{IsRead}
 use Rattle.filing_cli.proofs.runs.run_with.Given as goal
 
 abbrev pub invariant-loop-turn : goal.invariant-loop-turn

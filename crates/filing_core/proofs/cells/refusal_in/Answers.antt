@@ -2,7 +2,7 @@ use Rattle.std.proofs.Common.{◌∙◌, ap, sym, map, string_bytes}
 use Rattle.std.specs.Arc.{arc_value}
 use Rattle.std.specs.Option.{option_map}
 use Rattle.filing_core.specs.Keyed.{keyed}
-use Rattle.filing_core.proofs.Refusals.{obeys_where_none, refused_where_some}
+use Rattle.filing_core.proofs.RefusedReports.{obeys_where_none, refused_where_some}
 use Rattle.filing_core.proofs.cells.refusal_in.Goals as goal
 
 pub returns-in-None : goal.returns-in-None

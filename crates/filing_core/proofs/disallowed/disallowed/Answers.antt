@@ -1,7 +1,7 @@
-use Rattle.std.proofs.Common.{◌≡◌, ◌∙◌, ap, sym, map, Some, string_bytes}
+use Rattle.std.proofs.Common.{◌∙◌, ap, sym, map, Some, string_bytes}
 use Rattle.std.specs.Prelude.{option_map}
 use Rattle.filing_model.specs.Replies.{Disallowed}
-use Rattle.filing_core.proofs.Refusing.{refusal_by}
+use Rattle.filing_core.proofs.FirstRefusal.{refusal_by}
 use Rattle.filing_core.proofs.disallowed.disallowed.Goals as goal
 
 pub returns-in_ok-name-in-Some : goal.returns-in_ok-name-in-Some

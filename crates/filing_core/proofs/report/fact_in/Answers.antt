@@ -1,10 +1,9 @@
-use Rattle.std.proofs.Common.{◌≡◌, ◌∙◌, ap, sym, subst, T, Some, None, Ok, Err, get_or, rules}
+use Rattle.std.proofs.Common.{◌∙◌, ap, sym, subst, T, Ok, Err, rules}
 use Rattle.std.specs.FinMap.Entries.{find, is_sorted}
 use Rattle.std.specs.Arc.{arc_value}
 use Rattle.std.specs.Cmp.Lexicographic.{nat_list_cmp_total}
 use Rattle.std.proofs.lemmas.Fn.{always_returns_same}
 use Rattle.filing_model.specs.Text.{text_cmp}
-use Rattle.oim_report.specs.Parts.{facts_view}
 use Rattle.oim_fact.proofs.SearchedEntries.{searched}
 use Rattle.filing_core.specs.Keyed.{entry_of}
 use Rattle.filing_core.proofs.report.fact_in.Goals as goal

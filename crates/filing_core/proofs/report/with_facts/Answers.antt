@@ -1,13 +1,14 @@
 use Rattle.std.proofs.Common.{◌≡◌, ◌∙◌, ap}
 use Rattle.filing_model.specs.TextMap.{empty, from_entries}
+use Rattle.filing_model.proofs.TextMaps.{from_entries-entries}
 use Rattle.filing_core.specs.Laid.{laid, laid_entries}
-use Rattle.filing_core.proofs.Laid.{laid_over_nothing, made_of_entries}
+use Rattle.filing_core.proofs.Laid.{laid_over_nothing}
 use Rattle.filing_core.proofs.report.with_facts.Goals as goal
 
 pub returns : goal.returns
 returns c =
     let facts : from_entries (c.in_ok-with.field-0.entries) ≡ laid c.args.added.now c.args.report.now.facts =
-    made_of_entries c.in_ok-with.field-0 ∙ c.in_ok-with.ensures
+    from_entries-entries c.in_ok-with.field-0 ∙ c.in_ok-with.ensures
     ∙ ap (λ m. laid c.args.added.now m) (c.in_ok-of.ensures ∙ ap (λ es. laid_entries es empty) c.facts.ensures ∙ laid_over_nothing c.args.report.now.facts) in
     c.of-2.ensures
     ∙ (λ i. record {

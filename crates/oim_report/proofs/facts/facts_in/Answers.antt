@@ -3,7 +3,7 @@ use Rattle.filing_model.specs.JsonText.{pairs}
 use Rattle.filing_model.specs.ReadReport.{entry_of}
 use Rattle.oim_report.specs.Parts.{fact_view, facts_view}
 use Rattle.oim_report.proofs.EachMember.{read_turn, read_all}
-use Rattle.oim_report.proofs.Members.{sorted_members}
+use Rattle.oim_report.proofs.SortedMembers.{sorted_members}
 use Rattle.oim_report.proofs.FactList.{fitted_turn, sorted_facts}
 use Rattle.oim_report.proofs.facts.facts_in.Goals as goal
 

@@ -1,7 +1,7 @@
 use Rattle.std.proofs.Common.{option_map}
 use Rattle.std.specs.Arc.{arc_value}
 use Rattle.serde_json.specs.View.{view}
-use Rattle.oim_report.proofs.Reports.{info_of_declared}
+use Rattle.oim_report.proofs.ReportsByParts.{info_of_declared}
 use Rattle.oim_report.proofs.reading.declaration.Goals as goal
 
 pub returns-clause-info : goal.returns-clause-info

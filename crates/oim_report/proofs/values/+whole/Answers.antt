@@ -1,5 +1,5 @@
-use Rattle.oim_report.proofs.Members.{sorted_members}
-use Rattle.oim_report.proofs.Whole.{all_writable}
+use Rattle.oim_report.proofs.SortedMembers.{sorted_members}
+use Rattle.oim_report.proofs.WholeNumbers.{all_writable}
 use Rattle.oim_report.proofs.values.+whole.Goals as goal
 
 pub are_members_whole-returns-clause-writable : goal.are_members_whole-returns-clause-writable

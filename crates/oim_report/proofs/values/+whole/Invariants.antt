@@ -1,5 +1,5 @@
 use Rattle.std.proofs.Common.{drop}
-use Rattle.oim_report.proofs.Whole.{OfItems, OfMembers}
+use Rattle.oim_report.proofs.WholeNumbers.{OfItems, OfMembers}
 use Rattle.oim_report.proofs.values.+whole.Given as goal
 
 abbrev pub invariant-are_members_whole-loop-name : goal.invariant-are_members_whole-loop-name

@@ -2,7 +2,7 @@ use Rattle.std.proofs.Common.{◌∙◌, ap, option_map}
 use Rattle.serde_json.specs.Find.{get_member}
 use Rattle.serde_json.specs.View.{view, members_view}
 use Rattle.serde_json.proofs.Views.{view-lookup}
-use Rattle.oim_report.proofs.Taken.{others_stay}
+use Rattle.oim_report.proofs.TakenMembers.{others_stay}
 use Rattle.oim_report.proofs.values.take_member.Goals as goal
 
 pub returns-clause-value : goal.returns-clause-value

@@ -1,6 +1,6 @@
 use Rattle.std.proofs.Common.{[], ◌∷◌}
 use Rattle.std.proofs.lemmas.Result.{MatchResult-from_err}
-use Rattle.filing_cli.proofs.Sending.{sent_after, failed_reply}
+use Rattle.filing_cli.proofs.SentReplies.{sent_after, failed_reply}
 use Rattle.filing_cli.proofs.outbox.Outbox.send.Goals as goal
 
 pub returns : goal.returns

@@ -1,6 +1,6 @@
 use Rattle.std.proofs.Common.{arith}
 use Rattle.std.proofs.lemmas.Result.{err_from_is_err_and}
-use Rattle.filing_cli.proofs.Taking.{starved_first}
+use Rattle.filing_cli.proofs.TakenLines.{starved_first}
 use Rattle.filing_cli.proofs.progress.Progress.end_line.Goals as goal
 
 pub returns-in_err-go_on-clause-takes : goal.returns-in_err-go_on-clause-takes

@@ -1,6 +1,6 @@
 use borrow.Author.Tests.{true-eqb, false-eqb}
 use Rattle.std.proofs.Common.{◌≡◌, ◌<◌, length, arith}
-use Rattle.filing_cli.proofs.Taking.{takes_out, finished_out, finished_some}
+use Rattle.filing_cli.proofs.TakenLines.{takes_out, finished_out, finished_some}
 use Rattle.filing_cli.proofs.progress.Progress.finish.Goals as goal
 
 pub returns-then-is_empty : goal.returns-then-is_empty

@@ -1,7 +1,7 @@
 use Rattle.std.proofs.Common.{ap, ◌∙◌}
 use Rattle.std.specs.declared.result.Result.TheVariants.{Err}
 use Rattle.std.proofs.lemmas.Result.{err_from_is_err_and, on_ok_weaker}
-use Rattle.filing_cli.proofs.Taking.{taken_none, taken_more, taken_err, taken_end, taken_count, taken_rest}
+use Rattle.filing_cli.proofs.TakenLines.{taken_none, taken_more, taken_err, taken_end, taken_count, taken_rest}
 use Rattle.filing_cli.proofs.progress.Progress.take_lines.Goals as goal
 
 pub loop-line-init : goal.loop-line-init

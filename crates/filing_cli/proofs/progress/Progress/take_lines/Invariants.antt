@@ -1,5 +1,5 @@
 use Rattle.std.proofs.Common.{length}
-use Rattle.filing_cli.proofs.Taking.{IsTaken}
+use Rattle.filing_cli.proofs.TakenLines.{IsTaken}
 use Rattle.filing_cli.proofs.progress.Progress.take_lines.Given as goal
 
 abbrev pub invariant-loop-line : goal.invariant-loop-line

@@ -1,4 +1,4 @@
-use Rattle.filing_cli.proofs.Taking.{takes_out}
+use Rattle.filing_cli.proofs.TakenLines.{takes_out}
 use Rattle.filing_cli.proofs.progress.Progress.take_piece.Goals as goal
 
 pub returns-clause-takes : goal.returns-clause-takes

@@ -1,6 +1,6 @@
 use Rattle.std.proofs.Common.{◌∙◌, ap}
 use Rattle.filing_cli.specs.Script.{is_busy}
-use Rattle.filing_cli.proofs.Busy.{busy_decides}
+use Rattle.filing_cli.proofs.BusySessions.{busy_decides}
 use Rattle.filing_cli.proofs.runner.Runner.is_busy.Goals as goal
 
 pub returns-clause-busy : goal.returns-clause-busy

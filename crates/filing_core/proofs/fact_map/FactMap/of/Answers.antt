@@ -1,4 +1,4 @@
-use Rattle.std.proofs.Common.{◌≡◌, ◌∙◌, take, string_bytes}
+use Rattle.std.proofs.Common.{◌∙◌, take, string_bytes}
 use Rattle.std.specs.Arc.{arc_value}
 use Rattle.filing_model.specs.TextMap.{empty, insert}
 use Rattle.oim_report.specs.Parts.{facts_view}

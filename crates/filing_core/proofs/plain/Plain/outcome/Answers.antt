@@ -1,4 +1,4 @@
-use Rattle.std.proofs.Common.{◌≡◌, ◌∙◌, ap, sym}
+use Rattle.std.proofs.Common.{◌∙◌, ap, sym}
 use Rattle.std.specs.Prelude.{option_map}
 use Rattle.filing_core.specs.Steps.{reply_of}
 use Rattle.filing_core.proofs.Committing.{next_unstaged_obey}

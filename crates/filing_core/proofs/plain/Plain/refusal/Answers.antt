@@ -1,12 +1,11 @@
-use Rattle.std.proofs.Common.{◌≡◌, ◌∙◌, ap, sym, refl, subst, ◌∷◌, Some, None, string_bytes}
+use Rattle.std.proofs.Common.{◌≡◌, ◌∙◌, ap, sym, refl, subst, string_bytes}
 use Rattle.std.specs.Prelude.{option_map}
 use Rattle.std.specs.Arc.{arc_value}
-use Rattle.filing_model.specs.Sessions.{refusal_of}
 use Rattle.filing_core.specs.Keyed.{keyed}
 use Rattle.filing_core.specs.Steps.{reply_of}
 use Rattle.filing_core.specs.Refusals.{report_refusal, UnstagedObey}
 use Rattle.filing_core.proofs.Keyed.{entries-keyed_map}
-use Rattle.filing_core.proofs.Refusing.{IsLeftToRefuse, first_refusal, told, none_left}
+use Rattle.filing_core.proofs.FirstRefusal.{first_refusal, told, none_left}
 use Rattle.filing_core.proofs.plain.Plain.refusal.Goals as goal
 
 pub loop-name-init : goal.loop-name-init

@@ -1,6 +1,6 @@
 use Rattle.std.specs.Arc.{arc_value}
 use Rattle.filing_core.specs.Keyed.{keyed}
-use Rattle.filing_core.proofs.Refusing.{IsLeftToRefuse}
+use Rattle.filing_core.proofs.FirstRefusal.{IsLeftToRefuse}
 use Rattle.filing_core.proofs.plain.Plain.refusal.Given as goal
 
 abbrev pub invariant-loop-name : goal.invariant-loop-name

@@ -116,9 +116,6 @@ report_by_members table d =
 
 -- ---- what is known of the info
 
-same_Some : {A : Type 0} (x y : A) → Some x ≡ Some y → x ≡ y
-same_Some x y h = cc
-
 type_of : (o : Option Text) → option_map_or (λ type. text_eq type right_type) o false ≡ true → o ≡ Some right_type
 type_of None h = absurd (true≢false (sym h))
 type_of (Some type) h = ap (λ t. Some t) ((text_decides type right_type).0 h)

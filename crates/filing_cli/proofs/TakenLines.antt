@@ -1,5 +1,5 @@
 -- Lines that are taken one after another, and their replies.
-use Rattle.std.proofs.Common.{◌≡◌, ℕ, ◌+◌, ◌<◌, ◌≤◌, true, false, not, cond, List, [], ◌∷◌, ◌++◌, length, refl, sym, ◌∙◌, ap, subst, inl, inr, IfErr, OnErr, arith, append_assoc, length-append, length-drop, ◌-◌}
+use Rattle.std.proofs.Common.{◌≡◌, ℕ, ◌+◌, ◌<◌, ◌≤◌, true, false, not, cond, List, [], ◌∷◌, ◌++◌, length, refl, sym, ◌∙◌, ap, subst, inl, inr, IfErr, OnErr, arith, append_assoc, length-append, length-drop, ◌-◌, append-nil}
 use Rattle.std.specs.declared.result.Result.{Result}
 use Rattle.std.specs.declared.result.Result.TheVariants.{Ok, Err}
 use Rattle.std.proofs.lemmas.List.Elements.{filter-append}
@@ -10,11 +10,10 @@ use Rattle.filing_cli.specs.Devices.{SinkState, Took, TookPart}
 use Rattle.filing_cli.specs.Lines.{is_line_feed, line_begun, is_blank, spoken, text_of}
 use Rattle.filing_cli.specs.Run.{Answers}
 use Rattle.std.specs.List.{before_first, after_first, position_or_len}
-use Rattle.filing_cli.proofs.Cuts.{whole_at, rest_at, whole_none, rest_none}
+use Rattle.filing_cli.proofs.CutLines.{whole_at, rest_at, whole_none, rest_none}
 use Rattle.filing_cli.specs.Pieces.{whole_from, rest_from, count_from, IsCut, Sent, HasAnswered, HasFailed, HasStarved, Takes, WritesOut}
 use Rattle.filing_cli.proofs.DeviceSteps.{took_none, took_more, part_after}
-use Rattle.filing_cli.proofs.Sending.{sent_now}
-use Rattle.filing_cli.proofs.Nothing.{append_nil}
+use Rattle.filing_cli.proofs.SentReplies.{sent_now}
 
 pub spoken-append : (xs ys : List Text) → spoken (xs ++ ys) ≡ spoken xs ++ spoken ys
 unfolding spoken
@@ -53,7 +52,7 @@ pub part_out : {a b c : SinkState} {w w1 x : Text} → Sent a b w w1 x → TookP
 part_out {a} {b} {c} p q = subst (TookPart a c) p.parts (part_after p.took q)
 
 sent_none : (s : SinkState) (w : Text) → Sent s s w w []
-sent_none s w = record { written = []; took = took_none s; parts = sym (append_nil w) }
+sent_none s w = record { written = []; took = took_none s; parts = sym (append-nil w) }
 
 spoken_blank : (line : Text) → is_blank line ≡ true → spoken (line ∷ []) ≡ []
 unfolding spoken
@@ -65,7 +64,7 @@ spoken_one line h = ap (λ b. cond (not b) (line ∷ []) []) h
 
 text_of_one : (text : Text) → text_of (text ∷ []) ≡ text ++ (10 ∷ [])
 unfolding text_of
-text_of_one text = append_nil (text ++ (10 ∷ []))
+text_of_one text = append-nil (text ++ (10 ∷ []))
 
 line_begun_one : (begun : Text) → 0 < length begun → length (line_begun begun) ≡ 1
 line_begun_one [] some = absurd (omega arith)
@@ -73,7 +72,7 @@ line_begun_one (byte ∷ begun) some = refl
 
 pub line_begun_is : (begun : Text) → 0 < length begun → line_begun begun ≡ (begun ++ []) ∷ []
 line_begun_is [] some = absurd (omega arith)
-line_begun_is (byte ∷ begun) some = ap (λ bytes. (byte ∷ bytes) ∷ []) (sym (append_nil begun))
+line_begun_is (byte ∷ begun) some = ap (λ bytes. (byte ∷ bytes) ∷ []) (sym (append-nil begun))
 
 module _ {M : Type 0} (R : M → Text → Text → M → Type 0) where
   -- no line
@@ -168,7 +167,7 @@ module _ {M : Type 0} (R : M → Text → Text → M → Type 0) where
   answered_out p q = record { texts = p.texts; answers = p.answers; sent = sent_out p.sent q }
 
   answered_cut : {m a : M} {s s1 s2 : SinkState} {w w1 w2 : Text} {lines : List Text} → HasAnswered R m a s s1 w w1 lines → TookPart s1 s2 w1 → HasFailed R m a s s2 w w2 lines
-  answered_cut {a = a} {lines = lines} p q = record { done = lines; later = []; front = append_nil lines; texts = p.texts; reached = a; answers = p.answers; took = part_out p.sent q }
+  answered_cut {a = a} {lines = lines} p q = record { done = lines; later = []; front = append-nil lines; texts = p.texts; reached = a; answers = p.answers; took = part_out p.sent q }
 
   starved_out : {m a : M} {s s1 s2 : SinkState} {w w1 : Text} {lines : List Text} {count first number : ℕ}
       → HasStarved R m a s s1 w w1 lines count first number → Took s1 s2 w1 0 → HasStarved R m a s s2 w [] lines count first number
@@ -268,7 +267,7 @@ module _ {M : Type 0} (R : M → Text → Text → M → Type 0) where
   starved_end {a = a} {lines = lines} p is counted begun = record {
     done = lines;
     later = [];
-    front = append_nil lines ∙ sym is;
+    front = append-nil lines ∙ sym is;
     counted = counted;
     begun = begun;
     texts = p.texts;
@@ -287,7 +286,7 @@ module _ {M : Type 0} (R : M → Text → Text → M → Type 0) where
       subst (λ w3. HasAnswered R m a s s' w w3 (whole_from begun piece)) (sym same) (subst (HasAnswered R m a s s' w _) (sym whole) (answered_more p.answered (answered_none a s' _)))
   taken_end {m} {a} {s} {s'} {w} {begun = begun} {begun' = begun'} {lines = lines} {lines' = lines'} {piece = piece} {rest = rest} (Err e) w2 p none same fault some =
       let tail : rest_from begun piece ≡ begun' ++ rest = p.after ∙ rest_none begun' rest none in
-      let whole : whole_from begun piece ≡ p.taken = p.whole ∙ (ap (λ ls. p.taken ++ ls) (whole_none begun' rest none) ∙ append_nil p.taken) in
+      let whole : whole_from begun piece ≡ p.taken = p.whole ∙ (ap (λ ls. p.taken ++ ls) (whole_none begun' rest none) ∙ append-nil p.taken) in
       let long : length (begun' ++ rest) ≡ length begun' + length rest = length-append begun' rest in
       let longer : length (rest_from begun piece) ≡ length (begun' ++ rest) = ap length tail in
       let one : length (line_begun (rest_from begun piece)) ≡ 1 = line_begun_one (rest_from begun piece) (omega (arith, long, longer, some)) in
@@ -298,7 +297,7 @@ module _ {M : Type 0} (R : M → Text → Text → M → Type 0) where
 
   taken_whole : {m a : M} {s s' : SinkState} {w w' begun begun' : Text} {lines lines' : ℕ} {piece rest : Text}
       → (p : IsTaken m a s s' w w' begun begun' lines lines' piece rest) → position_or_len is_line_feed rest ≡ length rest → whole_from begun piece ≡ p.taken
-  taken_whole {begun' = begun'} {rest = rest} p none = p.whole ∙ (ap (λ ls. p.taken ++ ls) (whole_none begun' rest none) ∙ append_nil p.taken)
+  taken_whole {begun' = begun'} {rest = rest} p none = p.whole ∙ (ap (λ ls. p.taken ++ ls) (whole_none begun' rest none) ∙ append-nil p.taken)
 
   pub taken_count : {m a : M} {s s' : SinkState} {w w' begun begun' : Text} {lines lines' : ℕ} {piece rest : Text}
       → IsTaken m a s s' w w' begun begun' lines lines' piece rest → position_or_len is_line_feed rest ≡ length rest → lines' ≡ lines + length (whole_from begun piece)

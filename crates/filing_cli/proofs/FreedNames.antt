@@ -1,39 +1,22 @@
 -- A name that is taken out of a tree is taken out of the map that the tree is.
-use Rattle.std.proofs.Common.{◌≡◌, ◌∙◌, ap, sym, refl, subst, T, List, [], ◌∷◌, Option, Some, None, Bool, ◌&&◌, cond, true, false, not}
+use Rattle.std.proofs.Common.{◌≡◌, ◌∙◌, ap, sym, refl, subst, T, List, [], ◌∷◌, Option, Some, None, cond, true, false, not}
 use Rattle.std.specs.Prelude.{String, string_bytes}
 use Rattle.std.specs.declared.alloc.Global.{Global}
-use Rattle.std.specs.declared.cmp.Ordering.TheVariants.{Less, Equal, Greater}
-use Rattle.std.specs.Ordering.{is_eq, is_lt}
 use Rattle.std.specs.String.{string_cmp}
 use Rattle.std.specs.Map.{keys_of, remove_entry}
 use Rattle.std.specs.List.Sorted.{IsStrictlySortedBy}
 use Rattle.std.specs.FinMap.{slice_cmp-IsAntisymmetric, nat_cmp-IsAntisymmetric}
-use Rattle.std.specs.FinMap.Entries.{find, below_all, is_sorted, find-where_key}
+use Rattle.std.specs.FinMap.Entries.{find, is_sorted, find-where_key}
 use Rattle.std.specs.BTreeMap.{is_at}
 use mathlib.Core.Bool.{true≢false}
 use Rattle.filing_model.specs.Text.{Text, text_cmp, text_eq}
 use Rattle.filing_model.specs.TextMap.{TextMap, get, remove, from_entries}
 use Rattle.filing_model.proofs.TextMaps.{get-from_entries, same_map}
+use Rattle.filing_model.proofs.Texts.{text_same}
+use Rattle.filing_model.proofs.Tests.{first_holds, second_holds}
+use Rattle.filing_model.proofs.MapsOfLists.{below_is_not_found}
 use Rattle.filing_core.specs.Keyed.{keyed, keyed_map}
-use Rattle.filing_core.proofs.Keyed.{same_text, sorted_keyed}
-
-first : (a b : Bool) → T (a && b) → T a
-first true b p = tt
-first false b p = p
-
-second : (a b : Bool) → T (a && b) → T b
-second true b p = p
-second false b p = absurd p
-
--- a text below all keys is none of them
-find_below : {X : Type 0} (q : Text) (es : List (Text × X)) → T (below_all text_cmp q es) → find text_cmp q es ≡ None
-find_below q [] h = refl
-find_below {X} q (e ∷ es) h =
-    elim (text_cmp q e.0) as (λ o. T (is_lt o && below_all text_cmp q es) → ◌≡◌ {A = Option X} (cond (is_eq o) (Some e.1) (find text_cmp q es)) None) [
-      | Less ↦ λ below. find_below q es below
-      | Equal ↦ λ below. absurd below
-      | Greater ↦ λ below. absurd below
-    ] h
+use Rattle.filing_core.proofs.Keyed.{sorted_keyed}
 
 find-remove_entry : {V X : Type 0} (f : V → X) (q r : Text) (es : List (String Global × V)) → T (is_sorted text_cmp (keyed f es))
     → find text_cmp r (keyed f (remove_entry (is_at (λ k. text_cmp q (string_bytes k))) es)) ≡ cond (not (text_eq q r)) (find text_cmp r (keyed f es)) None
@@ -43,16 +26,16 @@ find-remove_entry {V} {X} f q r (e ∷ es) h =
     elim (text_eq q (string_bytes e.0)) as (λ b. text_eq q (string_bytes e.0) ≡ b
     → find text_cmp r (keyed f (cond b es (e ∷ left))) ≡ cond (not (text_eq q r)) (find text_cmp r (keyed f (e ∷ es))) None) [
       | true ↦ λ same. elim (text_eq q r) as (λ b. text_eq q r ≡ b → find text_cmp r (keyed f es) ≡ cond (not b) (find text_cmp r (keyed f (e ∷ es))) None) [
-        | true ↦ λ here. subst (λ x. find text_cmp x (keyed f es) ≡ None) (sym (same_text q (string_bytes e.0) same) ∙ same_text q r here) (find_below (string_bytes e.0) (keyed f es) (first _ _ h))
+        | true ↦ λ here. subst (λ x. find text_cmp x (keyed f es) ≡ None) (sym (text_same q (string_bytes e.0) same) ∙ text_same q r here) (below_is_not_found (string_bytes e.0) (keyed f es) (first_holds _ _ h))
         | false ↦ λ apart. elim (text_eq r (string_bytes e.0)) as (λ b. text_eq r (string_bytes e.0) ≡ b → find text_cmp r (keyed f es) ≡ cond b (Some (f e.1)) (find text_cmp r (keyed f es))) [
-          | true ↦ λ there. absurd (true≢false (sym (ap (λ x. text_eq q x) (same_text r (string_bytes e.0) there) ∙ same) ∙ apart))
+          | true ↦ λ there. absurd (true≢false (sym (ap (λ x. text_eq q x) (text_same r (string_bytes e.0) there) ∙ same) ∙ apart))
           | false ↦ λ _. refl
         ] refl
       ] refl
       | false ↦ λ other. elim (text_eq r (string_bytes e.0)) as (λ b. text_eq r (string_bytes e.0) ≡ b
           → cond b (Some (f e.1)) (find text_cmp r (keyed f left)) ≡ cond (not (text_eq q r)) (cond b (Some (f e.1)) (find text_cmp r (keyed f es))) None) [
-            | true ↦ λ here. sym (ap (λ b. cond (not b) (Some (f e.1)) None) (ap (λ x. text_eq q x) (same_text r (string_bytes e.0) here) ∙ other))
-            | false ↦ λ _. find-remove_entry f q r es (second _ _ h)
+            | true ↦ λ here. sym (ap (λ b. cond (not b) (Some (f e.1)) None) (ap (λ x. text_eq q x) (text_same r (string_bytes e.0) here) ∙ other))
+            | false ↦ λ _. find-remove_entry f q r es (second_holds _ _ h)
           ] refl
     ] refl
 

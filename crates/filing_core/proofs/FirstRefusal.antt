@@ -2,7 +2,6 @@
 use Rattle.std.proofs.Common.{◌≡◌, ◌∙◌, ap, sym, refl, subst, List, [], ◌∷◌, Option, Some, None, Bool, true, false, cond, not, is_some, true≢false}
 use Rattle.std.specs.Prelude.{option_map, find}
 use Rattle.filing_model.specs.Text.{Text}
-use Rattle.filing_model.specs.TextMap.{get}
 use Rattle.filing_model.specs.Reports.{Report}
 use Rattle.filing_model.specs.Replies.{Reply, Disallowed}
 use Rattle.filing_model.specs.declared.duplicates.Class.{Class}
@@ -38,13 +37,6 @@ turn staged (x ∷ left) rest all e is obeys h =
       obey = subst (UnstagedObey staged) same_rest h.obey.1;
       same = ap first_refusal (sym same_rest) ∙ sym (first_of x left ∙ ap (λ b. cond b (first_refusal left) (Some (disallowed_cell x.0 x.1))) (ap (λ y. report_obeys y.1) same_first ∙ obeys)) ∙ h.same;
     }
-
--- a report for which nothing is staged obeys
-pub unstaged : (staged : StagedFacts) (left rest all : List (Text × Report)) (e : Text × Report) → left ≡ e ∷ rest → get staged e.0 ≡ None → IsLeftToRefuse staged left all → report_obeys e.1 ≡ true
-unstaged staged [] rest all e is none h = absurd cc
-unstaged staged (x ∷ left) rest all e is none h =
-    let same_first : x ≡ e = cc in
-    ap (λ y. report_obeys y.1) (sym same_first) ∙ h.obey.0 (ap (λ y. get staged y.0) same_first ∙ none)
 
 -- what is told of a report
 pub told : (staged : StagedFacts) (left rest all : List (Text × Report)) (e : Text × Report) (r : Reply) → left ≡ e ∷ rest → Some r ≡ report_refusal e.0 e.1 → IsLeftToRefuse staged left all → Some r ≡ first_refusal all

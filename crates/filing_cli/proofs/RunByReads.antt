@@ -1,5 +1,5 @@
 -- A run, read by read.
-use Rattle.std.proofs.Common.{◌≡◌, ℕ, suc, ◌+◌, ◌*◌, ◌≤◌, Bool, true, false, cond, List, [], ◌∷◌, ◌++◌, length, refl, sym, ◌∙◌, ap, subst, inl, inr, arith, length-append}
+use Rattle.std.proofs.Common.{◌≡◌, ℕ, suc, ◌+◌, ◌*◌, ◌≤◌, Bool, true, false, cond, List, [], ◌∷◌, ◌++◌, length, refl, sym, ◌∙◌, ap, subst, inl, inr, arith, length-append, append-nil}
 use Rattle.std.specs.declared.result.Result.{Result}
 use Rattle.std.specs.declared.result.Result.TheVariants.{Ok, Err}
 use Rattle.std.specs.Io.KnownBytes.{Consumes, Keeps, IsAtEnd}
@@ -11,9 +11,8 @@ use Rattle.filing_cli.specs.Lines.{whole_lines, lines_of, lines_read, line_begun
 use Rattle.filing_cli.specs.Run.{Answers, IsUnread, IsEndless, IsStarved, Runs}
 use Rattle.filing_cli.specs.Pieces.{whole_from, rest_from, count_from, HasAnswered, Takes}
 use Rattle.filing_cli.proofs.DeviceSteps.{took_none, consumes_none, consumes_more, consumes_kept}
-use Rattle.filing_cli.proofs.Cuts.{whole_from-append, rest_from-append, whole_lines_lem, lines_of_lem}
-use Rattle.filing_cli.proofs.Taking.{answered_none, answered_more, failed_more, starved_more}
-use Rattle.filing_cli.proofs.Nothing.{append_nil}
+use Rattle.filing_cli.proofs.CutLines.{whole_from-append, rest_from-append, whole_lines_lem, lines_of_lem}
+use Rattle.filing_cli.proofs.TakenLines.{answered_none, answered_more, failed_more, starved_more}
 
 -- no more lines than bytes
 few_lines : (begun text : Text) → length (whole_from begun text) ≤ length text
@@ -34,9 +33,9 @@ module _ {M : Type 0} (R : M → Text → Text → M → Type 0) where
       → HasAnswered R m n s s1 w w1 lines → Takes R result n a s1 s2 w1 w2 more less next → next ≡ first + length lines → count ≡ length lines + less
       → Takes R result m a s s2 w w2 (lines ++ more) count first
   takes_more {lines = lines} a s2 w2 more less count first (Ok x) p q start size = answered_more R p q
-  takes_more {lines = lines} a s2 w2 more less count first (Err Write) p q start size = failed_more R [] (lines ++ more) p q (ap (λ ls. lines ++ ls) (append_nil more))
+  takes_more {lines = lines} a s2 w2 more less count first (Err Write) p q start size = failed_more R [] (lines ++ more) p q (ap (λ ls. lines ++ ls) (append-nil more))
   takes_more {lines = lines} a s2 w2 more less count first (Err (NoMemory number)) p q start size =
-      starved_more R [] (lines ++ more) count first p q (ap (λ ls. lines ++ ls) (append_nil more)) start (omega arith)
+      starved_more R [] (lines ++ more) count first p q (ap (λ ls. lines ++ ls) (append-nil more)) start (omega arith)
   takes_more a s2 w2 more less count first (Err Read) p q start size = absurd q
   takes_more a s2 w2 more less count first (Err Endless) p q start size = absurd q
 
@@ -68,7 +67,7 @@ module _ {M : Type 0} (R : M → Text → Text → M → Type 0) where
     texts = p.texts;
     reached = p.reached;
     answers = p.answers;
-    took = subst (λ text. Took s s2 text 0) (sym (append_nil p.sent.written) ∙ p.sent.parts) p.sent.took;
+    took = subst (λ text. Took s s2 text 0) (sym (append-nil p.sent.written) ∙ p.sent.parts) p.sent.took;
   }
   fault_runs m a s s2 ended reads Read gave p = absurd p
   fault_runs m a s s2 ended reads Endless gave p = absurd p
@@ -130,7 +129,7 @@ module _ {M : Type 0} (R : M → Text → Text → M → Type 0) where
   }
 
   took_all : {m a : M} {s s' : SinkState} {lines : List Text} (p : HasAnswered R m a s s' [] [] lines) → Took s s' (text_of p.texts) 0
-  took_all {s = s} {s' = s'} p = subst (λ text. Took s s' text 0) (sym (append_nil p.sent.written) ∙ p.sent.parts) p.sent.took
+  took_all {s = s} {s' = s'} p = subst (λ text. Took s s' text 0) (sym (append-nil p.sent.written) ∙ p.sent.parts) p.sent.took
 
   pub read_failed : {m m' : M} {source source1 source2 : SourceState} {s s' : SinkState} {turn : ℕ} {begun waiting : Text} {lines : ℕ}
       → IsRead m m' source source1 s s' turn begun waiting lines → Keeps source1.rest source2.rest → source2.ends ≡ source1.ends → source2.failed ≡ source1.failed + 1
@@ -164,7 +163,7 @@ module _ {M : Type 0} (R : M → Text → Text → M → Type 0) where
       → Takes R result m' a s' s2 waiting [] (line_begun begun) (length (line_begun begun)) (lines + 1)
       → Runs R reads result m a source source2 s s2
   read_ended {m} {m'} {source} {source1} {s} {s'} {begun = begun} {waiting = waiting} {lines = lines} source2 a s2 reads result p none end ended failed q =
-      let gave : Gave source source2 p.given 1 0 = subst (λ given. Gave source source2 given 1 0) (append_nil p.given) (gave_more [] 1 0 p.gave none ended (omega arith)) in
+      let gave : Gave source source2 p.given 1 0 = subst (λ given. Gave source source2 given 1 0) (append-nil p.given) (gave_more [] 1 0 p.gave none ended (omega arith)) in
       let here : Takes R result m' a s' s2 [] [] (line_begun begun) (length (line_begun begun)) (lines + 1) = subst (λ w. Takes R result m' a s' s2 w [] (line_begun begun) (length (line_begun begun)) (lines + 1)) p.none_wait q in
       let all : whole_from [] p.given ++ line_begun begun ≡ lines_of p.given = ap (λ b. whole_from [] p.given ++ line_begun b) p.begun_is ∙ sym (lines_of_lem p.given) in
       let size : length (lines_of p.given) ≡ length (whole_from [] p.given) + length (line_begun begun) = sym (ap length all) ∙ length-append (whole_from [] p.given) (line_begun begun) in

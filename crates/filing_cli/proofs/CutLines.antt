@@ -1,5 +1,5 @@
 -- Lines cut from a text that comes in pieces.
-use Rattle.std.proofs.Common.{◌≡◌, ℕ, suc, ◌+◌, ◌<◌, ◌≤◌, true, false, not, cond, List, [], ◌∷◌, ◌++◌, length, take, drop, refl, sym, ◌∙◌, ap, subst, arith, append_assoc, nat_lt}
+use Rattle.std.proofs.Common.{◌≡◌, ℕ, suc, ◌+◌, ◌<◌, ◌≤◌, true, false, not, cond, List, [], ◌∷◌, ◌++◌, length, take, drop, refl, sym, ◌∙◌, ap, subst, arith, append_assoc, nat_lt, append-nil}
 use Rattle.std.specs.declared.option.Option.TheVariants.{None, Some}
 use Rattle.std.specs.List.{position, position_or_len, before_first, after_first, onto_first}
 use Rattle.std.proofs.lemmas.List.Sums.{prefix_len-le-length}
@@ -7,7 +7,6 @@ use borrow.Author.Tests.{ltb-true, ltb-false}
 use Rattle.filing_cli.specs.Text.{Text}
 use Rattle.filing_cli.specs.Lines.{is_line_feed, parts_of, all_but_last, last_of, whole_lines, last_part, lines_of, line_begun}
 use Rattle.filing_cli.specs.Pieces.{whole_from, rest_from}
-use Rattle.filing_cli.proofs.Nothing.{append_nil}
 
 -- the place of the first line feed
 pub position_some : (text : Text) (i : ℕ) → position is_line_feed text ≡ Some i → (position_or_len is_line_feed text ≡ i) × (i < length text)
@@ -67,7 +66,7 @@ whole_at begun (byte ∷ bytes) h =
     cond (not b) (1 + ends bytes) 0 < suc (length bytes)
     → cond b (begun ∷ whole_from [] bytes) (whole_from (begun ++ byte ∷ []) bytes)
     ≡ (begun ++ take (cond (not b) (1 + ends bytes) 0) (byte ∷ bytes)) ∷ whole_from [] (drop (cond (not b) (1 + ends bytes) 0 + 1) (byte ∷ bytes))) [
-      | true ↦ λ k. ap (λ line. line ∷ whole_from [] bytes) (sym (append_nil begun))
+      | true ↦ λ k. ap (λ line. line ∷ whole_from [] bytes) (sym (append-nil begun))
       | false ↦ λ k.
           let one : 1 + ends bytes ≡ suc (ends bytes) = omega arith in
           let two : suc (ends bytes) + 1 ≡ suc (ends bytes + 1) = omega arith in
@@ -105,7 +104,7 @@ whole_none begun (byte ∷ bytes) h =
 
 pub rest_none : (begun text : Text) → ends text ≡ length text → rest_from begun text ≡ begun ++ text
 unfolding rest_from
-rest_none begun [] h = sym (append_nil begun)
+rest_none begun [] h = sym (append-nil begun)
 rest_none begun (byte ∷ bytes) h =
     elim (is_line_feed byte) as (λ b.
     cond (not b) (1 + ends bytes) 0 ≡ suc (length bytes)
@@ -137,7 +136,7 @@ Both begun parts whole last = (all_but_last (onto begun parts) ≡ whole) × (la
 
 both : (begun text : Text) → Both begun (parts_of text) (whole_from begun text) (rest_from begun text)
 unfolding whole_from rest_from
-both begun [] = (refl, append_nil begun)
+both begun [] = (refl, append-nil begun)
 both begun (byte ∷ bytes) =
     let rest = first_of bytes in
     let part : Text = rest.0 in
@@ -149,7 +148,7 @@ both begun (byte ∷ bytes) =
       | true ↦
           let below : Both [] (part ∷ parts) (whole_from [] bytes) (rest_from [] bytes) = subst (λ ps. Both [] ps (whole_from [] bytes) (rest_from [] bytes)) is (both [] bytes) in
           let here : Both begun ([] ∷ (part ∷ parts)) (begun ∷ whole_from [] bytes) (rest_from [] bytes) =
-          (ap (λ line. line ∷ all_but_last (part ∷ parts)) (append_nil begun) ∙ ap (λ lines. begun ∷ lines) below.0, below.1) in
+          (ap (λ line. line ∷ all_but_last (part ∷ parts)) (append-nil begun) ∙ ap (λ lines. begun ∷ lines) below.0, below.1) in
           subst (λ ps. Both begun ([] ∷ ps) (begun ∷ whole_from [] bytes) (rest_from [] bytes)) (sym is) here
       | false ↦
           let more : Text = begun ++ byte ∷ [] in

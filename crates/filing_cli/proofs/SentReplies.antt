@@ -1,13 +1,12 @@
 -- Replies that wait, and what is written of them.
-use Rattle.std.proofs.Common.{◌≡◌, [], ◌++◌, sym, ◌∙◌, ap, subst, arith, append_assoc, length-append}
+use Rattle.std.proofs.Common.{◌≡◌, [], ◌++◌, sym, ◌∙◌, ap, subst, arith, append_assoc, length-append, append-nil}
 use Rattle.std.specs.declared.result.Result.{Result}
 use Rattle.std.specs.declared.result.Result.TheVariants.{Ok, Err}
 use Rattle.std.specs.Result.{MatchResult}
 use Rattle.filing_cli.specs.Text.{Text}
 use Rattle.filing_cli.specs.Devices.{SinkState, Took, TookPart}
 use Rattle.filing_cli.specs.Pieces.{Sent}
-use Rattle.filing_cli.proofs.DeviceSteps.{took_none, took_more, part_after}
-use Rattle.filing_cli.proofs.Nothing.{append_nil}
+use Rattle.filing_cli.proofs.DeviceSteps.{took_more, part_after}
 
 -- a front of a front
 pub part_longer : {a b : SinkState} {x : Text} (y : Text) → TookPart a b x → TookPart a b (x ++ y)
@@ -21,11 +20,7 @@ part_longer y p = record {
 
 -- what is written at once does not wait
 pub sent_now : {a b : SinkState} {waiting text : Text} → Took a b (waiting ++ text) 0 → Sent a b waiting [] text
-sent_now {waiting = waiting} {text = text} p = record { written = waiting ++ text; took = p; parts = append_nil (waiting ++ text) }
-
--- what waits is not written
-pub sent_later : (s : SinkState) (waiting waiting' text : Text) → waiting' ≡ waiting ++ text → Sent s s waiting waiting' text
-sent_later s waiting waiting' text is = record { written = []; took = took_none s; parts = is }
+sent_now {waiting = waiting} {text = text} p = record { written = waiting ++ text; took = p; parts = append-nil (waiting ++ text) }
 
 -- a reply that is written after all that waited
 pub sent_after : {X E : Type 0} {a b c : SinkState} (d : SinkState) {flushed reply : Text} (waiting waiting' end : Text) (r : Result X E)
