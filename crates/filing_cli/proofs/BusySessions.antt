@@ -1,5 +1,6 @@
 -- The test whether some session is open decides it.
 use Rattle.std.proofs.Common.{◌≡◌, ◌∙◌, ap, sym, refl, subst, ℕ, ◌==◌, eqb→eq, [], ◌∷◌, Option, Some, None, Bool, T, ◌||◌, cond, true, false}
+use Rattle.std.proofs.lemmas.Bool.{or_right}
 use Rattle.std.specs.Prelude.{MatchBool}
 use Rattle.std.specs.Option.{option_map_or}
 use mathlib.Core.Bool.{true≢false}
@@ -25,10 +26,6 @@ found_open h (x ∷ xs) e =
       | false ↦ λ _ rest. found_open h xs rest
     ] refl e
 
-or_true : (b : Bool) → (b || true) ≡ true
-or_true true = refl
-or_true false = refl
-
 live_here : (h : History) (s : ℕ) (kind : Kind) (session : Option ℕ) → status_of s h ≡ Live kind → option_map_or (λ n. n == s) session false ≡ true
     → option_map_or (λ n. is_live (status_of n h)) session false ≡ true
 live_here h s kind None live e = e
@@ -39,7 +36,7 @@ open_is_found h s kind live [] k e = let apart : Unknown ≡ Live k = e in cc
 open_is_found h s kind live (x ∷ xs) k e =
     elim (is_of s x) as (λ b. is_of s x ≡ b → cond b (status_after x.step (status_of s xs)) (status_of s xs) ≡ Live k → some_open h (x ∷ xs) ≡ true) [
       | true ↦ λ of _. ap (λ b. b || some_open h xs) (live_here h s kind x.session live of)
-      | false ↦ λ _ rest. ap (λ b. option_map_or (λ n. is_live (status_of n h)) x.session false || b) (open_is_found h s kind live xs k rest) ∙ or_true _
+      | false ↦ λ _ rest. ap (λ b. option_map_or (λ n. is_live (status_of n h)) x.session false || b) (open_is_found h s kind live xs k rest) ∙ or_right _ true refl
     ] refl e
 
 busy_is_found : (h : History) → IsBusy h → is_busy h ≡ true

@@ -17,12 +17,6 @@ appends_more (Some xs) None c x y p q = absurd p
 appends_more (Some xs) (Some ys) None x y p q = absurd q
 appends_more (Some xs) (Some ys) (Some zs) x y p q = q ∙ (ap (λ m. m ++ y) p ∙ append_assoc xs x y)
 
-pub appends_kept : (a b c : Option Text) (x : Text) → Appends a b x → Keeps b c → Appends a c x
-appends_kept None b c x p q = tt
-appends_kept (Some xs) None c x p q = absurd p
-appends_kept (Some xs) (Some ys) None x p q = absurd q
-appends_kept (Some xs) (Some ys) (Some zs) x p q = q ∙ p
-
 pub consumes_none : (known : Option Text) → Consumes known known []
 consumes_none None = tt
 consumes_none (Some xs) = refl

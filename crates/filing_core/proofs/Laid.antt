@@ -1,13 +1,12 @@
 -- Maps laid over one another, as functions.
-use Rattle.std.proofs.Common.{◌≡◌, ◌∙◌, ap, sym, refl, subst, T, List, [], ◌∷◌, ◌++◌, Option, Some, None, cond, true, false}
+use Rattle.std.proofs.Common.{◌≡◌, ◌∙◌, ap, refl, T, List, [], ◌∷◌, ◌++◌, Option, Some, None, cond, true, false}
 use Rattle.std.specs.Option.{option_or}
 use Rattle.std.specs.FinMap.Entries.{find, is_sorted}
 use Rattle.filing_model.specs.Text.{Text, text_cmp, text_eq}
 use Rattle.filing_model.specs.TextMap.{TextMap, empty, get, insert}
 use Rattle.filing_model.proofs.TextMaps.{get-insert, same_map}
 use Rattle.filing_model.proofs.Tests.{first_holds, second_holds}
-use Rattle.filing_model.proofs.Texts.{text_same}
-use Rattle.filing_model.proofs.MapsOfLists.{below_is_not_found}
+use Rattle.filing_model.proofs.MapsOfLists.{tied_is_not_found}
 use Rattle.filing_core.specs.Laid.{laid, laid_entries}
 
 pub get-laid_entries : {X : Type 0} (es : List (Text × X)) (base : TextMap X) (q : Text) → T (is_sorted text_cmp es) → get (laid_entries es base) q ≡ option_or (find text_cmp q es) (get base q)
@@ -16,7 +15,7 @@ get-laid_entries (e ∷ es) base q h =
     get-laid_entries es (insert base e.0 e.1) q (second_holds _ _ h)
     ∙ ap (λ o. option_or (find text_cmp q es) o) (get-insert base e.0 e.1 q)
     ∙ elim (text_eq q e.0) as (λ b. text_eq q e.0 ≡ b → option_or (find text_cmp q es) (cond b (Some e.1) (get base q)) ≡ option_or (cond b (Some e.1) (find text_cmp q es)) (get base q)) [
-      | true ↦ λ same. ap (λ o. option_or o (Some e.1)) (subst (λ k. find text_cmp k es ≡ None) (sym (text_same q e.0 same)) (below_is_not_found e.0 es (first_holds _ _ h)))
+      | true ↦ λ same. ap (λ o. option_or o (Some e.1)) (tied_is_not_found q e.0 es same (first_holds _ _ h))
       | false ↦ λ apart. refl
     ] refl
 

@@ -1,13 +1,13 @@
 -- The facts of a report that pass a test are one list, whichever report they are seen in.
-use Rattle.std.proofs.Common.{◌≡◌, ◌∙◌, ap, sym, refl, subst, Bool, true, false, cond, T, List, [], ◌∷◌, Option, Some, None, filter, is_lt}
+use Rattle.std.proofs.Common.{◌≡◌, ◌∙◌, ap, sym, refl, Bool, true, false, cond, T, List, [], ◌∷◌, Option, Some, None, filter, is_lt}
 use Rattle.std.specs.Cmp.Lexicographic.{nat_list_cmp_total}
 use Rattle.std.specs.FinMap.Entries.{find, is_sorted, below_all, same_entries}
 use Rattle.filing_model.specs.Text.{Text, text_cmp, text_eq}
 use Rattle.filing_model.specs.TextMap.{TextMap, get}
 use Rattle.filing_model.specs.Facts.{Fact}
-use Rattle.filing_model.proofs.Texts.{text_same, text_cmp-Equal}
+use Rattle.filing_model.proofs.Texts.{text_cmp-Equal}
 use Rattle.filing_model.proofs.Tests.{both_hold, first_holds, second_holds}
-use Rattle.filing_model.proofs.MapsOfLists.{below_is_not_found}
+use Rattle.filing_model.proofs.MapsOfLists.{tied_is_not_found}
 
 -- the fact where it passes the test
 abbrev pub only : (Fact → Bool) → Option Fact → Option Fact
@@ -38,7 +38,7 @@ module _ (test : Fact → Bool) where
       → find text_cmp q (cond b (e ∷ filter (λ e. test e.1) es) (filter (λ e. test e.1) es)) ≡ only test (cond t (Some e.1) (find text_cmp q es))
   found q e es below true true same passes rest = ap (λ t. cond t (Some e.1) (find text_cmp q (filter (λ e. test e.1) es))) same ∙ sym (ap (λ b. cond b (Some e.1) None) passes)
   found q e es below true false same fails rest =
-      rest ∙ ap (only test) (below_is_not_found q es (subst (λ x. T (below_all text_cmp x es)) (sym (text_same q e.0 same)) below)) ∙ sym (ap (λ b. cond b (Some e.1) None) fails)
+      rest ∙ ap (only test) (tied_is_not_found q e.0 es same below) ∙ sym (ap (λ b. cond b (Some e.1) None) fails)
   found q e es below false true other passes rest = ap (λ t. cond t (Some e.1) (find text_cmp q (filter (λ e. test e.1) es))) other ∙ rest
   found q e es below false false other fails rest = rest
 

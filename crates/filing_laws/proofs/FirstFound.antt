@@ -1,5 +1,5 @@
 -- What is found first_holds in maps that answer alike is the same.
-use Rattle.std.proofs.Common.{◌≡◌, ◌∙◌, ap, sym, refl, subst, Bool, true, false, cond, T, List, [], ◌∷◌, filter_map, Option, Some, None, option_map, option_and_then, is_lt}
+use Rattle.std.proofs.Common.{◌≡◌, ◌∙◌, ap, sym, refl, Bool, true, false, cond, T, List, [], ◌∷◌, filter_map, Option, Some, None, option_map, option_and_then, is_lt}
 use Rattle.std.specs.List.{cons_option, list_all}
 use Rattle.std.specs.Option.{option_or}
 use Rattle.std.specs.Cmp.Lexicographic.{nat_list_cmp_total}
@@ -8,7 +8,7 @@ use Rattle.std.proofs.lemmas.Bool.{and_parts}
 use Rattle.filing_model.specs.Text.{Text, text_cmp, text_eq}
 use Rattle.filing_model.proofs.Texts.{text_same, text_cmp-Equal, text_eq-refl}
 use Rattle.filing_model.proofs.Tests.{both_hold, first_holds, second_holds}
-use Rattle.filing_model.proofs.MapsOfLists.{below_is_not_found}
+use Rattle.filing_model.proofs.MapsOfLists.{tied_is_not_found}
 use Rattle.filing_laws.specs.NetChange.{find_map}
 use Rattle.filing_laws.proofs.EachElement.{Each, each_mapped}
 
@@ -20,8 +20,7 @@ found_behind e es q x below found = by (text_eq q e.0) refl
   where
     by : (b : Bool) → text_eq q e.0 ≡ b → cond b (Some e.1) (find text_cmp q es) ≡ Some x
     by true same =
-        let gone : find text_cmp q es ≡ None = subst (λ q. find text_cmp q es ≡ None) (sym (text_same q e.0 same)) (below_is_not_found e.0 es below) in
-        let apart : None ≡ Some x = sym gone ∙ found in
+        let apart : None ≡ Some x = sym (tied_is_not_found q e.0 es same below) ∙ found in
         cc
     by false other = found
 
@@ -80,7 +79,7 @@ module _ {X B : Type 0} (f : Text → X → Option B) where
   find-made q (e ∷ es) sorted = by (text_eq q e.0) refl (f e.0 e.1) refl (find-made q es (second_holds (below_all text_cmp e.0 es) (is_sorted text_cmp es) sorted))
     where
       gone : text_eq q e.0 ≡ true → find text_cmp q es ≡ None
-      gone same = below_is_not_found q es (subst (λ x. T (below_all text_cmp x es)) (sym (text_same q e.0 same)) (first_holds (below_all text_cmp e.0 es) (is_sorted text_cmp es) sorted))
+      gone same = tied_is_not_found q e.0 es same (first_holds (below_all text_cmp e.0 es) (is_sorted text_cmp es) sorted)
 
       by : (b : Bool) → text_eq q e.0 ≡ b → (o : Option B) → f e.0 e.1 ≡ o → find text_cmp q (made es) ≡ option_and_then (f q) (find text_cmp q es)
           → find text_cmp q (cons_option (option_map (λ b. (e.0, b)) o) (made es)) ≡ option_and_then (f q) (cond b (Some e.1) (find text_cmp q es))

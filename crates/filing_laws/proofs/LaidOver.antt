@@ -1,5 +1,5 @@
 -- What stands at each place of a repository with a change laid over it, and that repositories with the same reports are one.
-use Rattle.std.proofs.Common.{◌≡◌, ◌∙◌, ap, sym, refl, subst, Bool, true, false, cond, T, List, [], ◌∷◌, Option, Some, None, option_map, unwrap_or}
+use Rattle.std.proofs.Common.{◌≡◌, ◌∙◌, ap, sym, refl, Bool, true, false, cond, T, List, [], ◌∷◌, Option, Some, None, option_map, unwrap_or}
 use Rattle.std.specs.Option.{option_map_or}
 use Rattle.std.specs.FinMap.Entries.{find, is_sorted, below_all}
 use Rattle.filing_model.specs.Text.{Text, text_cmp, text_eq}
@@ -11,7 +11,7 @@ use Rattle.filing_model.specs.Touches.{Change}
 use Rattle.filing_model.proofs.TextMaps.{same_map, get-insert}
 use Rattle.filing_model.proofs.Texts.{text_same}
 use Rattle.filing_model.proofs.Tests.{first_holds, second_holds}
-use Rattle.filing_model.proofs.MapsOfLists.{below_is_not_found}
+use Rattle.filing_model.proofs.MapsOfLists.{tied_is_not_found}
 use Rattle.filing_laws.specs.NetChange.{with_facts, with_facts_at, with_reports, laid_over}
 use Rattle.filing_laws.proofs.WithOneFact.{fact_in-with_fact, report_at-with_fact_at}
 
@@ -76,7 +76,7 @@ report_at-with_reports (e ∷ es) c m sorted =
     ∙ by (text_eq m e.0) refl (report_at-with_reports es c m (second_holds (below_all text_cmp e.0 es) (is_sorted text_cmp es) sorted))
   where
     gone : text_eq m e.0 ≡ true → find text_cmp m es ≡ None
-    gone same = below_is_not_found m es (subst (λ x. T (below_all text_cmp x es)) (sym (text_same m e.0 same)) (first_holds (below_all text_cmp e.0 es) (is_sorted text_cmp es) sorted))
+    gone same = tied_is_not_found m e.0 es same (first_holds (below_all text_cmp e.0 es) (is_sorted text_cmp es) sorted)
 
     by : (b : Bool) → text_eq m e.0 ≡ b → report_at (with_reports es c) m ≡ option_map (changed es m) (report_at c m)
         → cond b (option_map (with_facts e.1.entries) (report_at (with_reports es c) m)) (report_at (with_reports es c) m)

@@ -1,5 +1,5 @@
 -- Proof that numbers are bounded: with 20 and 12 digits, below 10^32 units.
-use Rattle.std.proofs.Common.{◌≡◌, ℕ, zero, suc, ◌+◌, ◌-◌, ◌*◌, ◌^◌, ◌<◌, ◌≤◌, nat_lt, Bool, true, false, cond, ◌&&◌, [], ◌∷◌, ◌++◌, length, take, ℤ, nat_abs, Result, Ok, Err, refl, ap, sym, subst, ◌∙◌, arith, pow-add}
+use Rattle.std.proofs.Common.{◌≡◌, ℕ, zero, suc, ◌+◌, ◌-◌, ◌*◌, ◌^◌, ◌<◌, ◌≤◌, nat_lt, Bool, true, false, ◌&&◌, [], ◌∷◌, ◌++◌, length, take, ℤ, nat_abs, Result, Ok, Err, refl, ap, sym, subst, ◌∙◌, arith, pow-add}
 use Rattle.std.proofs.Math.Nat.{mul-le-mul_right, mul-lt-mul_of_pos_right, pow-le-pow_right, pow-suc}
 use Rattle.std.proofs.lemmas.List.{length-append, take-append-drop}
 use Rattle.std.proofs.lemmas.List.Folds.{list_all-append}
@@ -13,10 +13,7 @@ use Rattle.filing_model.specs.declared.faults.NumberFault.{NumberFault}
 use Rattle.filing_model.specs.declared.faults.NumberFault.TheVariants.{NotANumber, TooLarge}
 use Rattle.filing_model.proofs.Trimming.{end_parts}
 use Rattle.filing_model.proofs.Numerals.{few_whole_digits, few_fraction_digits}
-
-by_cond : (b : Bool) (r : Result ℕ NumberFault) (fault : NumberFault) (size : ℕ) → cond b r (Err fault) ≡ Ok size → (b ≡ true) × (r ≡ Ok size)
-by_cond true r fault size e = (refl, e)
-by_cond false r fault size e = absurd (cc)
+use Rattle.filing_model.proofs.Tests.{passed_test}
 
 by_sign : (negative : Bool) (r : Result ℕ NumberFault) (n : ℤ) → with_sign negative r ≡ Ok n → (size : ℕ) × (r ≡ Ok size) × (n ≡ signed negative size)
 by_sign negative (Ok size) n e = (size, refl, (cc))
@@ -71,8 +68,8 @@ size_below digits size e =
     let fraction = after_first is_point digits in
     let cut = without_front is_zero whole in
     let kept = without_end is_zero fraction in
-    let numeral = by_cond (are_digits (whole ++ fraction)) (size_of_few cut kept) NotANumber size e in
-    let few = by_cond (are_few cut kept) (Ok (scaled cut kept)) TooLarge size numeral.1 in
+    let numeral = passed_test (are_digits (whole ++ fraction)) (size_of_few cut kept) NotANumber size e in
+    let few = passed_test (are_few cut kept) (Ok (scaled cut kept)) TooLarge size numeral.1 in
     let same : scaled cut kept ≡ size = (cc few.1) in
     let all = (and_parts (nat_lt 0 (length (whole ++ fraction))) (list_all is_ascii_digit (whole ++ fraction)) numeral.0).1 in
     subst (λ n. n < 10 ^ (most_whole_digits + most_fraction_digits)) same (scaled_below cut kept (all_digits whole fraction all) (few_whole_digits cut kept few.0) (few_fraction_digits cut kept few.0))

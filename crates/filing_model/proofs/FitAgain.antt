@@ -11,16 +11,12 @@ use Rattle.filing_model.specs.declared.faults.NumberFault.{NumberFault}
 use Rattle.filing_model.specs.declared.faults.NumberFault.TheVariants.{DecimalsOutOfRange}
 use Rattle.filing_model.specs.declared.faults.FactFault.{FactFault}
 use Rattle.filing_model.specs.declared.faults.FactFault.TheVariants.{UnboundPrefix, Misplaced}
-use Rattle.filing_model.proofs.Tests.{same_Ok, no_Err, no_fault}
-
-passed : {A E : Type 0} (b : Bool) (r : Result A E) (e : E) (x : A) → cond b r (Err e) ≡ Ok x → (b ≡ true) × (r ≡ Ok x)
-passed true r e x h = (refl, h)
-passed false r e x h = no_Err e x h
+use Rattle.filing_model.proofs.Tests.{same_Ok, no_Err, no_fault, passed_test}
 
 accuracy_again : (decimals d : Option ℤ) → accuracy_of decimals ≡ Ok d → accuracy_of d ≡ Ok d
 accuracy_again None d h = subst (λ o. accuracy_of o ≡ Ok o) (same_Ok _ _ h) refl
 accuracy_again (Some z) d h =
-    let parts = passed (are_decimals z) (Ok (Some z)) DecimalsOutOfRange d h in
+    let parts = passed_test (are_decimals z) (Ok (Some z)) DecimalsOutOfRange d h in
     subst (λ o. accuracy_of o ≡ Ok o) (same_Ok _ _ parts.1) (ap (λ b. cond b (Ok (Some z)) (Err DecimalsOutOfRange)) parts.0)
 
 number_again : (text : Text) (decimals : Option ℤ) (r : Result ℤ NumberFault) (a : Result (Option ℤ) NumberFault) → number_of text ≡ r → accuracy_of decimals ≡ a → (v : FactValue) → number_with text r a ≡ Ok v → numeric_value (text_of v) (decimals_in v) ≡ Ok v
@@ -58,7 +54,7 @@ made_again raw numeric (Ok v) fact p h = (v, same_Ok _ _ h, value_again numeric 
 bound_again : (names : Names) (raw : RawFact) (concept : Option (Text × Text)) (fact : Fact) → fit_bound names raw concept ≡ Ok fact → (raw.dims ≡ fact.dims) × (fit_bound names (raw_of fact) concept ≡ Ok fact)
 bound_again names raw None fact h = no_Err UnboundPrefix fact h
 bound_again names raw (Some concept) fact h =
-    let parts = passed (are_bound names.prefixes raw.dims) _ UnboundPrefix fact h in
+    let parts = passed_test (are_bound names.prefixes raw.dims) _ UnboundPrefix fact h in
     let numeric = is_numeric names.table concept in
     let is = made_again raw numeric _ fact refl parts.1 in
     subst (λ f. (raw.dims ≡ f.dims) × (fit_bound names (raw_of f) (Some concept) ≡ Ok f)) is.1

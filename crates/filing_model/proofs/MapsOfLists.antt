@@ -10,7 +10,7 @@ use Rattle.std.proofs.lemmas.List.Sorted.{IsPermutation-refl, IsPermutation-sym,
 use Rattle.filing_model.specs.Text.{Text, text_cmp, text_eq, has_repeats}
 use Rattle.filing_model.specs.TextMap.{from_entries}
 use Rattle.filing_model.proofs.TextMaps.{get-from_entries}
-use Rattle.filing_model.proofs.Texts.{text_cmp-Equal, text_eq-refl, text_eq-sym, text_decides}
+use Rattle.filing_model.proofs.Texts.{text_cmp-Equal, text_eq-refl, text_eq-sym, text_decides, text_same}
 use Rattle.filing_model.proofs.Tests.{both_hold, first_holds, second_holds, less_from_is_lt, less_from_not_greater, none_from_not_is_some}
 
 module _ {X : Type 0} where
@@ -26,6 +26,9 @@ module _ {X : Type 0} where
   below_is_not_found q [] h = refl
   below_is_not_found q (e ∷ es) h =
       ap (λ o. cond (is_eq o) (Some e.1) (find text_cmp q es)) (less_from_is_lt (text_cmp q e.0) (first_holds _ _ h)) ∙ below_is_not_found q es (second_holds _ _ h)
+
+  pub tied_is_not_found : (q x : Text) (es : List (Text × X)) → text_eq q x ≡ true → T (below_all text_cmp x es) → find text_cmp q es ≡ None
+  tied_is_not_found q x es same h = subst (λ y. find text_cmp y es ≡ None) (sym (text_same q x same)) (below_is_not_found x es h)
 
   -- ---- entries that change places
 

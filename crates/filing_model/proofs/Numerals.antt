@@ -1,5 +1,5 @@
 -- Proofs of the laws of numerals: the number of a text and the grammar of spellings agree.
-use Rattle.std.proofs.Common.{◌≡◌, ◌≢◌, ℕ, suc, ◌+◌, ◌-◌, ◌*◌, ◌^◌, ◌<◌, ◌≤◌, ◌==◌, nat_lt, Bool, true, false, not, cond, ◌||◌, [], ◌∷◌, ◌++◌, length, take, pos, ◌*ℤ◌, Option, Some, None, Ok, Err, refl, ap, sym, ◌∙◌, arith, append_assoc, zero, zero-mul, pow-add}
+use Rattle.std.proofs.Common.{◌≡◌, ◌≢◌, ℕ, suc, ◌+◌, ◌-◌, ◌*◌, ◌^◌, ◌<◌, ◌≤◌, ◌==◌, nat_lt, Bool, true, false, not, cond, ◌||◌, [], ◌∷◌, ◌++◌, length, take, pos, ◌*ℤ◌, Option, Some, None, Ok, Err, refl, ap, sym, ◌∙◌, arith, append_assoc, zero, zero-mul, pow-add, eqb-true}
 use Rattle.std.proofs.lemmas.List.{length-append, take-append-drop}
 use Rattle.std.proofs.lemmas.List.Folds.{list_all-append}
 use Rattle.std.proofs.lemmas.Bool.Decides.{nat_tests}
@@ -220,9 +220,6 @@ fraction_of : Text → Option Text
 fraction_of [] = None
 fraction_of (c ∷ text) = cond (is_point c) (Some text) (fraction_of text)
 
-is_code : (c k : ℕ) → (c == k) ≡ true → c ≡ k
-is_code c k e = grind (arith, nat_tests)
-
 by_sign : (c : ℕ) (text : Text) (plus minus : Bool) → (plus ≡ true → c ≡ 43) → (minus ≡ true → c ≡ 45) → c ∷ text ≡ sign_text (cond minus Minus (cond plus Plus Unsigned)) ++ cond (plus || minus) text (c ∷ text)
 by_sign c text true true p m = ap (λ d. d ∷ text) (m refl)
 by_sign c text true false p m = ap (λ d. d ∷ text) (p refl)
@@ -232,7 +229,7 @@ by_sign c text false false p m = refl
 sign_parts : (text : Text) → text ≡ sign_text (sign_of text) ++ without_sign text
 unfolding sign_of
 sign_parts [] = refl
-sign_parts (c ∷ text) = by_sign c text (c == 43) (is_minus c) (is_code c 43) (is_code c 45)
+sign_parts (c ∷ text) = by_sign c text (c == 43) (is_minus c) (eqb-true c 43) (eqb-true c 45)
 
 by_point : (c : ℕ) (text before : Text) (fraction : Option Text) (b : Bool) → (b ≡ true → c ≡ 46) → text ≡ before ++ fraction_text fraction → c ∷ text ≡ cond b [] (c ∷ before) ++ fraction_text (cond b (Some text) fraction)
 by_point c text before fraction true point e = ap (λ d. d ∷ text) (point refl)
@@ -242,7 +239,7 @@ point_parts : (text : Text) → text ≡ before_first is_point text ++ fraction_
 unfolding fraction_of
 point_parts [] = refl
 point_parts (c ∷ text) =
-    by_point c text (before_first is_point text) (fraction_of text) (is_point c) (is_code c 46) (point_parts text)
+    by_point c text (before_first is_point text) (fraction_of text) (is_point c) (eqb-true c 46) (point_parts text)
     ∙ ap (λ l. l ++ fraction_text (cond (is_point c) (Some text) (fraction_of text))) (sym (before_cons is_point c text))
 
 by_fraction : (text after : Text) (fraction : Option Text) (b : Bool) → fraction_digits fraction ≡ after → fraction_digits (cond b (Some text) fraction) ≡ cond b text after

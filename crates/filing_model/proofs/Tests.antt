@@ -54,3 +54,8 @@ no_Err e x h = absurd (true≢false (sym (ap is_ok h)))
 pub no_fault : {A E : Type 0} (b : Bool) (e : E) (r : Result A E) (x : A) → cond b (Err e) r ≡ Ok x → (b ≡ false) × (r ≡ Ok x)
 no_fault true e r x h = no_Err e x h
 no_fault false e r x h = (refl, h)
+
+-- and where the second is
+pub passed_test : {A E : Type 0} (b : Bool) (r : Result A E) (e : E) (x : A) → cond b r (Err e) ≡ Ok x → (b ≡ true) × (r ≡ Ok x)
+passed_test true r e x h = (refl, h)
+passed_test false r e x h = no_Err e x h
