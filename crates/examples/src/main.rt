@@ -1,10 +1,10 @@
-//! Runs the scripts that lie beside it, each with its replies in a file of its own, and tells which replies are not those.
+//! Runs the scripts that lie beside it, each with its replies in a file of its own, and tells which replies are not those. Of a script at which memory was wanted it tells the line, and how many bytes of its replies were written.
 #![tactic(auto)]
 
 ghost use Rattle.std.specs.Prelude.{◌≡◌, ◌≤◌, ◌<◌};
 
 use anyhow::Result;
-use filing_cli::{MemoryIn, MemoryOut, run_script};
+use filing_cli::{MemoryIn, MemoryOut, ScriptFault, run_script};
 use oim_fact::NumericTable;
 use oim_report::read_table;
 use std::alloc::Global;
@@ -15,27 +15,36 @@ use std::sync::Arc;
 use std::sync::ledger::{Blank, Ledger};
 
 /// Each is a script NAME.jsonl with the replies NAME.replies.
-const NAMES: [&str; 6] = [
+const NAMES: [&str; 7] = [
     "amendment",
     "duplicates",
     "numbers",
     "refused",
     "export",
     "annual_report",
+    "every_reply",
 ];
 
 // So many bytes of replies are written without a growth.
 const ROOM: usize = 65536;
 
-/// Whether the replies to a script are these.
-fn replies_are<L: Ledger, K: Ledger>(
+/// How a script ended, beside the replies that it is to have.
+enum Ended {
+    AsWritten,
+    /// Memory was wanted at the line, when the first so many bytes of the replies were written.
+    NoMemory(u128, usize),
+    OtherReplies,
+}
+
+/// Runs a script, and compares its replies with these.
+fn run_beside<L: Ledger, K: Ledger>(
     alloc: Global,
     table: &Arc<NumericTable>,
     script: &[u8],
     replies: &[u8],
     source_blank: Blank,
     sink_blank: Blank,
-) -> Result<bool>
+) -> Result<Ended>
     requires source_name { source_blank.name ≡ L.name }
     requires source_parts { source_blank.parts ≡ L.parts }
     requires source_three { 3 ≤ source_blank.parts }
@@ -45,8 +54,16 @@ fn replies_are<L: Ledger, K: Ledger>(
 {
     let mut source: MemoryIn<'_, L> = MemoryIn::new(script, ROOM, source_blank);
     let mut sink: MemoryOut<K> = MemoryOut::new(alloc, ROOM, ROOM, sink_blank)?;
-    run_script(alloc, &mut source, &mut sink, table)?;
-    Ok(sink.written() == replies)
+    let fault = run_script(alloc, &mut source, &mut sink, table).err();
+    let written = sink.written();
+    match fault {
+        None if written == replies => Ok(Ended::AsWritten),
+        Some(ScriptFault::NoMemory(line)) if replies.starts_with(written) => {
+            Ok(Ended::NoMemory(line, written.len()))
+        }
+        None | Some(ScriptFault::NoMemory(_)) => Ok(Ended::OtherReplies),
+        Some(fault) => Err(fault.into()),
+    }
 }
 
 /// Runs the script of this name, and tells how its replies are.
@@ -58,7 +75,7 @@ fn try_example<R: Files + Print + AllocGlobal>(
     let alloc = rt.alloc();
     let script = fs::read(rt, format!(in alloc; "{name}.jsonl")?)?;
     let replies = fs::read(rt, format!(in alloc; "{name}.replies")?)?;
-    let same = replies_are::<Brand, Brand>(
+    let ended = run_beside::<Brand, Brand>(
         alloc,
         table,
         script.as_slice(),
@@ -66,8 +83,13 @@ fn try_example<R: Files + Print + AllocGlobal>(
         Blank::new(3),
         Blank::new(1),
     )?;
-    let told = if same { "as written" } else { "OTHER REPLIES" };
-    println!(rt; "{name}: {told}")?;
+    match ended {
+        Ended::AsWritten => println!(rt; "{name}: as written")?,
+        Ended::NoMemory(line, count) => {
+            println!(rt; "{name}: no memory at line {line}, after {count} bytes")?
+        }
+        Ended::OtherReplies => println!(rt; "{name}: OTHER REPLIES")?,
+    }
     Ok(())
 }
 

@@ -5,6 +5,7 @@ use crate::fault::Fault;
 use clap::error::ErrorKind;
 use clap::{Arg, ArgAction, ArgMatches, Command, Error};
 use std::alloc::{AllocError, Global};
+use std::{env, io};
 
 /// What the words of the command line ask for.
 #[derive(Clone, Copy, Debug, PartialEq, Eq)]
@@ -40,6 +41,25 @@ fn ordered<'a>(matches: &ArgMatches<'a>) -> Result<Order<'a>, Fault> {
         }),
         None => Err(Fault::Words),
     }
+}
+
+/// The words that the program was given. That some are no text is told as `clap` tells it.
+pub(crate) fn given_words(rt: &HostRuntime) -> Result<Vec<String>, Fault> {
+    let args = match env::args(rt) {
+        Ok(args) => args,
+        Err(error) => {
+            if error.kind() == io::ErrorKind::OutOfMemory {
+                return Err(Fault::NoMemory);
+            }
+            let _ = rt.eprintln("error: invalid UTF-8 was detected in one or more arguments");
+            return Err(Fault::Words);
+        }
+    };
+    let mut words = Vec::new(rt.alloc());
+    for word in args {
+        words.push(word)?;
+    }
+    Ok(words)
 }
 
 /// Reads the words. What is refused is told as `clap` tells it.
