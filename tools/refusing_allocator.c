@@ -1,44 +1,79 @@
 /* Loaded before the C library, it refuses growths of a program: calls of malloc and realloc.
 
    REFUSED_FROM and REFUSED_TO are the numbers, from 1, of the first and the last growth that is refused; none is where
-   they are 0 or absent. When the program ends, one line goes to the descriptor REFUSED_TELL: how many growths there
-   were, and how many line feeds had been read from standard input when the first was refused. */
+   they are absent. With REFUSED_EACH, a descriptor of a file, the program itself is refused nothing: at each growth a
+   copy of it is made, which is refused this one alone, and goes on with that file as its standard output and error. What
+   became of a copy goes to the descriptor REFUSED_TELL: the number of the growth, the status, how many bytes it wrote,
+   and these. When the program ends, one line goes there: how many growths there were, and how many line feeds had been
+   read from standard input when the first was refused. */
 #include <stdio.h>
 #include <stdlib.h>
 #include <sys/syscall.h>
+#include <sys/wait.h>
 #include <unistd.h>
 
 void *__libc_malloc(size_t size);
 void *__libc_realloc(void *kept, size_t size);
 
 static unsigned long from, to, growths, feeds, feeds_then;
-static int tell = -1;
+static int tell = -1, each = -1;
 
-static unsigned long number(const char *name)
+static long number(const char *name, long absent)
 {
     const char *word = getenv(name);
-    return word ? strtoul(word, 0, 10) : 0;
+    return word ? strtol(word, 0, 10) : absent;
 }
 
 __attribute__((constructor)) static void begin(void)
 {
-    from = number("REFUSED_FROM");
-    to = number("REFUSED_TO");
-    if (getenv("REFUSED_TELL"))
-        tell = (int)number("REFUSED_TELL");
+    from = number("REFUSED_FROM", 0);
+    to = number("REFUSED_TO", 0);
+    tell = number("REFUSED_TELL", -1);
+    each = number("REFUSED_EACH", -1);
+}
+
+static void say(const char *bytes, long count)
+{
+    if (write(tell, bytes, count) != count)
+        _exit(99);
 }
 
 __attribute__((destructor)) static void end(void)
 {
     char line[64];
-    int length = snprintf(line, sizeof line, "%lu %lu\n", growths, feeds_then);
-    if (tell >= 0 && write(tell, line, length) != length)
+    if (tell >= 0)
+        say(line, snprintf(line, sizeof line, "%lu %lu\n", growths, feeds_then));
+}
+
+/* Makes a copy of the program, in which alone the answer is true, and tells what became of it. */
+static int is_refused_copy(void)
+{
+    char bytes[4096], line[64];
+    int status;
+    pid_t copy = fork();
+    if (copy == 0) {
+        alarm(60);
+        dup2(each, 1);
+        dup2(each, 2);
+        tell = each = -1;
+        return 1;
+    }
+    if (waitpid(copy, &status, 0) != copy)
         _exit(99);
+    status = WIFEXITED(status) ? WEXITSTATUS(status) : 128 + WTERMSIG(status);
+    long count = pread(each, bytes, sizeof bytes, 0);
+    say(line, snprintf(line, sizeof line, "%lu %d %ld\n", growths, status, count));
+    say(bytes, count);
+    if (ftruncate(each, 0) || lseek(each, 0, SEEK_SET))
+        _exit(99);
+    return 0;
 }
 
 static int is_refused(void)
 {
     growths++;
+    if (each >= 0)
+        return is_refused_copy();
     if (growths == from)
         feeds_then = feeds;
     return from <= growths && growths <= to;
