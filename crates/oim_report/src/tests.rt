@@ -6,7 +6,9 @@ mod tables;
 mod wholes;
 mod written;
 
-use crate::{Report, ReportFault, Trouble, json_value, read_report, read_table, report_of};
+use crate::{
+    Report, ReportFault, Trouble, json_value, read_report, read_table, report_from, report_of,
+};
 use filing_model::{DimFault, FactFault};
 use oim_fact::NumericTable;
 use std::alloc::Global;
@@ -76,7 +78,7 @@ fn known(answer: Result<Report, ReportFault>) -> Result<Result<Report, ReportFau
     }
 }
 
-// Reads a text whole and by its value, each with this answer.
+// Reads a text whole, by its value and out of its value, each with this answer.
 fn reads_as(
     rt: &impl Abort,
     alloc: Global,
@@ -92,6 +94,10 @@ fn reads_as(
         assert!(rt;
             told(&known(report_of(alloc, &value, &table))?) == wanted,
             "by value: {text}"
+        );
+        assert!(rt;
+            told(&known(report_from(alloc, value, &table))?) == wanted,
+            "out of its value: {text}"
         );
     }
     Ok(())

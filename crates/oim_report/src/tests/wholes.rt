@@ -207,8 +207,8 @@ fn a_report_is_read_of_its_value(rt: HostRuntime) -> Result<(), Fail> {
 }
 
 #[test]
-fn a_report_is_made_of_its_parts(rt: HostRuntime) -> Result<(), Fail> {
-    let parts = whole(rt.alloc())?.into_parts();
+fn a_report_is_made_of_the_parts_of_its_clone(rt: HostRuntime) -> Result<(), Fail> {
+    let parts = whole(rt.alloc())?.clone()?.into_parts();
     assert!(rt; parts.info.as_str() == INFO && parts.facts.len() == FACTS.len());
     assert!(rt; is_whole(&Report::of(parts))?);
     Ok(())
