@@ -1,4 +1,4 @@
-//! Runs the scripts that lie beside it, each with its replies in a file of its own, and tells which replies are not those. Of a script at which memory was wanted it tells the line, and how many bytes of its replies were written.
+//! Runs the scripts that lie beside it, each with its replies in a file of its own, and tells which replies are not those. Of a script at which memory was wanted it tells the line, and how many bytes of its replies were written. It knows scripts and replies as bytes alone.
 #![tactic(auto)]
 
 ghost use Rattle.std.specs.Prelude.{◌≡◌, ◌≤◌, ◌<◌};

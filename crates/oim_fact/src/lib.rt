@@ -1,5 +1,7 @@
 //! Facts of xBRL-JSON reports: dimension sets, the names of a report, and facts fitted to them.
 //!
+//! `dims` has dimension sets, and `compared_dims` their order, equality and hash. `names` is the prefixes of a report, `table` the numeric concepts, `fact` what is read and what fits, and `fitting` the way from the one to the other. `pairs` says what two facts are to one another, `tally` the class of a cell in one pass, and `classes` is that of a list or an iterator.
+//!
 //! It knows nothing of JSON, of reports as a whole, or of versions.
 #![tactic(auto)]
 

@@ -1,5 +1,7 @@
 //! Reports and numeric tables of xBRL-JSON 1.0, read from their texts, and facts and reports written.
 //!
+//! In reading, `values` makes a JSON value of bytes, `reading` a report of the value, `info` reads `documentInfo`, `facts` all facts and `fact` one; `table` reads numeric tables, and `fault` says why a text is no report. `report` is what was read. In writing, `report_text` and `fact_text` put texts together of `pieces`. `read_back` has the laws that what is written is read back.
+//!
 //! It knows nothing of versions, of sessions or of devices.
 #![tactic(auto)]
 
