@@ -39,3 +39,8 @@ status_of Words = 2
 status_of (TableLine number) = 2
 status_of TableNotText = 2
 status_of NoMemory = 3
+
+-- the status that the program ends with
+abbrev pub status_after : Result (Unit {0}) Fault → ℕ
+status_after (Ok done) = 0
+status_after (Err fault) = status_of fault

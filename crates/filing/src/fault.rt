@@ -1,4 +1,5 @@
 ghost use Rattle.std.specs.Prelude.{◌≡◌};
+ghost use Rattle.std.specs.Process.{exit_status};
 ghost use Rattle.filing.specs.Faults.{status_of};
 
 use filing_cli::ScriptFault;
@@ -33,7 +34,9 @@ impl Fault {
     }
 
     /// Tells the fault in one line on standard error, and gives its status.
-    pub(crate) fn tell(self, rt: &impl Eprint) -> ExitCode {
+    pub(crate) fn tell(self, rt: &impl Eprint) -> ExitCode
+        ensures { exit_status result ≡ status_of self }
+    {
         let told = match self {
             Fault::Words => Ok(()),
             Fault::Read => rt.eprintln("filing: read fault"),

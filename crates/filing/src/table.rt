@@ -1,5 +1,6 @@
 //! The numeric table of the command line.
 
+ghost use Rattle.std.specs.Prelude.{◌≡◌, [], None, Ok};
 ghost use Rattle.filing.specs.Faults.{IsTableOf};
 
 use crate::fault::Fault;
@@ -38,7 +39,9 @@ fn bytes_of<R: Files + AllocGlobal>(rt: &R, path: &str) -> Result<Vec<u8>, Fault
 pub(crate) fn numeric_table<R: Files + AllocGlobal>(
     rt: &R,
     path: Option<&str>,
-) -> Result<NumericTable, Fault> {
+) -> Result<NumericTable, Fault>
+    ensures { path.entry ≡ None → result ≡ Ok [] }
+{
     let Some(path) = path else {
         return Ok(NumericTable::of(Vec::new(rt.alloc()))?);
     };

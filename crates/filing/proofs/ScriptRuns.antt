@@ -1,0 +1,15 @@
+-- What a script's run leaves of its source and its sink is what it leaves of a reader and a writer.
+use Rattle.std.proofs.Common.{◌≡◌, subst, List, ℕ, Option}
+use Rattle.filing_model.specs.Facts.{Table}
+use Rattle.filing_model.specs.History.{History}
+use Rattle.filing_cli.specs.Devices.{SourceState, SinkState, new_source, new_sink}
+use Rattle.filing_cli.specs.ScriptRun.{IsScriptEnded}
+use Rattle.filing.specs.Runs.{WritesScript}
+
+pub script_written : (table : Table) (history : History) (source source' : SourceState) (sink sink' : SinkState) (rest written : Option (List ℕ))
+    → source ≡ new_source rest → sink ≡ new_sink written → IsScriptEnded table source source' sink sink' history
+    → WritesScript table rest source'.rest written sink'.written
+script_written table history source source' sink sink' rest written source_is sink_is ended =
+    subst (λ s. WritesScript table s.rest source'.rest written sink'.written) source_is
+    (subst (λ s. WritesScript table source.rest source'.rest s.written sink'.written) sink_is
+    (record { given = ended.given; gave = ended.gave.bytes; at_end = ended.at_end; took = ended.took.bytes }))
