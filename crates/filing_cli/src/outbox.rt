@@ -1,4 +1,4 @@
-ghost use Rattle.std.specs.Prelude.{◌≡◌, [], ◌∷◌, ◌++◌, MatchResult, MatchBool, OnOk};
+ghost use Rattle.std.specs.Prelude.{◌≡◌, ◌≤◌, [], ◌∷◌, ◌++◌, MatchResult, MatchBool, OnOk, vec_len};
 ghost use Rattle.filing_cli.specs.Devices.{Took, TookPart};
 ghost use Rattle.filing_cli.specs.Pieces.{Sent, WritesOut};
 
@@ -13,6 +13,7 @@ const ROOM: usize = 65536;
 #[derive(Drop)]
 pub(crate) struct Outbox {
     pub(crate) waiting: Vec<u8>,
+    ghost few: { vec_len waiting ≤ 65536 },
 }
 
 impl Outbox {
