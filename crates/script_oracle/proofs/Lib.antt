@@ -1,0 +1,4 @@
+pub mod NamedLists
+pub mod Plain
+pub mod FoundCells
+pub mod Copies

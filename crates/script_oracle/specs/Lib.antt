@@ -1,0 +1,4 @@
+pub mod Named
+pub mod Views
+pub mod Alone
+pub mod Cells
