@@ -1,5 +1,5 @@
 -- What is told of a cell, by the place of one of its facts.
-use Rattle.std.proofs.Common.{◌≡◌, ◌∙◌, ap, sym, refl, subst, ℕ, suc, ◌+◌, ◌<◌, ◌≤◌, arith, nat_lt, List, [], ◌∷◌, map, length, get_or, Option, Some, None, Bool, not, cond, true, false, true≢false}
+use Rattle.std.proofs.Common.{◌≡◌, ◌∙◌, ap, sym, refl, subst, ℕ, suc, ◌+◌, ◌<◌, ◌≤◌, arith, nat_lt, List, [], ◌∷◌, map, length, get_or, Some, None, Bool, not, cond, true, false}
 use Rattle.std.specs.Prelude.{String, option_and_then}
 use Rattle.std.specs.Arc.{arc_value}
 use Rattle.std.specs.List.{filter, position, position_or_len}
@@ -12,8 +12,7 @@ use Rattle.filing_model.specs.Dimensions.{Dims}
 use Rattle.filing_model.specs.Facts.{Fact}
 use Rattle.filing_model.specs.Reports.{Report}
 use Rattle.filing_model.specs.Replies as reply
-use Rattle.filing_model.specs.Duplicates.{class_of, facts_of, cell_of, has_dims, disallowed_dims, least_dims, least_disallowed}
-use Rattle.filing_model.specs.Queries.{cell_facts, cell_ids}
+use Rattle.filing_model.specs.Duplicates.{class_of, facts_of, cell_of, has_dims, least_disallowed}
 use Rattle.filing_model.specs.Sessions.{disallowed_cell}
 use Rattle.filing_model.specs.ByPairs.{least_disallowed_place}
 use Rattle.filing_model.specs.declared.duplicates.Class.{Class}

@@ -2,3 +2,8 @@ pub mod NamedLists
 pub mod Plain
 pub mod FoundCells
 pub mod Copies
+pub mod NamesInUse
+pub mod Cutting
+pub mod Telling
+pub mod Judging
+pub mod StillAlone

@@ -8,7 +8,6 @@ use Rattle.std.specs.declared.alloc.Global.{Global}
 use Rattle.std.specs.declared.cmp.Ordering.TheVariants.{Less, Equal, Greater}
 use Rattle.std.specs.FinMap.Entries.{find, put, by_order}
 use Rattle.filing_model.specs.Text.{Text, text_cmp, text_eq}
-use Rattle.filing_model.specs.Facts.{Fact}
 use Rattle.oim_fact.specs.declared.fact.Fact as code
 use Rattle.oim_report.specs.Parts.{facts_view}
 use Rattle.script_oracle.specs.Named.{named}

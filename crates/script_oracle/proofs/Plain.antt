@@ -1,16 +1,16 @@
 -- The plain repository as lists.
-use Rattle.std.proofs.Common.{◌≡◌, ◌∙◌, ap, sym, refl, subst, T, ℕ, ◌+◌, List, Option, Some, None}
+use Rattle.std.proofs.Common.{◌≡◌, ◌∙◌, ap, sym, subst, T, ℕ, ◌+◌, List, Some}
 use Rattle.std.specs.Option.{option_map_or}
 use Rattle.std.specs.Cmp.Lexicographic.{nat_list_cmp_total}
 use Rattle.std.specs.FinMap.Entries.{find, put, is_sorted, is_sorted-put}
 use Rattle.filing_model.specs.Text.{Text, text_cmp}
-use Rattle.filing_model.specs.TextMap.{TextMap, get, insert, from_entries}
+use Rattle.filing_model.specs.TextMap.{TextMap, insert, from_entries}
 use Rattle.filing_model.specs.Facts.{Fact}
 use Rattle.filing_model.specs.Reports.{Report}
 use Rattle.filing_model.specs.Repository.{Repository, report_at, with_fact, with_fact_at, with_report}
 use Rattle.filing_model.proofs.TextMaps.{get-from_entries, from_entries-put, same_map}
 use Rattle.filing_model.specs.Sessions.{refusal_of}
-use Rattle.filing_core.proofs.Laid.{from_entries_sorted}
+use Rattle.filing_model.proofs.MapsOfLists.{from_entries-sorted}
 use Rattle.oim_report.specs.Parts.{Parts, AreParts, parts_of, whole}
 use Rattle.script_oracle.specs.Cells.{refusal_among}
 
@@ -54,4 +54,4 @@ fact_put n es news c k id x old new is put_is there new_is =
     ∙ ap (λ o. option_map_or (λ r. record c { reports = insert c.reports k (with_fact r id (Some x)) }) o c) there
 
 pub refusal_found : (n : ℕ) (es : List (Text × Report)) (c : Repository) → ◌≡◌ {A = Repository} (record { count = n; reports = from_entries es }) c → T (is_sorted text_cmp es) → refusal_among es ≡ refusal_of c
-refusal_found n es c is rises = ap refusal_among (sym (from_entries_sorted es rises)) ∙ ap refusal_of is
+refusal_found n es c is rises = ap refusal_among (sym (from_entries-sorted es rises)) ∙ ap refusal_of is

@@ -2,3 +2,6 @@ pub mod Named
 pub mod Views
 pub mod Alone
 pub mod Cells
+pub mod LineView
+pub mod Judgements
+pub mod Lines

@@ -1,4 +1,4 @@
-use Rattle.std.proofs.Common.{◌≡◌, ◌∙◌, ap, Some, string_bytes}
+use Rattle.std.proofs.Common.{◌∙◌, ap, Some, string_bytes}
 use Rattle.std.specs.FinMap.Entries.{put}
 use Rattle.filing_model.specs.Text.{text_cmp}
 use Rattle.filing_model.specs.Repository.{with_fact}

@@ -1,0 +1,15 @@
+-- Lines as the code holds them, and what the lines that are left come to.
+use Rattle.std.specs.Prelude.{ℕ, List, map}
+use Rattle.std.specs.declared.vec.Vec.{Vec}
+use Rattle.std.specs.declared.alloc.Global.{Global}
+use Rattle.filing_model.specs.Text.{Text}
+use Rattle.filing_cli.specs.Lines.{spoken, text_of}
+use Rattle.filing_cli.specs.Run.{replies_of}
+use Rattle.filing_cli.specs.Script.{State, line_answer}
+
+abbrev pub texts : List (Vec ℕ Global) → List Text
+texts lines = map (λ line. line.items) lines
+
+-- the output of these lines from a state on
+abbrev pub output_of : State → List Text → Text
+output_of state lines = text_of (replies_of line_answer state (spoken lines))

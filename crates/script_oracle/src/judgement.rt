@@ -1,0 +1,13 @@
+use crate::names::Names;
+use filing_core::Step;
+
+/// What a line comes to: a reply at once, or a step under a session's number, with the names that are in use once it is taken.
+#[derive(Drop)]
+pub enum Judgement {
+    Told(String),
+    Due {
+        session: Option<u64>,
+        step: Step,
+        names: Names,
+    },
+}
