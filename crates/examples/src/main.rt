@@ -1,4 +1,4 @@
-//! Runs the scripts that lie beside it, each with its replies in a file of its own, and tells which replies are not those. Of a script at which memory was wanted it tells the line, and how many bytes of its replies were written. It knows scripts and replies as bytes alone.
+//! Runs the scripts that lie beside it, each with its replies in a file of its own, and tells which replies are not those. It knows scripts and replies as bytes alone.
 #![tactic(auto)]
 
 ghost use Rattle.std.specs.Prelude.{◌≡◌, ◌≤◌, ◌<◌};
@@ -31,7 +31,7 @@ const ROOM: usize = 65536;
 /// How a script ended, beside the replies that it is to have.
 enum Ended {
     AsWritten,
-    /// Memory was wanted at the line, when the first so many bytes of the replies were written.
+    /// Memory was wanted at this line, when the first so many bytes of the replies were written.
     NoMemory(u128, usize),
     OtherReplies,
 }

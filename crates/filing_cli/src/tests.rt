@@ -27,9 +27,10 @@ impl Machine for Lengths {
     }
 }
 
-// How much a call of a device moves, which call goes wrong, from 1, and the bound of reads.
+// How much a call of a device moves, for how many bytes the sink has room, which call goes wrong, from 1, and the bound of reads.
 #[derive(Clone, Copy, Debug)]
 struct Trial {
+    room: usize,
     in_piece: usize,
     out_piece: usize,
     failing_read: u64,
@@ -39,6 +40,7 @@ struct Trial {
 }
 
 const SOUND: Trial = Trial {
+    room: 100,
     in_piece: 4,
     out_piece: 5,
     failing_read: 0,
@@ -92,7 +94,7 @@ fn run_over<L: Ledger, K: Ledger>(
     let mut machine = Lengths { last: 0 };
     let source: MemoryIn<'_, L> = MemoryIn::new(input, trial.in_piece.max(1), source_blank);
     let mut source = source.failing_at(trial.failing_read);
-    let sink: MemoryOut<K> = MemoryOut::new(alloc, 100, trial.out_piece, sink_blank)?;
+    let sink: MemoryOut<K> = MemoryOut::new(alloc, trial.room, trial.out_piece, sink_blank)?;
     let mut sink = sink
         .failing_at(trial.failing_write)
         .idle_at(trial.idle_write);
@@ -251,21 +253,30 @@ fn a_bound_of_reads_ends_the_run(rt: HostRuntime) -> Result<(), Fail> {
     check(&rt, rt.alloc(), SCRIPT, trial, Ok(()), b"0\n2\n3\n")
 }
 
-// Holds whichever growth is refused: the replies of the lines before the one that is named are written.
+// Holds whichever growth is refused: the replies of the lines before the one that is named are written. Where it is refused in a sink, the write fails.
 #[test]
 fn a_refused_growth_names_its_line(rt: HostRuntime) -> Result<(), Fail> {
+    let all = b"0\n2\n3\n";
     for in_piece in 1..16usize {
-        let trial = Trial { in_piece, ..SOUND };
+        let trial = Trial {
+            in_piece,
+            room: if in_piece % 2 == 0 { 0 } else { 100 },
+            ..SOUND
+        };
         let Ok(outcome) = try_run(rt.alloc(), SCRIPT, trial) else {
             return Ok(());
         };
-        let written: &[u8] = match outcome.result {
-            Err(ScriptFault::NoMemory(1)) => b"",
-            Err(ScriptFault::NoMemory(2..=4)) => b"0\n",
-            Err(ScriptFault::NoMemory(5)) => b"0\n2\n",
-            _ => b"0\n2\n3\n",
+        let count = match outcome.result {
+            Err(ScriptFault::NoMemory(1)) => 0,
+            Err(ScriptFault::NoMemory(2..=4)) => 2,
+            Err(ScriptFault::NoMemory(5)) => 4,
+            Err(ScriptFault::Write) if trial.room == 0 => outcome.written.len().min(6),
+            _ => 6,
         };
-        assert!(rt; outcome.written.as_slice() == written, "{outcome:?}");
+        assert!(rt;
+            outcome.written.as_slice() == &all[..count],
+            "{trial:?}: {outcome:?}"
+        );
     }
     Ok(())
 }
@@ -309,7 +320,7 @@ fn copy_over<L: Ledger, K: Ledger>(
 
 #[test]
 fn readers_and_writers_are_devices(rt: HostRuntime) -> Result<(), Fail> {
-    let mut written = Vec::new(rt.alloc());
+    let mut written = Vec::with_capacity(rt.alloc(), 6)?;
     let reader = Cursor::new(SCRIPT);
     copy_over::<Brand, Brand>(
         rt.alloc(),
