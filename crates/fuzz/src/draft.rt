@@ -1,0 +1,125 @@
+//! A text that grows by what is drawn.
+
+ghost use Rattle.std.specs.Prelude.{◌<◌, length};
+
+use rand_core::Rng;
+use rand_pcg::Pcg32;
+use std::alloc::{AllocError, Global};
+use std::mem;
+
+const HEX: [u8; 16] = *b"0123456789abcdef";
+
+/// The bytes so far, and the generator of what comes next.
+#[derive(Drop)]
+pub(crate) struct Draft {
+    rng: Pcg32,
+    text: Vec<u8>,
+}
+
+impl Draft {
+    /// The draft of this number in those of a seed.
+    pub(crate) fn new(alloc: Global, seed: u64, number: u64) -> Draft {
+        Draft {
+            rng: Pcg32::new(seed, number),
+            text: Vec::new(alloc),
+        }
+    }
+
+    pub(crate) fn text(&self) -> &[u8] {
+        self.text.as_slice()
+    }
+
+    /// A number below a bound.
+    pub(crate) fn below(&mut self, bound: u32) -> u32
+        requires { 0 < bound }
+        ensures { result < bound }
+    {
+        self.rng.next_u32() % bound
+    }
+
+    pub(crate) fn one_in(&mut self, bound: u32) -> bool
+        requires { 0 < bound }
+    {
+        self.below(bound) == 0
+    }
+
+    /// One of some words. A word that stands there more often comes more often.
+    pub(crate) fn pick(&mut self, words: &[&'static str]) -> &'static str
+        requires { 0 < length words.now }
+    {
+        let place = self.rng.next_u32() as usize % words.len();
+        words[place]
+    }
+
+    pub(crate) fn put(&mut self, text: &str) -> Result<(), AllocError> {
+        self.put_bytes(text.as_bytes())
+    }
+
+    pub(crate) fn put_bytes(&mut self, bytes: &[u8]) -> Result<(), AllocError> {
+        self.text.extend_from_slice(bytes)
+    }
+
+    /// The white space of JSON, or none.
+    pub(crate) fn put_space(&mut self) -> Result<(), AllocError> {
+        match self.below(24) {
+            0 => self.put(" "),
+            1 => self.put("  "),
+            2 => self.put("\t"),
+            _ => Ok(()),
+        }
+    }
+
+    fn put_escaped(&mut self, byte: u8) -> Result<(), AllocError> {
+        self.put("\\u00")?;
+        let digits = [HEX[(byte / 16) as usize], HEX[(byte % 16) as usize]];
+        self.put_bytes(&digits)
+    }
+
+    fn put_quoted_byte(&mut self, byte: u8) -> Result<(), AllocError> {
+        match byte {
+            b'"' => self.put("\\\""),
+            b'\\' => self.put("\\\\"),
+            0..0x20 => self.put_escaped(byte),
+            0x20..0x80 => {
+                if self.one_in(40) {
+                    self.put_escaped(byte)
+                } else {
+                    self.put_bytes(&[byte])
+                }
+            }
+            _ => self.put_bytes(&[byte]),
+        }
+    }
+
+    /// A text as a JSON text, with escapes where they must be and elsewhere too.
+    pub(crate) fn put_quoted(&mut self, text: &[u8]) -> Result<(), AllocError> {
+        self.put("\"")?;
+        for byte in text {
+            self.put_quoted_byte(*byte)?;
+        }
+        self.put("\"")
+    }
+
+    /// So many of one byte.
+    pub(crate) fn put_many(&mut self, byte: u8, count: u32) -> Result<(), AllocError> {
+        for _ in 0..count {
+            self.put_bytes(&[byte])?;
+        }
+        Ok(())
+    }
+
+    /// Begins another text, and gives the one so far.
+    pub(crate) fn set_aside(&mut self, alloc: Global) -> Vec<u8> {
+        mem::replace(&mut self.text, Vec::new(alloc))
+    }
+
+    /// Goes on with a text that was set aside, and gives the other.
+    pub(crate) fn take_up(&mut self, text: Vec<u8>) -> Vec<u8> {
+        mem::replace(&mut self.text, text)
+    }
+
+    /// Drops the last byte.
+    pub(crate) fn cut(&mut self) {
+        self.text.pop();
+    }
+}

@@ -1,0 +1,145 @@
+//! Draws scripts, and compares what is written for each with the output that the test oracle computes, byte for byte.
+//!
+//! It takes two words, a seed and a number of scripts. Each script is drawn from the seed and its own number. `draft` is a text that grows by what is drawn, `facts`, `reports` and `scripts` say what is drawn, and `tally` counts the replies.
+#![tactic(auto)]
+
+ghost use Rattle.std.specs.Prelude.{◌≡◌, ◌≤◌, ◌<◌};
+
+mod draft;
+mod facts;
+mod reports;
+mod scripts;
+mod tally;
+
+use anyhow::{Result, anyhow};
+use draft::Draft;
+use filing_cli::{MemoryIn, MemoryOut, run_script};
+use oim_fact::NumericTable;
+use oim_report::read_table;
+use script_oracle::expected_output;
+use std::alloc::Global;
+use std::env;
+use std::marker::Brand;
+use std::sync::Arc;
+use std::sync::ledger::{Blank, Ledger};
+use tally::Tally;
+
+// The concepts of scripts that are numeric.
+const NUMERIC: &str = "http://e.org/t Assets\nhttp://e.org/t Cash\n";
+
+// So many bytes of replies are written without a growth.
+const ROOM: usize = 65536;
+
+// So many scripts that differ are told one by one.
+const TOLD: u64 = 10;
+
+/// The line of the first byte at which two texts differ, from 1 on.
+fn first_difference(one: &[u8], other: &[u8]) -> Option<u64> {
+    let mut line = 1u64;
+    for (byte, against) in one.iter().zip(other.iter()) {
+        if byte != against {
+            return Some(line);
+        }
+        if *byte == b'\n' {
+            line = line.saturating_add(1);
+        }
+    }
+    if one.len() == other.len() {
+        None
+    } else {
+        Some(line)
+    }
+}
+
+/// The reply at which what is written for a script is not what is expected. So many bytes are read at once.
+fn departure<L: Ledger, K: Ledger>(
+    alloc: Global,
+    table: &Arc<NumericTable>,
+    script: &[u8],
+    piece: usize,
+    expected: &[u8],
+    source_blank: Blank,
+    sink_blank: Blank,
+) -> Result<Option<u64>>
+    requires some { 0 < piece }
+    requires source_name { source_blank.name ≡ L.name }
+    requires source_parts { source_blank.parts ≡ L.parts }
+    requires source_three { 3 ≤ source_blank.parts }
+    requires sink_name { sink_blank.name ≡ K.name }
+    requires sink_parts { sink_blank.parts ≡ K.parts }
+    requires sink_some { 0 < sink_blank.parts }
+{
+    let mut source: MemoryIn<'_, L> = MemoryIn::new(script, piece, source_blank);
+    let mut sink: MemoryOut<K> = MemoryOut::new(alloc, ROOM, piece, sink_blank)?;
+    run_script(alloc, &mut source, &mut sink, table)?;
+    Ok(first_difference(sink.written(), expected))
+}
+
+/// Draws a script, and tells at which reply it differs.
+fn try_script(
+    alloc: Global,
+    table: &Arc<NumericTable>,
+    seed: u64,
+    number: u64,
+    tally: &mut Tally,
+) -> Result<Option<u64>> {
+    let mut draft = Draft::new(alloc, seed, number);
+    draft.put_script(alloc)?;
+    let piece = 1 + draft.below(400) as usize;
+    let expected = expected_output(alloc, draft.text(), table)?;
+    tally.count_all(alloc, &expected)?;
+    departure::<Brand, Brand>(
+        alloc,
+        table,
+        draft.text(),
+        piece,
+        expected.as_bytes(),
+        Blank::new(3),
+        Blank::new(1),
+    )
+}
+
+/// Tries so many scripts, and gives how many differ.
+fn try_scripts<R: Print + AllocGlobal>(
+    rt: &R,
+    seed: u64,
+    scripts: u64,
+    tally: &mut Tally,
+) -> Result<u64> {
+    let alloc = rt.alloc();
+    let table = Arc::new(alloc, read_table(alloc, NUMERIC)?)?;
+    let mut differ = 0u64;
+    for number in 0..scripts {
+        if let Some(line) = try_script(alloc, &table, seed, number, tally)? {
+            if differ < TOLD {
+                println!(rt; "seed {seed}, script {number}: differs at reply {line}")?;
+            }
+            differ = differ.saturating_add(1);
+        }
+    }
+    Ok(differ)
+}
+
+/// The seed and the number of scripts that the words are.
+fn read_words(rt: &HostRuntime) -> Result<(u64, u64)> {
+    let mut words = env::args(rt)?.skip(1);
+    let (Some(seed), Some(scripts), None) = (words.next(), words.next(), words.next()) else {
+        return Err(anyhow!("two words: a seed and a number of scripts"));
+    };
+    Ok((seed.parse::<u64>()?, scripts.parse::<u64>()?))
+}
+
+fn main(rt: HostRuntime) -> Result<()> {
+    let (seed, scripts) = read_words(&rt)?;
+    let mut tally = Tally::new(rt.alloc());
+    let differ = try_scripts(&rt, seed, scripts, &mut tally)?;
+    for (words, count) in tally.counts() {
+        println!(&rt; "{count} {words}")?;
+    }
+    let lines = tally.lines();
+    println!(&rt; "{scripts} scripts, {lines} replies, {differ} differ")?;
+    if differ > 0 {
+        return Err(anyhow!("some scripts differ"));
+    }
+    Ok(())
+}
