@@ -24,9 +24,9 @@ const LONG: &str = "LONG";
 fn good_text(draft: &mut Draft) -> Parts {
     Parts {
         concept: draft.pick(&["\"ex:Name\"", "\"ex:Name\"", "\"ex:Note\""]),
-        period: draft.pick(&["", "", "", "\"2024-01-01T00:00:00\""]),
+        period: draft.pick(&["", "", "", "", "", "", "\"2024-01-01T00:00:00\""]),
         unit: "",
-        segment: draft.pick(&["", "", "", "", "\"a\"", "null"]),
+        segment: draft.pick(&["", "", "", "", "", "", "", "", "\"a\"", "null"]),
         value: draft.pick(&["\"Acme\"", "\"Acme\"", "\"Bolt\"", "\"\"", "null"]),
         decimals: draft.pick(&["", "", "", "null"]),
         links: draft.pick(&["", "", "", "", "{\"l\":{\"g\":[\"f2\", 1]}}", "{}"]),
@@ -37,12 +37,12 @@ fn good_text(draft: &mut Draft) -> Parts {
 fn good_number(draft: &mut Draft) -> Parts {
     Parts {
         concept: draft.pick(&["\"ex:Assets\"", "\"ex:Assets\"", "\"ex:Cash\""]),
-        unit: draft.pick(&["", "", "", "\"iso4217:EUR\""]),
+        unit: draft.pick(&["", "", "", "", "", "", "\"iso4217:EUR\""]),
         value: draft.pick(&[
             "\"100\"",
             "\"100\"",
             "\"100.0\"",
-            "\" 1e2 \"",
+            "\" +100. \"",
             "\"104\"",
             "\"99.5\"",
             "\"150\"",

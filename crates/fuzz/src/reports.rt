@@ -124,7 +124,7 @@ impl Draft {
         };
         self.put("{")?;
         self.put_space()?;
-        match self.below(24) {
+        match self.below(48) {
             0 => self.put_info(&info)?,
             1 => {
                 self.put_info(&info)?;
@@ -137,7 +137,7 @@ impl Draft {
                 self.put("\"documentInfo\":null,")?;
                 self.put_facts()?;
             }
-            4..12 => {
+            4..24 => {
                 self.put_facts()?;
                 self.put(",")?;
                 self.put_info(&info)?;

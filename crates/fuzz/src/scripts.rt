@@ -7,7 +7,9 @@ use std::alloc::{AllocError, Global};
 
 const REPORTS: [&str; 9] = ["r1", "r1", "r1", "r1", "r1", "r2", "r2", "r2", "r\"é\\"];
 
-const SESSIONS: [&str; 9] = ["s1", "s1", "s1", "s1", "s1", "s1", "s1", "s2", "s 3"];
+const SESSIONS: [&str; 16] = [
+    "s1", "s1", "s1", "s1", "s1", "s1", "s1", "s1", "s1", "s1", "s1", "s1", "s1", "s1", "s2", "s 3",
+];
 
 const IDS: [&str; 8] = ["f1", "f1", "f2", "f2", "f3", "f4", "f5", "\tf"];
 
@@ -142,11 +144,11 @@ impl Draft {
     /// A line without its end.
     fn put_line(&mut self, alloc: Global) -> Result<(), AllocError> {
         match self.below(40) {
-            0..5 => self.put_load(alloc),
-            5..12 => self.put_opening(),
-            12..17 => self.put_get(),
-            17..30 => self.put_addition(),
-            30..34 => self.put_short("commit", &SESSIONS),
+            0..4 => self.put_load(alloc),
+            4..11 => self.put_opening(),
+            11..16 => self.put_get(),
+            16..31 => self.put_addition(),
+            31..34 => self.put_short("commit", &SESSIONS),
             34 => self.put_short("close", &SESSIONS),
             35..37 => self.put_short("export", &REPORTS),
             37..39 => self.put_bad_line(),
