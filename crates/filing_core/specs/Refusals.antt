@@ -1,10 +1,9 @@
 -- Why a load or a commit is refused, and what one makes that is not.
-use Rattle.std.specs.Prelude.{◌≡◌, ◌+◌, ℕ, cond, not, List, [], ◌∷◌, Option, Some, None, Result, Ok, Err, is_some, ⊤, true, false}
-use Rattle.std.specs.Option.{option_map_or}
+use Rattle.std.specs.Prelude.{◌≡◌, ◌+◌, ℕ, cond, List, [], ◌∷◌, Option, Some, None, Result, Ok, Err, is_some, ⊤, true, false}
 use Rattle.filing_model.specs.Text.{Text}
 use Rattle.filing_model.specs.TextMap.{get}
 use Rattle.filing_model.specs.Reports.{Report}
-use Rattle.filing_model.specs.Repository.{Repository, report_at, nothing}
+use Rattle.filing_model.specs.Repository.{Repository, report_at}
 use Rattle.filing_model.specs.Replies as reply
 use Rattle.filing_model.specs.Replies.{Reply}
 use Rattle.filing_model.specs.Sessions.{report_obeys, disallowed_cell, refusal_of}

@@ -1,11 +1,10 @@
 -- One session alone on a plain repository: there is no overlay, no version and no read set. The project's own.
-use Rattle.std.specs.Prelude.{ℕ, ◌+◌, Bool, true, false, cond, not, List, [], ◌∷◌, ◌++◌, map, Option, Some, None, is_some, option_map, unwrap_or}
-use Rattle.std.specs.List.{filter, list_all, find}
+use Rattle.std.specs.Prelude.{ℕ, ◌+◌, Bool, cond, not, List, [], ◌∷◌, ◌++◌, Option, Some, None, is_some, option_map, unwrap_or}
+use Rattle.std.specs.List.{list_all, find}
 use Rattle.std.specs.Option.{option_map_or}
 use Rattle.std.specs.declared.result.Result.{Result}
 use Rattle.std.specs.declared.result.Result.TheVariants.{Ok, Err}
 use Rattle.filing_model.specs.Text.{Text}
-use Rattle.filing_model.specs.TextMap.{TextMap}
 use Rattle.filing_model.specs.Dimensions.{Dims}
 use Rattle.filing_model.specs.Facts.{Fact, RawFact, fit_of}
 use Rattle.filing_model.specs.Reports.{Report}

@@ -1,5 +1,5 @@
 -- The things that a session reads and a load or a commit touches, absent ones among them (Kung and Robinson's read and write sets; queries and absent things are the project's own).
-use Rattle.std.specs.Prelude.{Bool, true, false, not, ◌&&◌, List, [], ◌∷◌, Option}
+use Rattle.std.specs.Prelude.{Bool, false, not, ◌&&◌, List, [], ◌∷◌, Option}
 use Rattle.std.specs.List.{filter, list_any}
 use Rattle.std.specs.Option.{option_eq}
 use Rattle.filing_model.specs.Text.{Text, text_eq}
