@@ -62,11 +62,9 @@ fn good_fact(draft: &mut Draft) -> Parts {
     }
 }
 
-/// A fact with one thing wrong, or two.
-fn bad_fact(draft: &mut Draft) -> Parts {
-    let text = good_text(draft);
-    let number = good_number(draft);
-    match draft.below(20) {
+/// A fact whose dimensions are refused.
+fn bad_dimension(draft: &mut Draft, case: u32, text: Parts) -> Parts {
+    match case {
         0 => Parts {
             concept: "\"zz:Name\"",
             ..text
@@ -79,11 +77,51 @@ fn bad_fact(draft: &mut Draft) -> Parts {
             unit: "\"iso4217:EUR\"",
             ..text
         },
+        11 => Parts {
+            concept: "null",
+            ..text
+        },
+        12 => Parts {
+            concept: "",
+            ..text
+        },
+        13 => Parts {
+            segment: LONG,
+            ..text
+        },
+        _ => Parts {
+            segment: "7",
+            ..text
+        },
+    }
+}
+
+/// A fact whose value or links are refused, or decimals beside a text.
+fn bad_member(draft: &mut Draft, case: u32, text: Parts) -> Parts {
+    match case {
         3 => Parts {
             value: "\"Acme\"",
             decimals: "0",
             ..text
         },
+        14 => Parts {
+            links: draft.pick(&["{\"l\":1.5}", "{\"l\":[{\"g\":1e400}]}"]),
+            ..text
+        },
+        15 => Parts {
+            links: draft.pick(&["null", "[]", "\"l\"", "0"]),
+            ..text
+        },
+        _ => Parts {
+            value: draft.pick(&["7", "[]", "", "true"]),
+            ..text
+        },
+    }
+}
+
+/// A numeric fact that is refused, for one cause or for several.
+fn bad_number(draft: &mut Draft, case: u32, number: Parts) -> Parts {
+    match case {
         4 | 5 => Parts {
             value: draft.pick(&["\"abc\"", "\"\"", "\".\"", "\"1e\"", "\"INF\""]),
             ..number
@@ -105,34 +143,6 @@ fn bad_fact(draft: &mut Draft) -> Parts {
             decimals: draft.pick(&["1.5", "9223372036854775808", "1e2"]),
             ..number
         },
-        11 => Parts {
-            concept: "null",
-            ..text
-        },
-        12 => Parts {
-            concept: "",
-            ..text
-        },
-        13 => Parts {
-            segment: LONG,
-            ..text
-        },
-        14 => Parts {
-            links: draft.pick(&["{\"l\":1.5}", "{\"l\":[{\"g\":1e400}]}"]),
-            ..text
-        },
-        15 => Parts {
-            links: draft.pick(&["null", "[]", "\"l\"", "0"]),
-            ..text
-        },
-        16 => Parts {
-            value: draft.pick(&["7", "[]", "", "true"]),
-            ..text
-        },
-        17 => Parts {
-            segment: "7",
-            ..text
-        },
         18 => Parts {
             dimensions: false,
             ..number
@@ -143,6 +153,18 @@ fn bad_fact(draft: &mut Draft) -> Parts {
             decimals: "99",
             ..number
         },
+    }
+}
+
+/// A fact with one thing wrong, or more.
+fn bad_fact(draft: &mut Draft) -> Parts {
+    let text = good_text(draft);
+    let number = good_number(draft);
+    let case = draft.below(20);
+    match case {
+        0 | 1 | 2 | 11 | 12 | 13 | 17 => bad_dimension(draft, case, text),
+        3 | 14 | 15 | 16 => bad_member(draft, case, text),
+        _ => bad_number(draft, case, number),
     }
 }
 

@@ -35,9 +35,19 @@ fn good_info(draft: &mut Draft) -> Info {
     }
 }
 
+/// Prefixes that are refused, or that bind none of those that facts have.
+fn bad_namespaces(draft: &mut Draft, case: u32) -> &'static str {
+    match case {
+        2 => "{\"ex\":\"http://e.org/t\",\"e2\":\"http://e.org/t\"}",
+        4 => draft.pick(&["7", "{\"ex\":7}", "null", "[]"]),
+        _ => draft.pick(&["", "{}", "{\"ab\":\"http://e.org/t\"}"]),
+    }
+}
+
 fn bad_info(draft: &mut Draft) -> Info {
     let info = good_info(draft);
-    match draft.below(9) {
+    let case = draft.below(9);
+    match case {
         0 => Info {
             document_type: draft.pick(&["\"x\"", "7", "null", ""]),
             ..info
@@ -50,24 +60,16 @@ fn bad_info(draft: &mut Draft) -> Info {
             ]),
             ..info
         },
-        2 => Info {
-            namespaces: "{\"ex\":\"http://e.org/t\",\"e2\":\"http://e.org/t\"}",
+        2 | 4 | 6 => Info {
+            namespaces: bad_namespaces(draft, case),
             ..info
         },
         3 => Info {
             note: draft.pick(&["1.5", "[{\"a\":1e3}]", "18446744073709551616"]),
             ..info
         },
-        4 => Info {
-            namespaces: draft.pick(&["7", "{\"ex\":7}", "null", "[]"]),
-            ..info
-        },
         5 => Info {
             features: draft.pick(&["7", "null", "[]"]),
-            ..info
-        },
-        6 => Info {
-            namespaces: draft.pick(&["", "{}", "{\"ab\":\"http://e.org/t\"}"]),
             ..info
         },
         7 => Info {
