@@ -2,7 +2,7 @@
 use Rattle.std.proofs.Common.{◌≡◌, subst, List, ℕ, Option}
 use Rattle.filing_model.specs.Facts.{Table}
 use Rattle.filing_model.specs.History.{History}
-use Rattle.filing_cli.specs.Devices.{SourceState, SinkState, new_source, new_sink}
+use Rattle.line_run.specs.Devices.{SourceState, SinkState, new_source, new_sink}
 use Rattle.filing_cli.specs.ScriptRun.{IsScriptEnded}
 use Rattle.filing.specs.Runs.{WritesScript}
 

@@ -4,8 +4,8 @@ use Rattle.filing_model.specs.Facts.{Table}
 use Rattle.filing_model.specs.Tables.{read_table_of}
 use Rattle.filing_model.specs.declared.faults.TableFault.{TableFault}
 use Rattle.filing_model.specs.declared.faults.TableFault.TheVariants as table
-use Rattle.filing_cli.specs.declared.fault.ScriptFault.{ScriptFault}
-use Rattle.filing_cli.specs.declared.fault.ScriptFault.TheVariants as script
+use Rattle.line_run.specs.declared.fault.ScriptFault.{ScriptFault}
+use Rattle.line_run.specs.declared.fault.ScriptFault.TheVariants as script
 use Rattle.filing.specs.declared.fault.Fault.{Fault}
 use Rattle.filing.specs.declared.fault.Fault.TheVariants.{Words, Read, Write, TableLine, TableNotText, NoMemory}
 

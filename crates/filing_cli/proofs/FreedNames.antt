@@ -15,8 +15,8 @@ use Rattle.filing_model.proofs.TextMaps.{get-from_entries, same_map}
 use Rattle.filing_model.proofs.Texts.{text_same}
 use Rattle.filing_model.proofs.Tests.{first_holds, second_holds}
 use Rattle.filing_model.proofs.MapsOfLists.{below_is_not_found}
-use Rattle.filing_core.specs.Keyed.{keyed, keyed_map}
-use Rattle.filing_core.proofs.Keyed.{sorted_keyed}
+use Rattle.filing_model.specs.Keyed.{keyed, keyed_map}
+use Rattle.filing_model.proofs.KeyedMaps.{sorted_keyed}
 
 find-remove_entry : {V X : Type 0} (f : V → X) (q r : Text) (es : List (String Global × V)) → T (is_sorted text_cmp (keyed f es))
     → find text_cmp r (keyed f (remove_entry (is_at (λ k. text_cmp q (string_bytes k))) es)) ≡ cond (not (text_eq q r)) (find text_cmp r (keyed f es)) None

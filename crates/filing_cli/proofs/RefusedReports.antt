@@ -3,9 +3,9 @@ use Rattle.std.proofs.Common.{◌≡◌, ◌∙◌, ap, sym, Option, Some, None,
 use Rattle.filing_model.specs.Reports.{Report}
 use Rattle.filing_model.specs.ReadReport.{ReportFault}
 use Rattle.filing_model.specs.Try.{Fails}
-use Rattle.filing_cli.specs.Text.{Text}
-use Rattle.filing_cli.specs.ReplyText.{bad_report_text}
-use Rattle.filing_cli.specs.Script.{State, answered, judged_load}
+use Rattle.filing_model.specs.Text.{Text}
+use Rattle.filing_text.specs.ReplyText.{bad_report_text}
+use Rattle.filing_text.specs.Script.{State, answered, judged_load}
 
 -- the reply to a fault of a reading is the answer to a load of what is read
 pub load_is_refused : (fault : Option ReportFault) (reading : Result Report ReportFault) (state : State) (name text : Text)

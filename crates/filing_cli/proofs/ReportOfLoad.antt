@@ -6,10 +6,10 @@ use Rattle.serde_json.specs.Data.{Data}
 use Rattle.serde_json.specs.Find.{at, as_str, as_object}
 use Rattle.filing_model.specs.Text.{text_eq}
 use Rattle.std.specs.Option.{option_map_or}
-use Rattle.filing_cli.specs.Text.{Text}
-use Rattle.filing_cli.specs.ReplyText.{bad_line_text}
-use Rattle.filing_cli.specs.Script.{State, Told, report_in, judged_load, judged_line, answered, value_answer}
-use Rattle.filing_cli.specs.ScriptLines.{◌>>=◌, Line, Load, Open, Get, Add, Commit, Close, Export, text_at, object_at, ended_at, load_of, open_of, get_of, add_of, commit_of, close_of, export_of, line_of_word, line_of}
+use Rattle.filing_model.specs.Text.{Text}
+use Rattle.filing_text.specs.ReplyText.{bad_line_text}
+use Rattle.filing_text.specs.Script.{State, Told, report_in, judged_load, judged_line, answered, value_answer}
+use Rattle.filing_text.specs.ScriptLines.{◌>>=◌, Line, Load, Open, Get, Add, Commit, Close, Export, text_at, object_at, ended_at, load_of, open_of, get_of, add_of, commit_of, close_of, export_of, line_of_word, line_of}
 
 -- a load has its report as the third part of the value
 abbrev pub HasReport : Data → Option Line → Type 0

@@ -3,15 +3,15 @@ use Rattle.std.proofs.Common.{◌≡◌, ◌∙◌, ◌^◌, ap, subst}
 use Rattle.std.specs.declared.result.Result.TheVariants.{Err}
 use Rattle.filing_model.specs.Facts.{Table}
 use Rattle.filing_model.specs.History.{History}
-use Rattle.filing_cli.specs.Devices.{SourceState, SinkState, Took}
-use Rattle.filing_cli.specs.Lines.{lines_of, spoken, text_of}
-use Rattle.filing_cli.specs.Run.{IsAnswered, Runs, replies_of, state_after}
-use Rattle.filing_cli.specs.Script.{State, start, line_answer, script_output, script_history}
+use Rattle.line_run.specs.Devices.{SourceState, SinkState, Took}
+use Rattle.line_run.specs.Lines.{lines_of, spoken, text_of}
+use Rattle.line_run.specs.Run.{IsAnswered, Runs, replies_of, state_after}
+use Rattle.filing_text.specs.Script.{State, start, line_answer, script_output, script_history}
 use Rattle.filing_cli.specs.ScriptRun.{IsReply, IsScriptEnded, IsScriptStopped}
-use Rattle.filing_cli.specs.declared.fault.ScriptFault.{ScriptFault}
-use Rattle.filing_cli.specs.declared.fault.ScriptFault.TheVariants.{NoMemory}
-use Rattle.filing_cli.proofs.AnsweringMachines.{answers_of_function}
-use Rattle.filing_cli.proofs.RunByReads.{starved_at_once}
+use Rattle.line_run.specs.declared.fault.ScriptFault.{ScriptFault}
+use Rattle.line_run.specs.declared.fault.ScriptFault.TheVariants.{NoMemory}
+use Rattle.line_run.proofs.AnsweringMachines.{answers_of_function}
+use Rattle.line_run.proofs.RunByReads.{starved_at_once}
 
 pub script_ended : (table : Table) (before after : State) (source source' : SourceState) (sink sink' : SinkState) (history : History)
     → IsAnswered IsReply before after source source' sink sink' → before ≡ start table → history ≡ after.history → IsScriptEnded table source source' sink sink' history

@@ -1,10 +1,1 @@
-pub mod Text
-pub mod Devices
-pub mod Lines
-pub mod Run
-pub mod Pieces
-pub mod ScriptLines
-pub mod LineView
-pub mod ReplyText
-pub mod Script
 pub mod ScriptRun

@@ -2,12 +2,9 @@ ghost use Rattle.std.specs.Prelude.{◌+◌, ◌^◌, ◌≤◌};
 ghost use Rattle.std.specs.Arc.{arc_value};
 ghost use Rattle.filing_cli.specs.ScriptRun.{ScriptRuns};
 
-use crate::fault::ScriptFault;
-use crate::runner::Runner;
-use crate::runs::run;
-use crate::sink::Sink;
-use crate::source::Source;
+use crate::script_machine::ScriptMachine;
 use filing_core::Core;
+use line_run::{ScriptFault, Sink, Source, run};
 use oim_fact::NumericTable;
 use std::alloc::Global;
 use std::sync::Arc;
@@ -25,11 +22,11 @@ pub fn run_script<R: Source, W: Sink>(
     ensures script { ScriptRuns (arc_value table.now) result (R.state input.old) (R.state input.new) (W.state output.old) (W.state output.new) }
     ensures bounded { (R.state input.new).reads ≤ (R.state input.old).reads + 2 ^ 32 }
 {
-    let Ok(mut runner) = Runner::new(alloc, table) else {
+    let Ok(mut machine) = ScriptMachine::new(alloc, table) else {
         return Err(ScriptFault::NoMemory(1));
     };
-    match run(alloc, &mut runner, input, output, READS) {
-        Ok(()) => Ok(runner.into_core()),
+    match run(alloc, &mut machine, input, output, READS) {
+        Ok(()) => Ok(machine.into_core()),
         Err(fault) => Err(fault),
     }
 }

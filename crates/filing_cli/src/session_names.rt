@@ -14,14 +14,14 @@ pub(crate) struct SessionNames {
 impl Model for SessionNames {
     ghost use Rattle.std.specs.Prelude.{ℕ};
     ghost use Rattle.filing_model.specs.TextMap.{TextMap};
-    ghost use Rattle.filing_core.specs.Keyed.{keyed_map};
+    ghost use Rattle.filing_model.specs.Keyed.{keyed_map};
 
     ghost Value = { TextMap ℕ };
 
     ghost view = { λ s. keyed_map (λ number. number) s.numbers.entries };
 }
 
-#[tactic(auto, using(filing_core::proofs::Keyed::get_keyed_map, filing_core::proofs::Keyed::keyed_map_insert_entry))]
+#[tactic(auto, using(filing_model::proofs::KeyedMaps::get_keyed_map, filing_model::proofs::KeyedMaps::keyed_map_insert_entry))]
 impl SessionNames {
     pub(crate) fn new(alloc: Global) -> SessionNames
         ensures { result ≡ empty }

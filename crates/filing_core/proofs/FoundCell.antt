@@ -8,7 +8,7 @@ use Rattle.filing_model.specs.Dimensions.{Dims}
 use Rattle.filing_model.specs.Duplicates.{facts_of, cell_of}
 use Rattle.oim_fact.specs.SharedFacts.{FactRef, facts_behind}
 use Rattle.oim_fact.specs.declared.fact.Fact.{Fact}
-use Rattle.filing_core.specs.Keyed.{keyed}
+use Rattle.filing_model.specs.Keyed.{keyed}
 
 -- identifiers and facts of the cell among some facts
 pub record IsFoundIn (d : Dims) (facts : List (String Global × Arc Fact Global)) (ids : List (String Global)) (held : List FactRef) : Type 0 where

@@ -1,6 +1,6 @@
 -- ---- maps: held as trees, laid over one another, staged facts
 pub mod Laid
-pub mod Keyed
+pub mod LaidByLoops
 pub mod StagedFacts
 pub mod NextVersions
 -- ---- the least disallowed cell, and what is refused

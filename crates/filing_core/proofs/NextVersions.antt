@@ -12,11 +12,11 @@ use Rattle.filing_model.specs.TextMap.{empty, get}
 use Rattle.filing_model.specs.Reports.{Report}
 use Rattle.filing_model.proofs.TextMaps.{get-from_entries}
 use Rattle.filing_model.proofs.Texts.{text_same}
-use Rattle.filing_core.specs.Keyed.{keyed, keyed_map}
+use Rattle.filing_model.specs.Keyed.{keyed, keyed_map}
 use Rattle.filing_core.specs.Laid.{laid_entries}
 use Rattle.filing_core.specs.Staged.{StagedFacts, staged_in, with_facts}
 use Rattle.filing_core.proofs.Laid.{get-laid_entries, or_nothing}
-use Rattle.filing_core.proofs.Keyed.{sorted_keyed}
+use Rattle.filing_model.proofs.KeyedMaps.{sorted_keyed}
 
 module _ (staged : StagedFacts) where
   abbrev pub each_with : List (Text × Report) → List (Text × Report)

@@ -9,9 +9,9 @@ use Rattle.filing_model.specs.TextMap.{TextMap, empty, get, insert}
 use Rattle.filing_model.specs.Facts.{Fact}
 use Rattle.filing_model.proofs.TextMaps.{get-insert, same_map}
 use Rattle.filing_model.proofs.Texts.{text_same}
-use Rattle.filing_core.specs.Keyed.{keyed_map}
+use Rattle.filing_model.specs.Keyed.{keyed_map}
 use Rattle.filing_core.specs.Staged.{staged_with}
-use Rattle.filing_core.proofs.Keyed.{get_keyed_map, keyed_map-set_value}
+use Rattle.filing_model.proofs.KeyedMaps.{get_keyed_map, keyed_map-set_value}
 
 -- to put in what is there changes nothing
 insert_same : {X : Type 0} (m : TextMap X) (q : Text) (x : X) → get m q ≡ Some x → insert m q x ≡ m

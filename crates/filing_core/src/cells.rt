@@ -6,7 +6,7 @@ ghost use Rattle.std.specs.Arc.{arc_value};
 ghost use Rattle.filing_model.specs.Duplicates.{class_of, facts_of, cell_of, has_dims, least_dims, disallowed_dims, least_disallowed};
 ghost use Rattle.filing_model.specs.Reports.{Report};
 ghost use Rattle.oim_fact.specs.SharedFacts.{facts_behind};
-ghost use Rattle.filing_core.specs.Keyed.{keyed};
+ghost use Rattle.filing_model.specs.Keyed.{keyed};
 ghost use Rattle.filing_core.specs.Cells.{dims_rise, IsRefusedFor};
 
 use oim_fact::{Allowed, Class, DimSet, Fact, allows, class_over};

@@ -20,14 +20,14 @@ impl Model for FactMap {
     ghost use Rattle.std.specs.Arc.{arc_value};
     ghost use Rattle.filing_model.specs.TextMap.{TextMap};
     ghost use Rattle.filing_model.specs.Facts.{Fact as PlainFact};
-    ghost use Rattle.filing_core.specs.Keyed.{keyed_map};
+    ghost use Rattle.filing_model.specs.Keyed.{keyed_map};
 
     ghost Value = { TextMap PlainFact };
 
     ghost view = { λ m. keyed_map arc_value m.facts.entries };
 }
 
-#[tactic(auto, using(crate::proofs::Keyed::get_keyed_map, crate::proofs::Keyed::keyed_map_insert_entry))]
+#[tactic(auto, using(filing_model::proofs::KeyedMaps::get_keyed_map, filing_model::proofs::KeyedMaps::keyed_map_insert_entry))]
 impl FactMap {
     pub fn new(alloc: Global) -> FactMap
         ensures { result ≡ empty }

@@ -15,11 +15,10 @@ mod plain;
 mod report;
 mod session;
 mod staged;
-mod step;
 #[cfg(test)]
 mod tests;
 
 pub use engine::Core;
 pub use fault::CoreFault;
+pub use filing_step::{Entry, Kind, Reply, Step};
 pub use plain::Plain;
-pub use step::{Entry, Kind, Reply, Step};

@@ -4,13 +4,13 @@ ghost use Rattle.std.specs.Prelude.{◌≡◌, IfOk, Result};
 ghost use Rattle.std.specs.Result.{result_map_both};
 ghost use Rattle.std.specs.Arc.{arc_value};
 ghost use Rattle.filing_model.specs.Replies as model;
-ghost use Rattle.filing_core.specs.Steps.{reply_of};
+ghost use Rattle.filing_step.specs.Steps.{reply_of};
 ghost use Rattle.filing_core.specs.Outcomes.{get_outcome, add_outcome};
 
 use crate::plain::Plain;
 use crate::report::fact_in;
 use crate::staged::Staged;
-use crate::step::Reply;
+use filing_step::Reply;
 use oim_fact::{Fact, RawFact, fit};
 use std::alloc::AllocError;
 use std::sync::Arc;

@@ -4,14 +4,12 @@ ghost use Rattle.filing_model.specs.TextMap.{empty};
 ghost use Rattle.filing_model.specs.Repository.{nothing, report_at, with_report};
 ghost use Rattle.filing_model.specs.Sessions.{repository_obeys, refusal_of};
 ghost use Rattle.filing_core.specs.Staged.{IsNextVersion, with_facts};
-ghost use Rattle.filing_core.specs.Steps.{reply_of};
-ghost use Rattle.filing_core.specs.Refusals.{UnstagedObey, CommitMakes};
+ghost use Rattle.filing_core.specs.Refusals.{UnstagedObey, CommitMakes, refusal_told};
 
-use crate::disallowed::disallowed;
+use crate::disallowed::{DisallowedCell, disallowed};
 use crate::fact_map::FactMap;
 use crate::report::with_facts;
 use crate::staged::Staged;
-use crate::step::Reply;
 use oim_report::Report;
 use std::alloc::{AllocError, Global};
 use std::collections::BTreeMap;
@@ -29,14 +27,14 @@ impl Model for Plain {
     ghost use Rattle.filing_model.specs.TextMap.{empty};
     ghost use Rattle.filing_model.specs.Repository.{Repository};
     ghost use Rattle.std.specs.Arc.{arc_value};
-    ghost use Rattle.filing_core.specs.Keyed.{keyed_map};
+    ghost use Rattle.filing_model.specs.Keyed.{keyed_map};
 
     ghost Value = { Repository };
 
     ghost view = { λ p. record { count = p.number; reports = keyed_map arc_value p.reports.entries } };
 }
 
-#[tactic(auto, using(crate::proofs::Keyed::get_keyed_map, crate::proofs::Keyed::keyed_map_insert_entry))]
+#[tactic(auto, using(filing_model::proofs::KeyedMaps::get_keyed_map, filing_model::proofs::KeyedMaps::keyed_map_insert_entry))]
 impl Plain {
     /// The version before the first load.
     pub(crate) fn new(alloc: Global) -> Plain
@@ -90,27 +88,27 @@ impl Plain {
         })
     }
 
-    /// The reply that refuses this version: of its least report that does not obey. Those for which nothing is staged obey, and are not looked at.
-    fn refusal(&self, alloc: Global, staged: &Staged) -> Result<Option<Reply>, AllocError>
+    /// What refuses this version: of its least report that does not obey. Those for which nothing is staged obey, and are not looked at.
+    fn refusal(&self, alloc: Global, staged: &Staged) -> Result<Option<DisallowedCell>, AllocError>
         requires { UnstagedObey staged.now self.now.reports.entries }
-        ensures { IfOk result (λ o. option_map reply_of o ≡ refusal_of self.now) }
+        ensures { IfOk result (λ o. option_map refusal_told o ≡ refusal_of self.now) }
     {
         for (name, report) in &self.reports {
             if staged.report(name).is_some() {
-                if let Some(reply) = disallowed(alloc, name, report)? {
-                    return Ok(Some(reply));
+                if let Some(cell) = disallowed(alloc, name, report)? {
+                    return Ok(Some(cell));
                 }
             }
         }
         Ok(None)
     }
 
-    /// The next version, with staged facts laid over the reports, or the reply that refuses it.
+    /// The next version, with staged facts laid over the reports, or what refuses it.
     pub(crate) fn outcome(
         &self,
         alloc: Global,
         staged: &Staged,
-    ) -> Result<Result<Plain, Reply>, AllocError>
+    ) -> Result<Result<Plain, DisallowedCell>, AllocError>
         requires few { self.now.count + 1 < 2 ^ 64 }
         requires obeys { repository_obeys self.now ≡ true }
         ensures { IfOk result (CommitMakes self.now staged.now) }
@@ -118,7 +116,7 @@ impl Plain {
         let next = self.with(alloc, staged)?;
         match next.refusal(alloc, staged)? {
             None => Ok(Ok(next)),
-            Some(reply) => Ok(Err(reply)),
+            Some(cell) => Ok(Err(cell)),
         }
     }
 }

@@ -18,14 +18,14 @@ pub struct Staged {
 
 impl Model for Staged {
     ghost use Rattle.filing_core.specs.Staged.{StagedFacts};
-    ghost use Rattle.filing_core.specs.Keyed.{keyed_map};
+    ghost use Rattle.filing_model.specs.Keyed.{keyed_map};
 
     ghost Value = { StagedFacts };
 
     ghost view = { λ s. keyed_map (λ facts. facts) s.reports.entries };
 }
 
-#[tactic(auto, using(crate::proofs::Keyed::get_keyed_map, crate::proofs::Keyed::keyed_map_insert_entry))]
+#[tactic(auto, using(filing_model::proofs::KeyedMaps::get_keyed_map, filing_model::proofs::KeyedMaps::keyed_map_insert_entry))]
 impl Staged {
     pub fn new(alloc: Global) -> Staged
         ensures { result ≡ empty }

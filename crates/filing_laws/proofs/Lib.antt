@@ -12,6 +12,7 @@ pub mod AnsweredAlike
 pub mod RunsAlike
 -- ---- what an entry changes, and what no entry touched
 pub mod EntryCases
+pub mod QuietEntries
 pub mod ChangedPlaces
 pub mod UntouchedThingsStand
 -- ---- one next reply, and histories that are played

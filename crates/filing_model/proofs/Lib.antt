@@ -3,6 +3,7 @@ pub mod Tests
 pub mod Texts
 pub mod TextMaps
 pub mod MapsOfLists
+pub mod KeyedMaps
 -- ---- numbers and intervals
 pub mod Trimming
 pub mod Numerals

@@ -1,5 +1,6 @@
 pub mod Text
 pub mod TextMap
+pub mod Keyed
 pub mod Try
 pub mod Faults
 pub mod Dimensions

@@ -1,10 +1,10 @@
 -- The output of a script, line by line.
 use Rattle.std.proofs.Common.{◌≡◌, ◌∙◌, ap, sym, refl, List, [], ◌∷◌, ◌++◌, not, cond, true, false, append_assoc}
 use Rattle.filing_model.specs.Text.{Text}
-use Rattle.filing_cli.specs.Lines.{is_blank, spoken, text_of, lines_of}
-use Rattle.filing_cli.specs.Run.{replies_of}
+use Rattle.line_run.specs.Lines.{is_blank, spoken, text_of, lines_of}
+use Rattle.line_run.specs.Run.{replies_of}
 use Rattle.filing_model.specs.Facts.{Table}
-use Rattle.filing_cli.specs.Script.{State, start, line_answer, script_output}
+use Rattle.filing_text.specs.Script.{State, start, line_answer, script_output}
 use Rattle.std.proofs.lemmas.List.{append-nil}
 use Rattle.script_oracle.specs.Lines.{output_of}
 

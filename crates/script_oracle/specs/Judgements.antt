@@ -4,10 +4,10 @@ use Rattle.std.specs.Option.{option_map_or}
 use Rattle.filing_model.specs.Text.{Text}
 use Rattle.filing_model.specs.TextMap.{get}
 use Rattle.filing_model.specs.History.{Step, History}
-use Rattle.filing_core.specs.Steps.{step_of}
-use Rattle.filing_core.specs.Answers.{MayCome}
-use Rattle.filing_cli.specs.ReplyText.{no_session_text}
-use Rattle.filing_cli.specs.Script as model
+use Rattle.filing_step.specs.Steps.{step_of}
+use Rattle.filing_step.specs.Overlap.{MayCome}
+use Rattle.filing_text.specs.ReplyText.{no_session_text}
+use Rattle.filing_text.specs.Script as model
 use Rattle.script_oracle.specs.declared.judgement.Judgement.{Judgement}
 use Rattle.script_oracle.specs.declared.judgement.Judgement.TheVariants.{Told, Due}
 

@@ -2,6 +2,5 @@ pub mod Named
 pub mod Views
 pub mod Alone
 pub mod Cells
-pub mod LineView
 pub mod Judgements
 pub mod Lines

@@ -3,9 +3,9 @@ use Rattle.std.specs.Prelude.{ℕ, List, map}
 use Rattle.std.specs.declared.vec.Vec.{Vec}
 use Rattle.std.specs.declared.alloc.Global.{Global}
 use Rattle.filing_model.specs.Text.{Text}
-use Rattle.filing_cli.specs.Lines.{spoken, text_of}
-use Rattle.filing_cli.specs.Run.{replies_of}
-use Rattle.filing_cli.specs.Script.{State, line_answer}
+use Rattle.line_run.specs.Lines.{spoken, text_of}
+use Rattle.line_run.specs.Run.{replies_of}
+use Rattle.filing_text.specs.Script.{State, line_answer}
 
 abbrev pub texts : List (Vec ℕ Global) → List Text
 texts lines = map (λ line. line.items) lines

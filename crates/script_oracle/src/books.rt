@@ -2,13 +2,13 @@ ghost use Rattle.std.specs.Prelude.{◌≡◌, ◌+◌, ◌<◌, ◌^◌, Some, 
 ghost use Rattle.std.specs.Arc.{arc_value};
 ghost use Rattle.filing_model.specs.Repository.{nothing, report_at, fact_in, with_fact, with_fact_at, with_report};
 ghost use Rattle.filing_model.specs.Sessions.{refusal_of, commit_reply, commit_result};
-ghost use Rattle.filing_core.specs.Steps.{reply_of};
+ghost use Rattle.filing_step.specs.Steps.{reply_of};
 ghost use Rattle.script_oracle.specs.Named.{named};
 ghost use Rattle.script_oracle.specs.Cells.{refusal_among};
 
 use crate::cells::{disallowed_cell, obeys};
 use crate::entries::{find, put};
-use filing_core::Reply;
+use filing_step::Reply;
 use oim_fact::Fact;
 use oim_report::{Report, ReportParts};
 use std::alloc::{AllocError, Global};

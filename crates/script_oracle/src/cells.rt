@@ -6,11 +6,11 @@ ghost use Rattle.std.specs.List.{list_all};
 ghost use Rattle.filing_model.specs.Duplicates.{permits, pair_of, facts_of};
 ghost use Rattle.filing_model.specs.Sessions.{report_obeys, disallowed_cell};
 ghost use Rattle.oim_report.specs.Parts.{facts_view};
-ghost use Rattle.filing_core.specs.Steps.{reply_of};
+ghost use Rattle.filing_step.specs.Steps.{reply_of};
 ghost use Rattle.script_oracle.specs.Cells.{held_fact, obey, IsCellOf};
 
-use filing_core::Reply;
 use filing_model::{Allowed, Class, Pair, PairedFact, class_by_pairs, least_disallowed_by_pairs};
+use filing_step::Reply;
 use oim_fact::{DimSet, Fact, compare};
 use oim_report::Report;
 use std::alloc::{AllocError, Global};

@@ -1,5 +1,5 @@
 use crate::names::Names;
-use filing_core::Step;
+use filing_step::Step;
 
 /// What a line comes to: a reply at once, or a step under a session's number, with the names that are in use once it is taken.
 #[derive(Drop)]

@@ -5,7 +5,7 @@ use Rattle.filing_model.specs.Duplicates.{facts_of, least_disallowed}
 use Rattle.filing_model.specs.declared.duplicates.Allowed.TheVariants.{All}
 use Rattle.filing_model.proofs.EveryPair.{pairs_always}
 use Rattle.filing_model.proofs.DisallowedCells.{obeys_where_no_cell_is_disallowed}
-use Rattle.filing_core.specs.Keyed.{keyed}
+use Rattle.filing_model.specs.Keyed.{keyed}
 use Rattle.filing_core.proofs.cells.least_disallowed.Goals as goal
 use Rattle.filing_core.proofs.cells.least_disallowed.Goals.{in-All, in_default}
 

@@ -2,7 +2,7 @@ use Rattle.std.proofs.Common.{◌≡◌, take}
 use Rattle.std.specs.Arc.{arc_value}
 use Rattle.filing_model.specs.Duplicates.{facts_of}
 use Rattle.oim_fact.specs.SharedFacts.{facts_behind}
-use Rattle.filing_core.specs.Keyed.{keyed}
+use Rattle.filing_model.specs.Keyed.{keyed}
 use Rattle.filing_core.proofs.cells.references.Given as goal
 
 abbrev pub invariant-loop-fact : goal.invariant-loop-fact

@@ -1,7 +1,7 @@
 use Rattle.std.proofs.Common.{◌∙◌, ap, sym, map, string_bytes}
 use Rattle.std.specs.Arc.{arc_value}
 use Rattle.std.specs.Option.{option_map}
-use Rattle.filing_core.specs.Keyed.{keyed}
+use Rattle.filing_model.specs.Keyed.{keyed}
 use Rattle.filing_core.proofs.RefusedReports.{obeys_where_none, refused_where_some}
 use Rattle.filing_core.proofs.cells.refusal_in.Goals as goal
 

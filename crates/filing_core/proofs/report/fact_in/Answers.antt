@@ -5,7 +5,7 @@ use Rattle.std.specs.Cmp.Lexicographic.{nat_list_cmp_total}
 use Rattle.std.proofs.lemmas.Fn.{always_returns_same}
 use Rattle.filing_model.specs.Text.{text_cmp}
 use Rattle.oim_fact.proofs.SearchedEntries.{searched}
-use Rattle.filing_core.specs.Keyed.{entry_of}
+use Rattle.filing_model.specs.Keyed.{entry_of}
 use Rattle.filing_core.proofs.report.fact_in.Goals as goal
 
 pub returns-in-Ok : goal.returns-in-Ok

@@ -1,6 +1,6 @@
 use Rattle.std.proofs.Common.{◌∙◌, ap}
 use Rattle.filing_model.specs.TextMap.{remove}
-use Rattle.filing_core.specs.Keyed.{keyed_map}
+use Rattle.filing_model.specs.Keyed.{keyed_map}
 use Rattle.filing_cli.proofs.FreedNames.{keyed_map_remove_entry}
 use Rattle.filing_cli.proofs.session_names.SessionNames.remove.Goals as goal
 

@@ -2,8 +2,8 @@ use Rattle.std.proofs.Common.{◌∙◌, ap, sym, ◌++◌}
 use Rattle.std.proofs.lemmas.List.{append-nil}
 use Rattle.std.specs.Arc.{arc_value}
 use Rattle.oim_report.specs.Parts.{facts_view}
-use Rattle.filing_core.specs.Keyed.{keyed}
-use Rattle.filing_core.proofs.Keyed.{entries-keyed_map}
+use Rattle.filing_model.specs.Keyed.{keyed}
+use Rattle.filing_model.proofs.KeyedMaps.{entries-keyed_map}
 use Rattle.filing_core.proofs.fact_map.FactMap.into_entries.Goals as goal
 
 pub returns : goal.returns

@@ -1,7 +1,7 @@
 use Rattle.std.proofs.Common.{◌≡◌, ◌++◌}
 use Rattle.std.specs.Arc.{arc_value}
 use Rattle.oim_report.specs.Parts.{facts_view}
-use Rattle.filing_core.specs.Keyed.{keyed}
+use Rattle.filing_model.specs.Keyed.{keyed}
 use Rattle.filing_core.proofs.fact_map.FactMap.into_entries.Given as goal
 
 -- what was taken, with what is left

@@ -3,7 +3,7 @@ use Rattle.std.specs.Arc.{arc_value}
 use Rattle.filing_model.specs.TextMap.{empty, insert}
 use Rattle.oim_report.specs.Parts.{facts_view}
 use Rattle.filing_core.specs.Laid.{laid_entries}
-use Rattle.filing_core.proofs.Keyed.{put_next}
+use Rattle.filing_core.proofs.LaidByLoops.{put_next}
 use Rattle.filing_core.proofs.fact_map.FactMap.of.Goals as goal
 
 pub loop-id-preserved : goal.loop-id-preserved

@@ -1,8 +1,8 @@
 use Rattle.std.proofs.Common.{◌≡◌, ◌∙◌, ap}
 use Rattle.std.specs.Arc.{arc_value}
-use Rattle.filing_core.specs.Keyed.{keyed}
+use Rattle.filing_model.specs.Keyed.{keyed}
 use Rattle.filing_core.specs.Laid.{laid, laid_entries}
-use Rattle.filing_core.proofs.Keyed.{laid_turn, laid_end}
+use Rattle.filing_core.proofs.LaidByLoops.{laid_turn, laid_end}
 use Rattle.filing_core.proofs.fact_map.FactMap.with.Goals as goal
 
 pub loop-id-preserved : goal.loop-id-preserved

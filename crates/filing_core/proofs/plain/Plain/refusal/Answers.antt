@@ -1,10 +1,9 @@
 use Rattle.std.proofs.Common.{◌≡◌, ◌∙◌, ap, sym, refl, subst, string_bytes}
 use Rattle.std.specs.Prelude.{option_map}
 use Rattle.std.specs.Arc.{arc_value}
-use Rattle.filing_core.specs.Keyed.{keyed}
-use Rattle.filing_core.specs.Steps.{reply_of}
-use Rattle.filing_core.specs.Refusals.{report_refusal, UnstagedObey}
-use Rattle.filing_core.proofs.Keyed.{entries-keyed_map}
+use Rattle.filing_model.specs.Keyed.{keyed}
+use Rattle.filing_core.specs.Refusals.{report_refusal, refusal_told, UnstagedObey}
+use Rattle.filing_model.proofs.KeyedMaps.{entries-keyed_map}
 use Rattle.filing_core.proofs.FirstRefusal.{first_refusal, told, none_left}
 use Rattle.filing_core.proofs.plain.Plain.refusal.Goals as goal
 
@@ -22,9 +21,9 @@ returns-in-Some-2 c =
     ap (λ es. keyed arc_value es) c.into_iter-name-iterator.ensures.into_iter_gives.0
     ∙ sym (entries-keyed_map arc_value c.self.inside.reports.entries c.into_iter-name-iterator.ensures.into_iter_gives.5)
     ∙ ap (λ v. v.reports.entries) c.self.view_is in
-    told c.args.staged.now _ _ _ (string_bytes c.in-Some.name.now, arc_value c.in-Some.report.now) (reply_of c.in-Some-2.reply)
+    told c.args.staged.now _ _ _ (string_bytes c.in-Some.name.now, arc_value c.in-Some.report.now) (refusal_told c.in-Some-2.cell)
     (ap (λ es. keyed arc_value es) c.in-Some.ensures.steps)
-    (ap (λ o. option_map reply_of o) (sym c.in-Some-2.is) ∙ c.in_ok-reply.ensures ∙ (λ i. report_refusal (c.deref-then-is_some.ensures i) (c.deref-then-is_some-2.ensures i)))
+    (ap (λ o. option_map refusal_told o) (sym c.in-Some-2.is) ∙ c.in_ok-cell.ensures ∙ (λ i. report_refusal (c.deref-then-is_some.ensures i) (c.deref-then-is_some-2.ensures i)))
     c.loop-name.invariant
     ∙ ap first_refusal all
 

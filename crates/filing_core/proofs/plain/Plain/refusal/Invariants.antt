@@ -1,5 +1,5 @@
 use Rattle.std.specs.Arc.{arc_value}
-use Rattle.filing_core.specs.Keyed.{keyed}
+use Rattle.filing_model.specs.Keyed.{keyed}
 use Rattle.filing_core.proofs.FirstRefusal.{IsLeftToRefuse}
 use Rattle.filing_core.proofs.plain.Plain.refusal.Given as goal
 

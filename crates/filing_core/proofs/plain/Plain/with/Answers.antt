@@ -3,7 +3,7 @@ use Rattle.filing_model.specs.Repository.{report_at}
 use Rattle.filing_model.specs.TextMap.{empty}
 use Rattle.std.specs.Prelude.{option_map}
 use Rattle.std.specs.Arc.{arc_value}
-use Rattle.filing_core.specs.Keyed.{keyed}
+use Rattle.filing_model.specs.Keyed.{keyed}
 use Rattle.filing_core.specs.Laid.{laid_entries}
 use Rattle.filing_core.specs.Staged.{with_facts, staged_in}
 use Rattle.filing_core.proofs.NextVersions.{each_with, version_end}

@@ -1,7 +1,7 @@
 use Rattle.std.proofs.Common.{◌≡◌}
 use Rattle.filing_model.specs.TextMap.{empty}
 use Rattle.std.specs.Arc.{arc_value}
-use Rattle.filing_core.specs.Keyed.{keyed, keyed_map}
+use Rattle.filing_model.specs.Keyed.{keyed, keyed_map}
 use Rattle.filing_core.specs.Laid.{laid_entries}
 use Rattle.filing_core.proofs.NextVersions.{each_with}
 use Rattle.filing_core.proofs.plain.Plain.with.Given as goal

@@ -1,5 +1,5 @@
 use Rattle.std.proofs.Common.{◌∙◌, ap}
-use Rattle.filing_core.proofs.Standing.{if_ok_map}
+use Rattle.std.proofs.lemmas.Result.{IfOk-weaker}
 use Rattle.script_oracle.specs.Named.{named}
 use Rattle.script_oracle.specs.Cells.{refusal_among}
 use Rattle.script_oracle.proofs.Plain.{refusal_found}
@@ -7,5 +7,5 @@ use Rattle.script_oracle.proofs.books.Books.refusal.Goals as goal
 
 pub returns : goal.returns
 returns c =
-    if_ok_map c.refusal_among.result (λ o told. told ∙ ap (λ es. refusal_among (named es)) c.deref.ensures.value
+    IfOk-weaker c.refusal_among.result _ _ (λ o told. told ∙ ap (λ es. refusal_among (named es)) c.deref.ensures.value
     ∙ refusal_found c.self.inside.count (named c.self.inside.reports.items) c.args.self.now c.self.view_is c.self.invariant) c.refusal_among.ensures

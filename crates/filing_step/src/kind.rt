@@ -1,0 +1,6 @@
+/// What a session may do.
+#[derive(Clone, Copy, Debug, PartialEq, Eq)]
+pub enum Kind {
+    /// It reads and adds facts, and is validated at its commit.
+    Amend,
+}

@@ -1,0 +1,62 @@
+ghost use Rattle.std.specs.Prelude.{◌≡◌, map, string_bytes, IfOk};
+
+use oim_fact::{Class, Fact, FactFault};
+use std::alloc::AllocError;
+use std::sync::Arc;
+
+/// What a step is answered.
+#[derive(Drop)]
+pub enum Reply {
+    NoReport,
+    Absent,
+    Found(Arc<Fact>),
+    Taken,
+    BadFact(FactFault),
+    Staged,
+    /// The number of the version that the load made.
+    Loaded(u64),
+    NameTaken,
+    /// The report, and the class and the identifiers, in byte order, of its least cell that it does not allow.
+    Disallowed(String, Class, Vec<String>),
+    Opened,
+    Closed,
+    /// The number of the version that the commit made.
+    Committed(u64),
+}
+
+/// The clones of some texts.
+fn clone_texts(texts: &Vec<String>) -> Result<Vec<String>, AllocError>
+    ensures { IfOk result (λ v. map string_bytes v.items ≡ map string_bytes texts.now.items) }
+{
+    let mut copies = Vec::with_capacity(*texts.allocator(), texts.len())?;
+    for text in texts {
+        copies.push(text.clone()?)?;
+    }
+    Ok(copies)
+}
+
+impl Clone for Reply {
+    ghost use Rattle.std.specs.Prelude.{◌≡◌};
+    ghost use Rattle.filing_step.specs.Steps.{reply_of};
+
+    ghost is_clone = { λ old new. reply_of new ≡ reply_of old };
+
+    fn clone(&self) -> Result<Reply, AllocError> {
+        match self {
+            Reply::NoReport => Ok(Reply::NoReport),
+            Reply::Absent => Ok(Reply::Absent),
+            Reply::Found(fact) => Ok(Reply::Found(fact.clone()?)),
+            Reply::Taken => Ok(Reply::Taken),
+            Reply::BadFact(fault) => Ok(Reply::BadFact(*fault)),
+            Reply::Staged => Ok(Reply::Staged),
+            Reply::Loaded(number) => Ok(Reply::Loaded(*number)),
+            Reply::NameTaken => Ok(Reply::NameTaken),
+            Reply::Disallowed(report, class, ids) => {
+                Ok(Reply::Disallowed(report.clone()?, *class, clone_texts(ids)?))
+            }
+            Reply::Opened => Ok(Reply::Opened),
+            Reply::Closed => Ok(Reply::Closed),
+            Reply::Committed(number) => Ok(Reply::Committed(*number)),
+        }
+    }
+}

@@ -1,0 +1,90 @@
+-- Worked examples of the lines of replies.
+use Rattle.std.specs.Prelude.{◌≡◌, true, false, pos, negsuc, [], ◌∷◌, codes, None, Some, refl}
+use Rattle.filing_model.specs.Dimensions.{Dims}
+use Rattle.filing_model.specs.Facts.{Written, Number}
+use Rattle.filing_model.specs.Things as thing
+use Rattle.filing_model.specs.ReadReport as report
+use Rattle.filing_model.specs.Replies.{Absent, Found, Cell, Page, ReadOnly, BadFact, Loaded, Disallowed, Committed, Conflict}
+use Rattle.filing_model.specs.declared.duplicates.Class.TheVariants as class
+use Rattle.filing_model.specs.declared.faults.DimFault.TheVariants.{TooLong}
+use Rattle.filing_model.specs.declared.faults.FactFault.TheVariants.{UnboundPrefix}
+use Rattle.filing_model.specs.declared.faults.Trouble.TheVariants.{Dims as in_dims, Fit}
+use Rattle.filing_model.proofs.OnLiterals.{filing_on_literals}
+use Rattle.filing_text.specs.ReplyText.{reply_text, bad_fact_text, bad_report_text}
+
+abbrev assets : Dims
+assets = (codes "concept", Some (codes "ex:Assets")) ∷ (codes "ex:d", None) ∷ []
+
+pub the_first_version : reply_text (Loaded 1) ≡ codes "[\"loaded\",1]"
+unfolding filing_on_literals
+the_first_version = refl
+
+pub a_large_number : reply_text (Committed 18446744073709551615) ≡ codes "[\"committed\",18446744073709551615]"
+unfolding filing_on_literals
+a_large_number = refl
+
+pub no_fact : reply_text Absent ≡ codes "[\"none\"]"
+no_fact = refl
+
+pub a_number : reply_text (Found (record { dims = (codes "concept", Some (codes "ex:Assets")) ∷ []; value = Number (codes "1000") (pos 1000000000000000) (Some (negsuc 2)); links = None }))
+    ≡ codes "[\"fact\",{\"decimals\":-3,\"dimensions\":{\"concept\":\"ex:Assets\"},\"value\":\"1000\"}]"
+unfolding filing_on_literals
+a_number = refl
+
+pub a_text_with_links : reply_text (Found (record { dims = assets; value = Written (codes "a \"b\"\n"); links = Some (codes "{\"a\":1}") }))
+    ≡ codes "[\"fact\",{\"dimensions\":{\"concept\":\"ex:Assets\",\"ex:d\":null},\"links\":{\"a\":1},\"value\":\"a \\\"b\\\"\\n\"}]"
+unfolding filing_on_literals
+a_text_with_links = refl
+
+pub an_empty_cell : reply_text (Cell class.Empty []) ≡ codes "[\"cell\",\"empty\",[]]"
+an_empty_cell = refl
+
+pub a_cell : reply_text (Cell class.Consistent (codes "f1" ∷ codes "f\"2" ∷ [])) ≡ codes "[\"cell\",\"consistent\",[\"f1\",\"f\\\"2\"]]"
+unfolding filing_on_literals
+a_cell = refl
+
+pub a_page_with_more : reply_text (Page (codes "f1" ∷ codes "f2" ∷ codes "f3" ∷ []) true) ≡ codes "[\"page\",[\"f1\",\"f2\",\"f3\"],true]"
+unfolding filing_on_literals
+a_page_with_more = refl
+
+pub an_empty_page : reply_text (Page [] false) ≡ codes "[\"page\",[],false]"
+an_empty_page = refl
+
+pub a_review_stages_nothing : reply_text ReadOnly ≡ codes "[\"read-only\"]"
+a_review_stages_nothing = refl
+
+pub an_unbound_prefix : reply_text (BadFact UnboundPrefix) ≡ codes "[\"bad-fact\",\"unbound-prefix\"]"
+an_unbound_prefix = refl
+
+pub an_absent_report_was_loaded : reply_text (Conflict 12 (thing.Report (codes "acme"))) ≡ codes "[\"conflict\",12,[\"report\",\"acme\"]]"
+unfolding filing_on_literals
+an_absent_report_was_loaded = refl
+
+pub an_identifier_was_added : reply_text (Conflict 2 (thing.Id (codes "acme") (codes "f1"))) ≡ codes "[\"conflict\",2,[\"id\",\"acme\",\"f1\"]]"
+unfolding filing_on_literals
+an_identifier_was_added = refl
+
+pub a_cell_was_changed : reply_text (Conflict 3 (thing.Cell (codes "acme") assets)) ≡ codes "[\"conflict\",3,[\"cell\",\"acme\",{\"concept\":\"ex:Assets\",\"ex:d\":null}]]"
+unfolding filing_on_literals
+a_cell_was_changed = refl
+
+pub a_query_of_any_period : reply_text (Conflict 4 (thing.Query (codes "acme") (codes "ex:Assets") None)) ≡ codes "[\"conflict\",4,[\"query\",\"acme\",\"ex:Assets\",null]]"
+unfolding filing_on_literals
+a_query_of_any_period = refl
+
+pub a_query_of_one_period : reply_text (Conflict 4 (thing.Query (codes "acme") (codes "ex:Assets") (Some (codes "2024")))) ≡ codes "[\"conflict\",4,[\"query\",\"acme\",\"ex:Assets\",\"2024\"]]"
+unfolding filing_on_literals
+a_query_of_one_period = refl
+
+pub a_disallowed_cell : reply_text (Disallowed (codes "acme") class.Inconsistent (codes "f1" ∷ codes "f2" ∷ [])) ≡ codes "[\"disallowed\",\"acme\",\"inconsistent\",[\"f1\",\"f2\"]]"
+unfolding filing_on_literals
+a_disallowed_cell = refl
+
+-- ---- what takes no step
+
+pub a_long_dimension : bad_fact_text (in_dims TooLong) ≡ codes "[\"bad-fact\",\"too-long\"]"
+a_long_dimension = refl
+
+pub a_fact_of_a_report : bad_report_text (report.BadFact (codes "f1") (Fit UnboundPrefix)) ≡ codes "[\"bad-report\",\"bad-fact\",\"f1\",\"unbound-prefix\"]"
+unfolding filing_on_literals
+a_fact_of_a_report = refl

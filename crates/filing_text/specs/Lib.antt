@@ -1,0 +1,7 @@
+-- ---- lines, and their parts
+pub mod ScriptLines
+pub mod LineView
+-- ---- replies
+pub mod ReplyText
+-- ---- the output of a script
+pub mod Script

@@ -1,0 +1,128 @@
+-- The output of a script by a numeric table: a reply to each line that is not blank, with the history so far and the names in use carried from line to line. All of it is the project's own.
+use Rattle.std.specs.Prelude.{ℕ, ◌+◌, Bool, true, false, if◌then◌else◌, List, [], Option, Some, None, is_some, option_and_then, Result, Ok, Err}
+use Rattle.std.specs.List.{list_any}
+use Rattle.std.specs.Option.{option_map_or}
+use Rattle.serde_json.specs.Data.{Data, string}
+use Rattle.filing_model.specs.TextMap.{TextMap, empty, get, insert, remove}
+use Rattle.filing_model.specs.JsonText.{json_of}
+use Rattle.filing_model.specs.Facts.{RawFact, Table}
+use Rattle.filing_model.specs.Reports.{Report}
+use Rattle.filing_model.specs.Repository.{report_at}
+use Rattle.filing_model.specs.Replies.{NoReport}
+use Rattle.filing_model.specs.ReadFact.{raw_fact_of}
+use Rattle.filing_model.specs.ReadReport.{ReportFault, report_of, read_report_of}
+use Rattle.filing_model.specs.Calls as call
+use Rattle.filing_model.specs.Calls.{Call}
+use Rattle.filing_model.specs.History as step
+use Rattle.filing_model.specs.History.{Step, History, Status, Unknown, Live, Ended, repository, status_of}
+use Rattle.filing_model.specs.Lawful.{openings, next_reply, after_step}
+use Rattle.filing_model.specs.declared.kind.Kind.TheVariants.{Amend}
+use Rattle.filing_model.specs.declared.faults.Trouble.{Trouble}
+use Rattle.filing_model.specs.Text.{Text}
+use Rattle.line_run.specs.Lines.{lines_of, spoken, text_of}
+use Rattle.line_run.specs.Run.{replies_of, state_after}
+use Rattle.filing_text.specs.ReplyText.{reply_text, bad_line_text, name_in_use_text, no_session_text, bad_report_text, bad_fact_text, exported_text}
+use Rattle.filing_text.specs.ScriptLines.{Line, Load, Open, Get, Add, Commit, Close, Export, line_of}
+
+-- the numeric table that reports are read by, the history so far, newest entry first, and the names in use with the numbers of their sessions
+pub record State : Type 0 where
+  pub table : Table
+  pub history : History
+  pub names : TextMap ℕ
+
+-- before the first line
+abbrev pub start : Table → State
+start table = record { table = table; history = []; names = empty }
+
+-- ---- how a line is judged
+
+-- a reply at once, or a step under a session's number, with the names that are in use once it is taken
+pub data Judgement : Type 0 where
+  Told : Text → Judgement
+  Due : Option ℕ → Step → TextMap ℕ → Judgement
+
+abbrev pub is_live : Status → Bool
+is_live Unknown = false
+is_live (Live kind) = true
+is_live Ended = false
+
+-- whether a session is open: one of those that the entries are of
+abbrev pub some_open : History → List step.Entry → Bool
+some_open h entries = list_any (λ e. option_map_or (λ s. is_live (status_of s h)) e.session false) entries
+
+abbrev pub is_busy : History → Bool
+is_busy h = some_open h h
+
+-- while sessions may not overlap, a load or an opening has no place where a session is open
+abbrev pub judged_alone : State → Judgement → Judgement
+judged_alone state judgement = if is_busy state.history then Told bad_line_text else judgement
+
+abbrev pub judged_load : State → Text → Result Report ReportFault → Judgement
+judged_load state name (Err fault) = Told (bad_report_text fault)
+judged_load state name (Ok r) = judged_alone state (Due None (step.Load name r) state.names)
+
+-- the name will be that of the next session
+abbrev pub judged_open : State → Text → Judgement
+judged_open state session =
+    if is_some (get state.names session) then Told name_in_use_text
+    else judged_alone state (Due None (step.Open Amend) (insert state.names session (openings state.history + 1)))
+
+-- a call of the session that has the name
+abbrev pub judged_call : State → Text → Call → Judgement
+judged_call state session c = option_map_or (λ number. Due (Some number) (step.Ask c) state.names) (get state.names session) (Told no_session_text)
+
+abbrev pub judged_add : State → Text → Text → Text → Result RawFact Trouble → Judgement
+judged_add state session name id (Err fault) = Told (bad_fact_text fault)
+judged_add state session name id (Ok raw) = judged_call state session (call.Add name id raw)
+
+-- a step that ends the session and frees its name
+abbrev pub judged_end : State → Text → Step → Judgement
+judged_end state session end = option_map_or (λ number. Due (Some number) end (remove state.names session)) (get state.names session) (Told no_session_text)
+
+-- the report of a load by this numeric table: an object, or the text of one
+abbrev pub report_in : Table → Data → Result Report ReportFault
+report_in table (string text) = read_report_of table text
+report_in table d = report_of table d
+
+-- the report as the current version has it. That is no step
+abbrev pub judged_export : State → Text → Judgement
+judged_export state name = Told (option_map_or exported_text (report_at (repository state.history) name) (reply_text NoReport))
+
+abbrev pub judged_line : State → Line → Judgement
+judged_line state (Load name r) = judged_load state name (report_in state.table r)
+judged_line state (Open session) = judged_open state session
+judged_line state (Get session name id) = judged_call state session (call.Get name id)
+judged_line state (Add session name id fact) = judged_add state session name id (raw_fact_of fact)
+judged_line state (Commit session) = judged_end state session step.Commit
+judged_line state (Close session) = judged_end state session step.Close
+judged_line state (Export name) = judged_export state name
+
+-- of the value that the line is, where it is JSON
+abbrev pub judged : State → Option Data → Judgement
+judged state value = option_map_or (judged_line state) (option_and_then line_of value) (Told bad_line_text)
+
+-- ---- replies
+
+-- the reply to a step is the one that keeps the history lawful. None does for a session that is not open, and the names in use are of open ones alone
+abbrev pub step_text : History → Option ℕ → Step → Text
+step_text h session s = option_map_or reply_text (next_reply h session s) no_session_text
+
+-- a reply, and what is carried on
+abbrev pub answered : State → Judgement → Text × State
+answered state (Told text) = (text, state)
+answered state (Due session s names) = (step_text state.history session s, record { table = state.table; history = after_step state.history session s; names = names })
+
+-- of a line that is this JSON value, or none
+abbrev pub value_answer : State → Option Data → Text × State
+value_answer state value = answered state (judged state value)
+
+unfoldable pub line_answer : State → Text → Text × State
+line_answer state line = value_answer state (json_of line)
+
+-- what a script has as its output by this numeric table: a line for each reply
+unfoldable pub script_output : Table → Text → Text
+script_output table input = text_of (replies_of line_answer (start table) (spoken (lines_of input)))
+
+-- the history that a script makes, newest entry first
+unfoldable pub script_history : Table → Text → History
+script_history table input = (state_after line_answer (start table) (spoken (lines_of input))).history

@@ -1,0 +1,8 @@
+-- ---- devices, and the lines and replies that pass through them
+pub mod DeviceSteps
+pub mod CutLines
+pub mod SentReplies
+pub mod TakenLines
+pub mod RunByReads
+-- ---- machines whose replies are a function
+pub mod AnsweringMachines

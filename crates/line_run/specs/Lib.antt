@@ -1,0 +1,7 @@
+-- ---- what contracts of public functions cite
+pub mod Text
+pub mod Devices
+pub mod Lines
+pub mod Run
+-- ---- what a run has in hand between two reads
+pub mod Pieces
