@@ -1,4 +1,3 @@
 pub mod FreedNames
-pub mod RefusedReports
 pub mod ReportOfLoad
 pub mod Scripts

@@ -13,7 +13,6 @@ ghost use Rattle.filing_cli.specs.ScriptRun.{IsReply, newest_session};
 
 use crate::session_names::SessionNames;
 use filing_core::{Core, CoreFault};
-use filing_model::Trouble;
 use filing_step::{Kind, Reply, Step};
 use filing_text::{
     Line, bad_fact_reply, bad_line_reply, bad_report_reply, exported_reply, line_of,
@@ -155,7 +154,7 @@ impl ScriptMachine {
     }
 
     /// Answers a load.
-    #[tactic(auto, using(crate::proofs::RefusedReports::load_is_refused))]
+    #[tactic(auto, using(filing_text::proofs::ToldFaults::load_is_refused))]
     fn load(&mut self, alloc: Global, name: String, report: Value) -> Result<String, AllocError>
         ensures { IfOk result (λ text. answered self.old (judged_load self.old (string_bytes name) (report_in self.old.table (view report))) ≡ (string_bytes text, self.new)) }
     {
@@ -219,6 +218,7 @@ impl ScriptMachine {
     }
 
     /// Answers a session that adds a fact.
+    #[tactic(auto, using(filing_text::proofs::ToldFaults::addition_is_refused))]
     fn add(
         &mut self,
         alloc: Global,
@@ -231,7 +231,6 @@ impl ScriptMachine {
     {
         match raw_fact(alloc, fact) {
             Ok(fact) => self.take_addition(alloc, session, report, id, fact),
-            Err(Trouble::NoMemory) => Err(AllocError),
             Err(fault) => bad_fact_reply(alloc, fault),
         }
     }

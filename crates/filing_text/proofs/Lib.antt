@@ -1,4 +1,5 @@
 -- ---- the lines of a script
 pub mod BusySessions
+pub mod ToldFaults
 -- ---- examples that compute
 pub mod Examples

@@ -1,5 +1,5 @@
 -- The line of each reply, without the LF that ends it: one compact JSON array. The project's own.
-use Rattle.std.specs.Prelude.{Bool, true, false, List, [], ◌++◌, codes, decimal}
+use Rattle.std.specs.Prelude.{Bool, true, false, List, [], ◌++◌, Option, None, Some, codes, decimal}
 use Rattle.json.specs.Print.{quoted}
 use Rattle.filing_model.specs.Text.{Text}
 use Rattle.filing_model.specs.Reports.{Report}
@@ -40,6 +40,12 @@ dim_fault_word dim.NullCore = codes "null-core"
 dim_fault_word dim.NoConcept = codes "no-concept"
 dim_fault_word dim.TooLong = codes "too-long"
 dim_fault_word dim.NoMemory = []
+
+-- the fault, or none where memory is wanted: no reply tells of that
+abbrev pub told_fault : Trouble → Option Trouble
+told_fault trouble.NoMemory = None
+told_fault (trouble.Dims dim.NoMemory) = None
+told_fault fault = Some fault
 
 -- the word of the fault in it. Want of memory has none
 abbrev pub trouble_word : Trouble → Text

@@ -3,10 +3,10 @@
 ghost use Rattle.std.specs.Prelude.{◌≡◌, ◌++◌, Some, option_map, OnOk, IfOk, string_bytes};
 ghost use Rattle.filing_model.specs.ReadReport.{BadFact};
 ghost use Rattle.oim_report.specs.Faults.{report_fault};
-ghost use Rattle.filing_text.specs.ReplyText.{bad_fact_text, bad_report_text, word_text};
+ghost use Rattle.filing_text.specs.ReplyText.{bad_fact_text, bad_report_text, told_fault, word_text};
 
 use super::words::trouble_word;
-use filing_model::Trouble;
+use filing_model::{DimFault, Trouble};
 use oim_report::{ReportFault, push_quoted};
 use std::alloc::{AllocError, Global};
 
@@ -28,10 +28,23 @@ pub(super) fn push_bad_fact(out: &mut String, fault: Trouble) -> Result<(), Allo
     out.push_str("]")
 }
 
-/// The reply to a fact, or to dimensions, that are refused. Want of memory has no word, and is no reply.
-pub fn bad_fact_reply(alloc: Global, fault: Trouble) -> Result<String, AllocError>
-    ensures { IfOk result (λ text. string_bytes text ≡ bad_fact_text fault) }
+/// The fault, where a reply tells of it.
+fn told_fault(fault: Trouble) -> Option<Trouble>
+    ensures { result ≡ told_fault fault }
 {
+    match fault {
+        Trouble::NoMemory | Trouble::Dims(DimFault::NoMemory) => None,
+        fault => Some(fault),
+    }
+}
+
+/// The reply to a fact, or to dimensions, that are refused. Want of memory is no reply.
+pub fn bad_fact_reply(alloc: Global, fault: Trouble) -> Result<String, AllocError>
+    ensures { IfOk result (λ text. Some (string_bytes text) ≡ option_map bad_fact_text (told_fault fault)) }
+{
+    let Some(fault) = told_fault(fault) else {
+        return Err(AllocError);
+    };
     let mut out = String::new(alloc);
     push_bad_fact(&mut out, fault)?;
     Ok(out)

@@ -7,8 +7,8 @@ ghost use Rattle.filing_text.specs.ReplyText.{class_word, exported_text, reply_t
 
 use super::refusals::{push_bad_fact, push_word};
 use super::words::class_word;
-use filing_step::Reply;
 use filing_model::{Class, Trouble};
+use filing_step::Reply;
 use oim_fact::Fact;
 use oim_report::{Report, push_comma, push_fact, push_quoted, push_report};
 use std::alloc::{AllocError, Global};

@@ -3,8 +3,8 @@ use super::{
     bad_fact_reply, bad_line_reply, bad_report_reply, exported_reply, name_in_use_reply,
     no_session_reply, reply_text,
 };
-use filing_step::Reply;
 use filing_model::{Class, DimFault, FactFault, Trouble};
+use filing_step::Reply;
 use oim_fact::NumericTable;
 use oim_report::{ReportFault, read_report};
 use std::sync::Arc;
