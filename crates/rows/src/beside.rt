@@ -2,11 +2,20 @@
 
 ghost use Rattle.std.specs.Prelude.{◌<◌};
 
-use crate::Kind;
+use crate::classes::{allowed_answer, class_answer, least_answer, pair_answer};
+use crate::dimensions::{dims_answer, names_answer, order_answer};
+use crate::facts::{fact_answer, raw_answer};
+use crate::numbers::{interval_answer, number_answer, numeral_answer};
+use crate::reports::{fronts_answer, parts_answer, report_answer, written_answer};
 use crate::scripts::run_lines;
-use crate::sheet::Sheet;
+use crate::sheet::{Sheet, push_line};
+use crate::steps::steps_answers;
+use crate::tables::table_answer;
+use crate::{Asked, Kind};
 use anyhow::Result;
 use oim_fact::NumericTable;
+use oim_report::{Report, json_value};
+use serde_json::Value;
 use std::alloc::Global;
 use std::fs;
 use std::rt::Files;
@@ -20,10 +29,64 @@ struct Seen {
     differing: u64,
 }
 
-/// What the lines of a sheet are answered.
-fn answers(alloc: Global, table: &Arc<NumericTable>, kind: Kind, sheet: &Sheet) -> Result<Vec<u8>> {
+/// The numeric table by which all rows are read, and a report whose prefixes facts are fitted to.
+#[derive(Drop)]
+pub(crate) struct Table {
+    pub(crate) numeric: Arc<NumericTable>,
+    pub(crate) report: Report,
+}
+
+/// The answer to a question of a kind.
+fn value_answer(alloc: Global, table: &Table, kind: Asked, value: &Value) -> Result<String> {
     match kind {
-        Kind::Script(piece) => run_lines(alloc, table, sheet, piece),
+        Asked::Table => table_answer(alloc, value),
+        Asked::Report | Asked::Fronts => Ok(String::new(alloc)),
+        Asked::Written => written_answer(alloc, value, &table.numeric),
+        Asked::Parts => parts_answer(alloc, value, &table.numeric),
+        Asked::RawFact => raw_answer(alloc, value),
+        Asked::Fact => fact_answer(alloc, value, table.report.names()),
+        Asked::Numeral => numeral_answer(alloc, value),
+        Asked::Number => number_answer(alloc, value),
+        Asked::Intervals => interval_answer(alloc, value),
+        Asked::Dims => dims_answer(alloc, value),
+        Asked::Order => order_answer(alloc, value),
+        Asked::Names => names_answer(alloc, value, &table.numeric),
+        Asked::Pair => pair_answer(alloc, value),
+        Asked::Class => class_answer(alloc, value),
+        Asked::Allowed => Ok(allowed_answer(alloc, value)?),
+        Asked::Least => least_answer(alloc, value),
+    }
+}
+
+/// The answer to a line.
+fn line_answer(alloc: Global, table: &Table, kind: Asked, line: &[u8]) -> Result<String> {
+    match kind {
+        Asked::Report => Ok(report_answer(alloc, line, &table.numeric)?),
+        Asked::Fronts => Ok(fronts_answer(alloc, line, &table.numeric)?),
+        _ => match json_value(alloc, line)? {
+            Some(value) => value_answer(alloc, table, kind, &value),
+            None => Ok(String::from_str(alloc, "no JSON")?),
+        },
+    }
+}
+
+/// The answers to each line that is not empty.
+fn line_answers(alloc: Global, table: &Table, kind: Asked, lines: &[u8]) -> Result<Vec<u8>> {
+    let mut told = Vec::new(alloc);
+    for line in lines.split(|byte| *byte == b'\n') {
+        if !line.is_empty() {
+            push_line(&mut told, line_answer(alloc, table, kind, line)?.as_bytes())?;
+        }
+    }
+    Ok(told)
+}
+
+/// What the lines of a sheet are answered.
+fn answers(alloc: Global, table: &Table, kind: Kind, sheet: &Sheet) -> Result<Vec<u8>> {
+    match kind {
+        Kind::Script(piece) => run_lines(alloc, &table.numeric, sheet, piece),
+        Kind::Steps => Ok(steps_answers(alloc, &table.numeric, &sheet.lines)?.into_bytes()),
+        Kind::Each(kind) => line_answers(alloc, table, kind, &sheet.lines),
     }
 }
 
@@ -54,7 +117,7 @@ fn tell_difference<R: Print + AllocGlobal>(rt: &R, sheet: &Sheet, told: &[u8]) -
 /// Answers the lines of a sheet, and compares.
 fn compare_sheet<R: Print + AllocGlobal>(
     rt: &R,
-    table: &Arc<NumericTable>,
+    table: &Table,
     kind: Kind,
     sheet: &Sheet,
     seen: Seen,
@@ -76,7 +139,7 @@ fn compare_sheet<R: Print + AllocGlobal>(
 /// Compares each script of a file.
 fn compare_scripts<R: Print + AllocGlobal>(
     rt: &R,
-    table: &Arc<NumericTable>,
+    table: &Table,
     kind: Kind,
     file: &[u8],
 ) -> Result<Seen> {
@@ -100,7 +163,7 @@ fn compare_scripts<R: Print + AllocGlobal>(
 /// Compares the scripts of the file of this name.
 pub(crate) fn compare_file<R: Files + Print + AllocGlobal>(
     rt: &R,
-    table: &Arc<NumericTable>,
+    table: &Table,
     name: &str,
     kind: Kind,
 ) -> Result<()> {
