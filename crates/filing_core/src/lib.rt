@@ -16,8 +16,6 @@ mod report;
 mod session;
 mod staged;
 mod step;
-#[cfg(test)]
-mod tests;
 
 pub use engine::Core;
 pub use fault::CoreFault;
