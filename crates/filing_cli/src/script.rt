@@ -33,6 +33,3 @@ pub fn run_script<R: Source, W: Sink>(
         Err(fault) => Err(fault),
     }
 }
-
-#[cfg(test)]
-mod tests;
