@@ -16,7 +16,7 @@ use anyhow::Result;
 use oim_fact::NumericTable;
 use oim_report::{Report, json_value};
 use serde_json::Value;
-use std::alloc::Global;
+use std::alloc::{AllocError, Global};
 use std::fs;
 use std::rt::Files;
 use std::sync::Arc;
@@ -90,25 +90,34 @@ fn answers(alloc: Global, table: &Table, kind: Kind, sheet: &Sheet) -> Result<Ve
     }
 }
 
-/// The first lines that differ, with their number from 1.
-fn first_difference<'a>(told: &'a str, expected: &'a str) -> (u64, &'a str, &'a str) {
-    let mut left = told.lines();
-    let mut number = 1u64;
-    for wanted in expected.lines() {
-        let line = left.next().unwrap_or("nothing");
-        if line != wanted {
-            return (number, line, wanted);
+/// How many whole lines are the same before the first that differ.
+fn same_lines(told: &[u8], expected: &[u8]) -> usize {
+    let mut lines = 0usize;
+    for (byte, wanted) in told.iter().zip(expected.iter()) {
+        if byte != wanted {
+            return lines;
         }
-        number = number.saturating_add(1);
+        if *byte == b'\n' {
+            lines = lines.saturating_add(1);
+        }
     }
-    (number, left.next().unwrap_or("nothing"), "nothing")
+    lines
+}
+
+/// The line at a place, as far as it is text.
+fn line_at(alloc: Global, lines: &[u8], place: usize) -> Result<String, AllocError> {
+    match lines.split(|byte| *byte == b'\n').nth(place) {
+        Some(line) if !line.is_empty() => String::from_utf8_lossy(alloc, line),
+        _ => String::from_str(alloc, "nothing"),
+    }
 }
 
 /// Tells where the replies of a sheet differ.
 fn tell_difference<R: Print + AllocGlobal>(rt: &R, sheet: &Sheet, told: &[u8]) -> Result<()> {
-    let told = String::from_utf8_lossy(rt.alloc(), told)?;
-    let expected = String::from_utf8_lossy(rt.alloc(), &sheet.replies)?;
-    let (number, line, wanted) = first_difference(&told, &expected);
+    let place = same_lines(told, &sheet.replies);
+    let number = place.saturating_add(1);
+    let line = line_at(rt.alloc(), told, place)?;
+    let wanted = line_at(rt.alloc(), &sheet.replies, place)?;
     let title = sheet.title.as_str();
     println!(rt; "  {title}: reply {number} is {line}, expected {wanted}")?;
     Ok(())

@@ -1,6 +1,6 @@
 //! What facts are to one another.
 
-use crate::question::parts;
+use crate::question::{parts, text_at};
 use crate::reports::allowed_word;
 use anyhow::Result;
 use filing_model::{class_by_pairs, least_disallowed_by_pairs};
@@ -77,7 +77,7 @@ fn value(alloc: Global, written: &[Value]) -> Result<FactValue> {
 }
 
 /// The fact of a concept and what stands behind it.
-pub(crate) fn fact(alloc: Global, written: &Value) -> Result<Fact> {
+fn fact(alloc: Global, written: &Value) -> Result<Fact> {
     let written = parts(written);
     let concept = match written {
         [concept, ..] => concept.as_str().unwrap_or(""),
@@ -90,7 +90,8 @@ pub(crate) fn fact(alloc: Global, written: &Value) -> Result<Fact> {
     })
 }
 
-fn facts(alloc: Global, listed: &[Value]) -> Result<Vec<Fact>> {
+/// The facts of a list.
+pub(crate) fn facts(alloc: Global, listed: &[Value]) -> Result<Vec<Fact>> {
     let mut all = Vec::new(alloc);
     for written in listed {
         all.push(fact(alloc, written)?)?;
@@ -118,14 +119,19 @@ pub(crate) fn pair_answer(alloc: Global, question: &Value) -> Result<String> {
     Ok(format!(in alloc; "{pair} {again}")?)
 }
 
-/// The class of some facts: of the list, from its end, and by all pairs.
+/// The class of a cell: of the list, from its end, and by all pairs.
+fn ways(alloc: Global, cell: &[Arc<Fact>], by_pairs: Class) -> Result<String> {
+    let class = class_word(class_of(cell));
+    let from_the_end = class_word(class_over(cell.iter().rev()));
+    let by_pairs = class_word(by_pairs);
+    Ok(format!(in alloc; "{class} {from_the_end} {by_pairs}")?)
+}
+
+/// The class of some facts.
 pub(crate) fn class_answer(alloc: Global, question: &Value) -> Result<String> {
     let facts = facts(alloc, parts(question))?;
-    let by_pairs = class_word(class_by_pairs(&facts));
-    let cell = shared(alloc, facts)?;
-    let class = class_word(class_of(&cell));
-    let from_the_end = class_word(class_over(cell.iter().rev()));
-    Ok(format!(in alloc; "{class} {from_the_end} {by_pairs}")?)
+    let by_pairs = class_by_pairs(&facts);
+    ways(alloc, &shared(alloc, facts)?, by_pairs)
 }
 
 /// What a word says to be allowed.
@@ -138,17 +144,24 @@ fn allowed(word: &str) -> Allowed {
     Allowed::All
 }
 
-/// The classes that are allowed by a word.
-pub(crate) fn allowed_answer(alloc: Global, question: &Value) -> Result<String, AllocError> {
-    let kind = allowed(question.as_str().unwrap_or(""));
-    let mut told = String::from_str(alloc, allowed_word(kind))?;
+/// The class of a word.
+fn class(word: &str) -> Class {
     for class in CLASSES {
-        if allows(kind, class) {
-            told.push_str(" ")?;
-            told.push_str(class_word(class))?;
+        if class_word(class) == word {
+            return class;
         }
     }
-    Ok(told)
+    Class::Mixed
+}
+
+/// Whether a word allows a class.
+pub(crate) fn allowed_answer(alloc: Global, question: &Value) -> Result<String, AllocError> {
+    let kind = allowed(text_at(question, 0));
+    if allows(kind, class(text_at(question, 1))) {
+        String::from_str(alloc, "yes")
+    } else {
+        String::from_str(alloc, "no")
+    }
 }
 
 /// The place of the first fact of the least cell that is not allowed by a word, by all pairs.

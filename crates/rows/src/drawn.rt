@@ -2,7 +2,7 @@
 
 ghost use Rattle.std.specs.Prelude.{◌≡◌, ◌<◌, length};
 
-use crate::classes::{fact, shared};
+use crate::classes::{facts, shared};
 use crate::question::parts;
 use anyhow::Result;
 use filing_model::{Pair, PairedFact, class_by_pairs};
@@ -46,11 +46,7 @@ const VALUES: &str =
 /// The facts of those values.
 fn values(alloc: Global) -> Result<Vec<Arc<Fact>>> {
     let listed = json_value(alloc, VALUES.as_bytes())?.unwrap_or(Value::Null);
-    let mut facts = Vec::new(alloc);
-    for written in parts(&listed) {
-        facts.push(fact(alloc, written)?)?;
-    }
-    shared(alloc, facts)
+    shared(alloc, facts(alloc, parts(&listed))?)
 }
 
 /// A cell twice over, for the fast body and for the slow one.

@@ -1,6 +1,7 @@
 //! The refusal of a report that is loaded beside that by all pairs of its facts, over reports that are drawn.
 
 use crate::drawn::{Held, next};
+use crate::steps::take;
 use anyhow::Result;
 use filing_cli::reply_text;
 use filing_core::{Core, CoreFault, Reply, Step};
@@ -86,15 +87,20 @@ fn refusal(alloc: Global, dims: &DimSet, facts: &[(String, Arc<Fact>)]) -> Resul
     Ok(Reply::Disallowed(name, class_by_pairs(&cell), ids))
 }
 
+/// The place of the first fact of the least cell that a report does not allow, by all pairs.
+fn least_place(alloc: Global, report: &Report) -> Result<Option<usize>, AllocError> {
+    let held = all_held(alloc, report.facts())?;
+    Ok(least_disallowed_by_pairs(report.allowed(), &held))
+}
+
 /// The reply to a first load of a report, by all pairs of its facts.
 fn reply_by_pairs(alloc: Global, report: &Report) -> Result<Reply> {
-    let held = all_held(alloc, report.facts())?;
-    match least_disallowed_by_pairs(report.allowed(), &held) {
-        Some(place) => match held.get(place) {
-            Some(first) => refusal(alloc, &first.fact.dims, report.facts()),
-            None => Ok(Reply::Absent),
-        },
-        None => Ok(Reply::Loaded(1)),
+    let Some(place) = least_place(alloc, report)? else {
+        return Ok(Reply::Loaded(1));
+    };
+    match report.facts().get(place) {
+        Some((_, first)) => refusal(alloc, &first.dims, report.facts()),
+        None => Ok(Reply::Absent),
     }
 }
 
@@ -102,10 +108,7 @@ fn reply_by_pairs(alloc: Global, report: &Report) -> Result<Reply> {
 fn load(alloc: Global, report: Report) -> Result<Reply, CoreFault> {
     let mut core = Core::new(alloc)?;
     let name = String::from_str(alloc, "r1")?;
-    if core.busy() {
-        return Err(CoreFault::NoSession);
-    }
-    core.step(alloc, None, Step::Load(name, report))
+    take(alloc, &mut core, None, Step::Load(name, report))
 }
 
 /// Whether the report of a text is loaded, where both replies are the same.

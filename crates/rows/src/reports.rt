@@ -5,7 +5,7 @@ use crate::facts::push_value;
 use crate::question::{parts, text_at};
 use anyhow::Result;
 use filing_cli::bad_report_reply;
-use oim_fact::{Allowed, Fact, NumericTable};
+use oim_fact::{Allowed, NumericTable};
 use oim_report::{
     Report, ReportFault, json_value, push_quoted, read_report, report_from, report_of, write_report,
 };
@@ -105,7 +105,17 @@ fn read(alloc: Global, text: &str, table: &Arc<NumericTable>) -> Result<Report> 
     Ok(read_report(alloc, text.as_bytes(), table)?)
 }
 
-/// What is written of the report of a text, of one made of the parts of its clone, and of the report that is read of the first.
+/// Whether a text is written of the parts of a report too, and of the report that its own value is.
+fn is_written_again(
+    alloc: Global,
+    text: &str,
+    report: &Report,
+    table: &Arc<NumericTable>,
+) -> Result<bool> {
+    Ok(is_written_so(alloc, text, report)? && is_read_so(alloc, text, table)?)
+}
+
+/// What is written of the report of a text, where the same is written again.
 pub(crate) fn written_answer(
     alloc: Global,
     question: &Value,
@@ -113,11 +123,10 @@ pub(crate) fn written_answer(
 ) -> Result<String> {
     let report = read(alloc, question.as_str().unwrap_or(""), table)?;
     let text = write_report(alloc, &report)?;
-    if is_written_so(alloc, &text, &report)? && is_read_so(alloc, &text, table)? {
-        Ok(text)
-    } else {
-        Ok(format!(in alloc; "{text}, but not again")?)
+    if is_written_again(alloc, &text, &report, table)? {
+        return Ok(text);
     }
+    Ok(String::from_str(alloc, "another text the second time")?)
 }
 
 /// Whether a report that is made of the parts of a clone is written as this text.
@@ -127,15 +136,32 @@ fn is_written_so(alloc: Global, text: &str, report: &Report) -> Result<bool, All
     Ok(written.as_str() == text)
 }
 
-/// Whether a text is what is written of its report.
-fn is_read_so(alloc: Global, text: &str, table: &Arc<NumericTable>) -> Result<bool> {
-    let written = write_report(alloc, &read(alloc, text, table)?)?;
-    Ok(written.as_str() == text)
+/// What is written of the report that a value is.
+fn written_of(alloc: Global, value: &Value, table: &Arc<NumericTable>) -> Result<String> {
+    Ok(write_report(alloc, &report_of(alloc, value, table)?)?)
 }
 
-/// The identifiers with their values.
-fn push_values(told: &mut String, facts: &[(String, Arc<Fact>)]) -> Result<(), AllocError> {
-    for (id, fact) in facts {
+/// The same, where the value is taken apart.
+fn written_from(alloc: Global, value: Value, table: &Arc<NumericTable>) -> Result<String> {
+    Ok(write_report(alloc, &report_from(alloc, value, table)?)?)
+}
+
+/// Whether a text is what is written of the report that its value is.
+fn is_read_so(alloc: Global, text: &str, table: &Arc<NumericTable>) -> Result<bool> {
+    let Some(value) = json_value(alloc, text.as_bytes())? else {
+        return Ok(false);
+    };
+    if written_of(alloc, &value, table)?.as_str() != text {
+        return Ok(false);
+    }
+    Ok(written_from(alloc, value, table)?.as_str() == text)
+}
+
+/// Appends what a report allows, and its identifiers with their values.
+fn push_values(told: &mut String, report: &Report) -> Result<(), AllocError> {
+    told.push_str(" ")?;
+    told.push_str(allowed_word(report.allowed()))?;
+    for (id, fact) in report.facts() {
         told.push_str(" ")?;
         push_quoted(told, id)?;
         told.push_str(" ")?;
@@ -153,8 +179,6 @@ pub(crate) fn parts_answer(
     let report = read(alloc, text_at(question, 0), table)?;
     let prefixes = parts(question).get(1..).unwrap_or(&[]);
     let mut told = lookups(alloc, report.names(), prefixes)?;
-    told.push_str(" ")?;
-    told.push_str(allowed_word(report.allowed()))?;
-    push_values(&mut told, report.facts())?;
+    push_values(&mut told, &report)?;
     Ok(told)
 }

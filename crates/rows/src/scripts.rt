@@ -32,30 +32,37 @@ fn is_answered_before(sheet: &Sheet, written: &[u8], number: u128) -> bool {
     sheet.replies.starts_with(written) && ends == replies_before(&sheet.lines, number)
 }
 
-/// What is written, with the number of steps where the sheet has it. Want of memory is passed on where just the replies before it are written.
+/// What is written, with the number of steps where the sheet has it.
+fn with_steps(alloc: Global, sheet: &Sheet, core: &Core, written: &[u8]) -> Result<Vec<u8>> {
+    let mut all = Vec::from_slice(alloc, written)?;
+    if sheet.counts_steps {
+        let steps = core.history().len().to_string(alloc)?;
+        push_line(&mut all, steps.as_bytes())?;
+    }
+    Ok(all)
+}
+
+/// What is written, with the fault that ended it.
+fn with_fault(alloc: Global, fault: ScriptFault, written: &[u8]) -> Result<Vec<u8>> {
+    let mut all = Vec::from_slice(alloc, written)?;
+    let fault = fault.to_string(alloc)?;
+    push_line(&mut all, fault.as_bytes())?;
+    Ok(all)
+}
+
+/// What a script left. Want of memory is passed on where just the replies before it are written.
 fn told(
     alloc: Global,
     sheet: &Sheet,
     ended: Result<Core, ScriptFault>,
     written: &[u8],
 ) -> Result<Vec<u8>> {
-    let mut all = Vec::from_slice(alloc, written)?;
     match ended {
-        Ok(core) => {
-            if sheet.counts_steps {
-                let steps = core.history().len().to_string(alloc)?;
-                push_line(&mut all, steps.as_bytes())?;
-            }
-            Ok(all)
-        }
+        Ok(core) => with_steps(alloc, sheet, &core, written),
         Err(ScriptFault::NoMemory(number)) if is_answered_before(sheet, written, number) => {
             Err(AllocError.into())
         }
-        Err(fault) => {
-            let fault = fault.to_string(alloc)?;
-            push_line(&mut all, fault.as_bytes())?;
-            Ok(all)
-        }
+        Err(fault) => with_fault(alloc, fault, written),
     }
 }
 

@@ -54,7 +54,7 @@ fn step_word(step: &Step) -> &'static str {
 }
 
 /// Takes a step. A load or an opening while a session is open is passed over, as under a session that is not open.
-fn take(
+pub(crate) fn take(
     alloc: Global,
     core: &mut Core,
     session: Option<u64>,
@@ -87,34 +87,42 @@ fn state(core: &Core) -> (usize, u64, bool) {
     (core.history().len(), core.current().number(), core.busy())
 }
 
-/// Takes a step, again where memory was wanted for it. Nothing is answered where that changed something.
-fn retaken(
+/// Takes the step of a question.
+fn once(
     alloc: Global,
     core: &mut Core,
     table: &Arc<NumericTable>,
     question: &Value,
-) -> Result<Option<Result<Reply, CoreFault>>> {
+) -> Result<Result<Reply, CoreFault>> {
     let session = question.get(0usize).and_then(Value::as_u64);
-    let before = state(core);
-    let answer = take(alloc, core, session, step_of(alloc, table, question)?);
-    if answer.is_ok() || state(core) != before {
-        return Ok(answer.ok().map(Ok));
-    }
-    Ok(Some(take(alloc, core, session, step_of(alloc, table, question)?)))
+    let step = step_of(alloc, table, question)?;
+    Ok(take(alloc, core, session, step))
 }
 
-/// The line of a reply, or why a step was not taken.
+/// The line of a reply, or why a step was not taken. Want of memory is passed on.
+fn told(alloc: Global, answer: Result<Reply, CoreFault>) -> Result<String> {
+    match answer {
+        Ok(reply) => Ok(reply_text(alloc, &reply)?),
+        Err(CoreFault::NoMemory) => Err(AllocError.into()),
+        Err(fault) => Ok(fault.to_string(alloc)?),
+    }
+}
+
+/// The answer to a step. One that is not taken is to change nothing, and where memory was wanted for it, it is taken again.
 fn step_answer(
     alloc: Global,
     core: &mut Core,
     table: &Arc<NumericTable>,
     question: &Value,
 ) -> Result<String> {
-    match retaken(alloc, core, table, question)? {
-        Some(Ok(reply)) => Ok(reply_text(alloc, &reply)?),
-        Some(Err(CoreFault::NoMemory)) => Err(AllocError.into()),
-        Some(Err(fault)) => Ok(fault.to_string(alloc)?),
-        None => Ok(String::from_str(alloc, "changed where nothing was to change")?),
+    let before = state(core);
+    let answer = once(alloc, core, table, question)?;
+    if answer.is_err() && state(core) != before {
+        return Ok(String::from_str(alloc, "changed where nothing was to change")?);
+    }
+    match answer {
+        Err(CoreFault::NoMemory) => told(alloc, once(alloc, core, table, question)?),
+        answer => told(alloc, answer),
     }
 }
 
