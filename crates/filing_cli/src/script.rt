@@ -30,6 +30,3 @@ pub fn run_script<R: Source, W: Sink>(
         Err(fault) => Err(fault),
     }
 }
-
-#[cfg(test)]
-mod tests;

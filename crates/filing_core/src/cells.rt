@@ -127,6 +127,3 @@ fn class_behind(facts: &[&Arc<Fact>]) -> Class
 {
     class_over(facts.iter().copied())
 }
-
-#[cfg(test)]
-mod tests;

@@ -1,8 +1,8 @@
 //! The core of the repository: sessions step by step, their commits, and the history of every step with its reply.
 //!
-//! `step` is the vocabulary: steps, replies, entries. `engine` is `Core`, which takes a step, and `fault` says why it did not. `plain` is a version, with what it asks of a `report`; `cells` finds the least cell of a report that is not allowed, and `disallowed` makes the refusal of it. `session` is the open session, `staged` its facts by report, `fact_map` those of one report, and `outcome` what it is told.
+//! `engine` is `Core`, which takes a step, and `fault` says why it did not. `plain` is a version, with what it asks of a `report`; `cells` finds the least cell of a report that is not allowed, and `disallowed` tells it. `session` is the open session, `staged` its facts by report, `fact_map` those of one report, and `outcome` what it is told.
 //!
-//! It knows nothing of JSON, of devices, of locks or of threads.
+//! The words in which steps and replies are said are those of `filing_step`. The crate knows nothing of JSON, of devices, of locks or of threads.
 #![tactic(auto)]
 
 mod cells;
@@ -15,8 +15,6 @@ mod plain;
 mod report;
 mod session;
 mod staged;
-#[cfg(test)]
-mod tests;
 
 pub use engine::Core;
 pub use fault::CoreFault;

@@ -1,6 +1,6 @@
 //! The class of a cell and the least disallowed cell, by comparing all pairs of facts. Nothing is allocated.
 //!
-//! The definitions' plain programs: they are slow, and tests compare faster bodies with them.
+//! The definitions' plain programs: they are slow, and the program `rows` compares faster bodies with them.
 
 ghost use Rattle.std.specs.Prelude.{◌≡◌, ◌||◌, map, not, cond, option_map, count_by, position};
 ghost use Rattle.std.specs.List.{list_all};
@@ -192,6 +192,3 @@ fn count_with<F: PairedFact>(one: Option<&F>, facts: &[F]) -> usize
 {
     facts.iter().filter(|fact| is_of(one, *fact)).count()
 }
-
-#[cfg(test)]
-mod tests;

@@ -2,8 +2,6 @@
 mod lines;
 mod refusals;
 mod replies;
-#[cfg(test)]
-mod tests;
 mod words;
 
 pub use lines::{bad_line_reply, name_in_use_reply, no_session_reply};

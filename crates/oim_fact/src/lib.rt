@@ -5,8 +5,6 @@
 //! It knows nothing of JSON, of reports as a whole, or of versions.
 #![tactic(auto)]
 
-#[cfg(test)]
-mod class_tests;
 mod classes;
 mod compared_dims;
 mod dims;
@@ -16,8 +14,6 @@ mod names;
 mod pairs;
 mod table;
 mod tally;
-#[cfg(test)]
-mod tests;
 
 pub use classes::{class_of, class_over};
 pub use dims::DimSet;

@@ -16,8 +16,6 @@ mod reading;
 mod report;
 mod report_text;
 mod table;
-#[cfg(test)]
-mod tests;
 mod values;
 
 pub use fact::raw_fact;

@@ -99,9 +99,4 @@ impl Interval {
             high: self.high.min(other.high),
         })
     }
-
-    #[cfg(test)]
-    pub(crate) fn ends(&self) -> (i128, i128) {
-        (self.low, self.high)
-    }
 }

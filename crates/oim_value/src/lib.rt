@@ -6,8 +6,6 @@
 mod accuracy;
 mod decimal;
 mod interval;
-#[cfg(test)]
-mod tests;
 
 pub use accuracy::{Accuracy, Decimals};
 pub use decimal::Decimal;

@@ -1,4 +1,5 @@
-use Rattle.filing_cli.proofs.script.tests.try_script.Given as goal
+-- The counts of each device are shares of the ledger that its blank becomes.
+use Rattle.rows.proofs.scripts.run_lines.Given as goal
 
 abbrev pub ghosts-run_over-L-Ledger : goal.ghosts-run_over-L-Ledger
 ghosts-run_over-L-Ledger a = record { name = a.source_blank.name; parts = a.source_blank.parts }
