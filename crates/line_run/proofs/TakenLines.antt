@@ -37,7 +37,8 @@ pub sent_more : {a b c : SinkState} {w w1 w2 x y : Text} → Sent a b w w1 x →
 sent_more {w = w} {w1} {w2} {x} {y} p q = record {
   written = p.written ++ q.written;
   took = took_more p.took q.took;
-  parts = append_assoc p.written q.written w2 ∙ (ap (λ m. p.written ++ m) q.parts ∙ (sym (append_assoc p.written w1 y) ∙ (ap (λ m. m ++ y) p.parts ∙ append_assoc w x y)));
+  parts = append_assoc p.written q.written w2 ∙ (ap (λ m. p.written ++ m) q.parts
+      ∙ (sym (append_assoc p.written w1 y) ∙ (ap (λ m. m ++ y) p.parts ∙ append_assoc w x y)));
 }
 
 pub part_sent : {a b c : SinkState} {w w1 x : Text} (y : Text) → Sent a b w w1 x → TookPart b c (w1 ++ y) → TookPart a c (w ++ (x ++ y))
@@ -130,7 +131,8 @@ module _ {M : Type 0} (R : M → Text → Text → M → Type 0) where
       → HasAnswered R m n s s1 w w1 lines → HasAnswered R n a s1 s2 w1 w2 more → HasAnswered R m a s s2 w w2 (lines ++ more)
   answered_more {m} {n} {a} {s} {s1} {s2} {w} {w1} {w2} {lines} {more} p q = record {
     texts = p.texts ++ q.texts;
-    answers = subst (λ ls. Answers R m ls (p.texts ++ q.texts) a) (sym (spoken-append lines more)) (Answers-append R m n a (spoken lines) (spoken more) p.texts q.texts p.answers q.answers);
+    answers = subst (λ ls. Answers R m ls (p.texts ++ q.texts) a) (sym (spoken-append lines more))
+        (Answers-append R m n a (spoken lines) (spoken more) p.texts q.texts p.answers q.answers);
     sent = subst (Sent s s2 w w2) (sym (text_of-append p.texts q.texts)) (sent_more p.sent q.sent);
   }
 
@@ -139,45 +141,79 @@ module _ {M : Type 0} (R : M → Text → Text → M → Type 0) where
   failed_more {m} {n} {a} {s} {s1} {s2} {w} {w1} {w2} {w3} {lines} {more} others all p q is = record {
     done = lines ++ q.done;
     later = q.later ++ others;
-    front = append_assoc lines q.done (q.later ++ others) ∙ (ap (λ m. lines ++ m) (sym (append_assoc q.done q.later others) ∙ ap (λ m. m ++ others) q.front) ∙ is);
+    front = append_assoc lines q.done (q.later ++ others)
+        ∙ (ap (λ m. lines ++ m) (sym (append_assoc q.done q.later others) ∙ ap (λ m. m ++ others) q.front) ∙ is);
     texts = p.texts ++ q.texts;
     reached = q.reached;
-    answers = subst (λ ls. Answers R m ls (p.texts ++ q.texts) q.reached) (sym (spoken-append lines q.done)) (Answers-append R m n q.reached (spoken lines) (spoken q.done) p.texts q.texts p.answers q.answers);
+    answers = subst (λ ls. Answers R m ls (p.texts ++ q.texts) q.reached) (sym (spoken-append lines q.done))
+        (Answers-append R m n q.reached (spoken lines) (spoken q.done) p.texts q.texts p.answers q.answers);
     took = subst (λ text. TookPart s s2 (w ++ text)) (sym (text_of-append p.texts q.texts)) (part_sent (text_of q.texts) p.sent q.took);
   }
 
-  pub starved_more : {m n a : M} {s s1 s2 : SinkState} {w w1 w2 : Text} {lines more : List Text} {less next number : ℕ} (others all : List Text) (count first : ℕ)
+  pub starved_more : {m n a : M} {s s1 s2 : SinkState} {w w1 w2 : Text} {lines more : List Text} {less next number : ℕ}
+      (others all : List Text) (count first : ℕ)
       → HasAnswered R m n s s1 w w1 lines → HasStarved R n a s1 s2 w1 w2 more less next number → lines ++ (more ++ others) ≡ all
       → next ≡ first + length lines → length lines + less ≤ count → HasStarved R m a s s2 w w2 all count first number
   starved_more {m} {n} {a} {s} {s1} {s2} {w} {w1} {w2} {lines} {more} others all count first p q is start room =
       let long = length-append lines q.done in record {
         done = lines ++ q.done;
         later = q.later ++ others;
-        front = append_assoc lines q.done (q.later ++ others) ∙ (ap (λ m. lines ++ m) (sym (append_assoc q.done q.later others) ∙ ap (λ m. m ++ others) q.front) ∙ is);
+        front = append_assoc lines q.done (q.later ++ others)
+            ∙ (ap (λ m. lines ++ m) (sym (append_assoc q.done q.later others) ∙ ap (λ m. m ++ others) q.front) ∙ is);
         counted = omega (arith, long, q.counted);
         begun = omega (arith, long, q.begun);
         texts = p.texts ++ q.texts;
         reached = q.reached;
-        answers = subst (λ ls. Answers R m ls (p.texts ++ q.texts) q.reached) (sym (spoken-append lines q.done)) (Answers-append R m n q.reached (spoken lines) (spoken q.done) p.texts q.texts p.answers q.answers);
+        answers = subst (λ ls. Answers R m ls (p.texts ++ q.texts) q.reached) (sym (spoken-append lines q.done))
+            (Answers-append R m n q.reached (spoken lines) (spoken q.done) p.texts q.texts p.answers q.answers);
         sent = subst (Sent s s2 w w2) (sym (text_of-append p.texts q.texts)) (sent_more p.sent q.sent);
       }
 
   -- what waits is written at the end
-  answered_out : {m a : M} {s s1 s2 : SinkState} {w w1 : Text} {lines : List Text} → HasAnswered R m a s s1 w w1 lines → Took s1 s2 w1 0 → HasAnswered R m a s s2 w [] lines
+  answered_out : {m a : M} {s s1 s2 : SinkState} {w w1 : Text} {lines : List Text} → HasAnswered R m a s s1 w w1 lines → Took s1 s2 w1 0
+      → HasAnswered R m a s s2 w [] lines
   answered_out p q = record { texts = p.texts; answers = p.answers; sent = sent_out p.sent q }
 
-  answered_cut : {m a : M} {s s1 s2 : SinkState} {w w1 w2 : Text} {lines : List Text} → HasAnswered R m a s s1 w w1 lines → TookPart s1 s2 w1 → HasFailed R m a s s2 w w2 lines
-  answered_cut {a = a} {lines = lines} p q = record { done = lines; later = []; front = append-nil lines; texts = p.texts; reached = a; answers = p.answers; took = part_out p.sent q }
+  answered_cut : {m a : M} {s s1 s2 : SinkState} {w w1 w2 : Text} {lines : List Text} → HasAnswered R m a s s1 w w1 lines
+      → TookPart s1 s2 w1 → HasFailed R m a s s2 w w2 lines
+  answered_cut {a = a} {lines = lines} p q = record {
+    done = lines;
+    later = [];
+    front = append-nil lines;
+    texts = p.texts;
+    reached = a;
+    answers = p.answers;
+    took = part_out p.sent q;
+  }
 
   starved_out : {m a : M} {s s1 s2 : SinkState} {w w1 : Text} {lines : List Text} {count first number : ℕ}
       → HasStarved R m a s s1 w w1 lines count first number → Took s1 s2 w1 0 → HasStarved R m a s s2 w [] lines count first number
-  starved_out p q = record { done = p.done; later = p.later; front = p.front; counted = p.counted; begun = p.begun; texts = p.texts; reached = p.reached; answers = p.answers; sent = sent_out p.sent q }
+  starved_out p q = record {
+    done = p.done;
+    later = p.later;
+    front = p.front;
+    counted = p.counted;
+    begun = p.begun;
+    texts = p.texts;
+    reached = p.reached;
+    answers = p.answers;
+    sent = sent_out p.sent q;
+  }
 
   starved_cut : {m a : M} {s s1 s2 : SinkState} {w w1 w2 : Text} {lines : List Text} {count first number : ℕ}
       → HasStarved R m a s s1 w w1 lines count first number → TookPart s1 s2 w1 → HasFailed R m a s s2 w w2 lines
-  starved_cut p q = record { done = p.done; later = p.later; front = p.front; texts = p.texts; reached = p.reached; answers = p.answers; took = part_out p.sent q }
+  starved_cut p q = record {
+    done = p.done;
+    later = p.later;
+    front = p.front;
+    texts = p.texts;
+    reached = p.reached;
+    answers = p.answers;
+    took = part_out p.sent q;
+  }
 
-  failed_kept : {m a : M} {s s1 s2 : SinkState} {w w1 w2 : Text} {lines : List Text} → HasFailed R m a s s1 w w1 lines → s2 ≡ s1 → HasFailed R m a s s2 w w2 lines
+  failed_kept : {m a : M} {s s1 s2 : SinkState} {w w1 w2 : Text} {lines : List Text} → HasFailed R m a s s1 w w1 lines → s2 ≡ s1
+      → HasFailed R m a s s2 w w2 lines
   failed_kept {s = s} {w = w} p is = record {
     done = p.done;
     later = p.later;
@@ -212,26 +248,37 @@ module _ {M : Type 0} (R : M → Text → Text → M → Type 0) where
     pub answered : HasAnswered R m m' s s' w w' taken
 
   pub taken_none : (m : M) (s : SinkState) (w begun : Text) (lines : ℕ) (piece : Text) → IsTaken m m s s w w begun begun lines lines piece piece
-  taken_none m s w begun lines piece = record { taken = []; whole = refl; after = refl; counted = omega arith; room = omega arith; answered = answered_none m s w }
+  taken_none m s w begun lines piece = record {
+    taken = [];
+    whole = refl;
+    after = refl;
+    counted = omega arith;
+    room = omega arith;
+    answered = answered_none m s w;
+  }
 
   -- the piece, once the next line is cut off
   next_whole : {m m' : M} {s s' : SinkState} {w w' begun begun' : Text} {lines lines' : ℕ} {piece rest : Text} (line others : Text)
       → (p : IsTaken m m' s s' w w' begun begun' lines lines' piece rest) → IsCut rest line others
       → p.taken ++ (((begun' ++ line) ∷ []) ++ whole_from [] others) ≡ whole_from begun piece
   next_whole {begun' = begun'} {rest = rest} line others p cut =
-      let first : whole_from begun' rest ≡ (begun' ++ before_first is_line_feed rest) ∷ whole_from [] (after_first is_line_feed rest) = whole_at begun' rest cut.within in
+      let first : whole_from begun' rest ≡ (begun' ++ before_first is_line_feed rest) ∷ whole_from [] (after_first is_line_feed rest) =
+      whole_at begun' rest cut.within in
       let same : (begun' ++ line) ∷ whole_from [] others ≡ whole_from begun' rest =
-      ap (λ l. (begun' ++ l) ∷ whole_from [] others) cut.line_is ∙ (ap (λ o. (begun' ++ before_first is_line_feed rest) ∷ whole_from [] o) cut.others_are ∙ sym first) in
+      ap (λ l. (begun' ++ l) ∷ whole_from [] others) cut.line_is
+      ∙ (ap (λ o. (begun' ++ before_first is_line_feed rest) ∷ whole_from [] o) cut.others_are ∙ sym first) in
       ap (λ ls. p.taken ++ ls) same ∙ sym p.whole
 
-  pub taken_more : {m m' a : M} {s s' s2 : SinkState} {w w' w2 begun begun' : Text} {lines lines' : ℕ} {piece rest line others : Text} (begun2 : Text) (lines2 : ℕ)
+  pub taken_more : {m m' a : M} {s s' s2 : SinkState} {w w' w2 begun begun' : Text} {lines lines' : ℕ} {piece rest line others : Text}
+      (begun2 : Text) (lines2 : ℕ)
       → IsTaken m m' s s' w w' begun begun' lines lines' piece rest → IsCut rest line others
       → HasAnswered R m' a s' s2 w' w2 ((begun' ++ line) ∷ []) → begun2 ≡ [] → lines2 ≡ lines' + 1
       → IsTaken m a s s2 w w2 begun begun2 lines lines2 piece others
   taken_more {begun' = begun'} {rest = rest} {line = line} {others = others} begun2 lines2 p cut q none more =
       let one : List Text = (begun' ++ line) ∷ [] in
       let long : length (p.taken ++ one) ≡ length p.taken + 1 = length-append p.taken one in
-      let short : length others ≡ length rest - (position_or_len is_line_feed rest + 1) = ap length cut.others_are ∙ length-drop (position_or_len is_line_feed rest + 1) rest in
+      let short : length others ≡ length rest - (position_or_len is_line_feed rest + 1) =
+      ap length cut.others_are ∙ length-drop (position_or_len is_line_feed rest + 1) rest in
       let there : position_or_len is_line_feed rest < length rest = cut.within in
       record {
         taken = p.taken ++ one;
@@ -243,14 +290,16 @@ module _ {M : Type 0} (R : M → Text → Text → M → Type 0) where
       }
 
   -- memory or a write is refused at the next line
-  pub taken_err : {m m' : M} {s s' : SinkState} {w w' begun begun' : Text} {lines lines' : ℕ} {piece rest line others : Text} (a : M) (s2 : SinkState) (w2 : Text) (fault : ScriptFault) (result : Result (Unit {0}) ScriptFault)
+  pub taken_err : {m m' : M} {s s' : SinkState} {w w' begun begun' : Text} {lines lines' : ℕ} {piece rest line others : Text} (a : M)
+      (s2 : SinkState) (w2 : Text) (fault : ScriptFault) (result : Result (Unit {0}) ScriptFault)
       → IsTaken m m' s s' w w' begun begun' lines lines' piece rest → IsCut rest line others → result ≡ Err fault
       → Takes {X = Unit {0}} R (Err fault) m' a s' s2 w' w2 ((begun' ++ line) ∷ []) 1 (lines' + 1)
       → Takes R result m a s s2 w w2 (whole_from begun piece) (count_from begun piece) (lines + 1)
   taken_err {m} {s = s} {w = w} {begun = begun} {lines = lines} {piece = piece} {line = line} {others = others} a s2 w2 Write result p cut is q =
       subst (λ r. Takes R r m a s s2 w w2 (whole_from begun piece) (count_from begun piece) (lines + 1)) (sym is)
       (failed_more (whole_from [] others) (whole_from begun piece) p.answered q (next_whole line others p cut))
-  taken_err {m} {s = s} {w = w} {begun = begun} {begun' = begun'} {lines = lines} {piece = piece} {line = line} {others = others} a s2 w2 (NoMemory number) result p cut is q =
+  taken_err {m} {s = s} {w = w} {begun = begun} {begun' = begun'} {lines = lines} {piece = piece} {line = line} {others = others} a s2 w2
+      (NoMemory number) result p cut is q =
       let one : List Text = (begun' ++ line) ∷ [] in
       let more : List Text = whole_from [] others in
       let whole : p.taken ++ (one ++ more) ≡ whole_from begun piece = next_whole line others p cut in
@@ -258,12 +307,14 @@ module _ {M : Type 0} (R : M → Text → Text → M → Type 0) where
       let longer : length (one ++ more) ≡ length one + length more = length-append one more in
       let same : length (p.taken ++ (one ++ more)) ≡ length (whole_from begun piece) = ap length whole in
       subst (λ r. Takes R r m a s s2 w w2 (whole_from begun piece) (count_from begun piece) (lines + 1)) (sym is)
-      (starved_more more (whole_from begun piece) (count_from begun piece) (lines + 1) p.answered q whole (omega (arith, p.counted)) (omega (arith, long, longer, same)))
+      (starved_more more (whole_from begun piece) (count_from begun piece) (lines + 1) p.answered q whole (omega (arith, p.counted))
+      (omega (arith, long, longer, same)))
   taken_err a s2 w2 Read result p cut is q = absurd q
   taken_err a s2 w2 Endless result p cut is q = absurd q
 
   starved_end : {m a : M} {s s' : SinkState} {w w' : Text} {lines whole : List Text} {count first number : ℕ}
-      → HasAnswered R m a s s' w w' lines → whole ≡ lines → number ≡ first + length lines → length lines < count → HasStarved R m a s s' w w' whole count first number
+      → HasAnswered R m a s s' w w' lines → whole ≡ lines → number ≡ first + length lines → length lines < count
+      → HasStarved R m a s s' w w' whole count first number
   starved_end {a = a} {lines = lines} p is counted begun = record {
     done = lines;
     later = [];
@@ -277,14 +328,17 @@ module _ {M : Type 0} (R : M → Text → Text → M → Type 0) where
   }
 
   -- the rest of the piece has no line feed
-  pub taken_end : {m a : M} {s s' : SinkState} {w w' begun begun' : Text} {lines lines' : ℕ} {piece rest : Text} (result : Result (Unit {0}) ScriptFault) (w2 : Text)
+  pub taken_end : {m a : M} {s s' : SinkState} {w w' begun begun' : Text} {lines lines' : ℕ} {piece rest : Text}
+      (result : Result (Unit {0}) ScriptFault) (w2 : Text)
       → IsTaken m a s s' w w' begun begun' lines lines' piece rest → position_or_len is_line_feed rest ≡ length rest → w2 ≡ w'
       → IfErr result (λ fault. fault ≡ NoMemory (lines' + 1)) → OnErr result (0 < length rest)
       → Takes R result m a s s' w w2 (whole_from begun piece) (count_from begun piece) (lines + 1)
   taken_end {m} {a} {s} {s'} {w} {begun = begun} {begun' = begun'} {piece = piece} {rest = rest} (Ok x) w2 p none same fault some =
       let whole : whole_from begun piece ≡ p.taken ++ [] = p.whole ∙ ap (λ ls. p.taken ++ ls) (whole_none begun' rest none) in
-      subst (λ w3. HasAnswered R m a s s' w w3 (whole_from begun piece)) (sym same) (subst (HasAnswered R m a s s' w _) (sym whole) (answered_more p.answered (answered_none a s' _)))
-  taken_end {m} {a} {s} {s'} {w} {begun = begun} {begun' = begun'} {lines = lines} {lines' = lines'} {piece = piece} {rest = rest} (Err e) w2 p none same fault some =
+      subst (λ w3. HasAnswered R m a s s' w w3 (whole_from begun piece)) (sym same)
+      (subst (HasAnswered R m a s s' w _) (sym whole) (answered_more p.answered (answered_none a s' _)))
+  taken_end {m} {a} {s} {s'} {w} {begun = begun} {begun' = begun'} {lines = lines} {lines' = lines'} {piece = piece} {rest = rest}
+      (Err e) w2 p none same fault some =
       let tail : rest_from begun piece ≡ begun' ++ rest = p.after ∙ rest_none begun' rest none in
       let whole : whole_from begun piece ≡ p.taken = p.whole ∙ (ap (λ ls. p.taken ++ ls) (whole_none begun' rest none) ∙ append-nil p.taken) in
       let long : length (begun' ++ rest) ≡ length begun' + length rest = length-append begun' rest in
@@ -300,7 +354,8 @@ module _ {M : Type 0} (R : M → Text → Text → M → Type 0) where
   taken_whole {begun' = begun'} {rest = rest} p none = p.whole ∙ (ap (λ ls. p.taken ++ ls) (whole_none begun' rest none) ∙ append-nil p.taken)
 
   pub taken_count : {m a : M} {s s' : SinkState} {w w' begun begun' : Text} {lines lines' : ℕ} {piece rest : Text}
-      → IsTaken m a s s' w w' begun begun' lines lines' piece rest → position_or_len is_line_feed rest ≡ length rest → lines' ≡ lines + length (whole_from begun piece)
+      → IsTaken m a s s' w w' begun begun' lines lines' piece rest → position_or_len is_line_feed rest ≡ length rest
+      → lines' ≡ lines + length (whole_from begun piece)
   taken_count {begun = begun} {piece = piece} p none =
       let same_length : length (whole_from begun piece) ≡ length p.taken = ap length (taken_whole p none) in omega (arith, p.counted)
 
@@ -309,14 +364,18 @@ module _ {M : Type 0} (R : M → Text → Text → M → Type 0) where
   taken_rest {begun' = begun'} {rest = rest} p none = sym (p.after ∙ rest_none begun' rest none)
 
   -- nothing follows the line begun
-  finished_empty : (m : M) (s : SinkState) (w begun : Text) (first : ℕ) → length begun ≡ 0 → Takes {X = Unit {0}} R (Ok tt) m m s s w w (line_begun begun) (length (line_begun begun)) first
+  finished_empty : (m : M) (s : SinkState) (w begun : Text) (first : ℕ) → length begun ≡ 0
+      → Takes {X = Unit {0}} R (Ok tt) m m s s w w (line_begun begun) (length (line_begun begun)) first
   finished_empty m s w [] first none = answered_none m s w
   finished_empty m s w (byte ∷ begun) first none = absurd (omega arith)
 
-  pub finished_out : (m : M) (s s2 : SinkState) (w begun : Text) (first : ℕ) (result : Result (Unit {0}) ScriptFault) → length begun ≡ 0 → WritesOut (Ok tt) result s s2 w
+  pub finished_out : (m : M) (s s2 : SinkState) (w begun : Text) (first : ℕ) (result : Result (Unit {0}) ScriptFault) → length begun ≡ 0
+      → WritesOut (Ok tt) result s s2 w
       → Takes R result m m s s2 w [] (line_begun begun) (length (line_begun begun)) first
-  finished_out m s s2 w begun first result none p = takes_out m m s s s2 w w (line_begun begun) (length (line_begun begun)) first (Ok tt) result (finished_empty m s w begun first none) p
+  finished_out m s s2 w begun first result none p =
+      takes_out m m s s s2 w w (line_begun begun) (length (line_begun begun)) first (Ok tt) result (finished_empty m s w begun first none) p
 
   pub finished_some : {X : Type 0} (m a : M) (s s' : SinkState) (w w' begun : Text) (first : ℕ) (result : Result X ScriptFault) → 0 < length begun
       → Takes R result m a s s' w w' ((begun ++ []) ∷ []) 1 first → Takes R result m a s s' w w' (line_begun begun) (length (line_begun begun)) first
-  finished_some m a s s' w w' begun first result some p = subst (λ lines. Takes R result m a s s' w w' lines (length lines) first) (sym (line_begun_is begun some)) p
+  finished_some m a s s' w w' begun first result some p =
+      subst (λ lines. Takes R result m a s s' w w' lines (length lines) first) (sym (line_begun_is begun some)) p

@@ -13,7 +13,8 @@ use Rattle.line_run.specs.declared.fault.ScriptFault.TheVariants.{Read, Write, E
 -- the lines that a line feed ends in a piece, where the first of them was begun before it
 unfoldable pub whole_from : Text → Text → List Text
 whole_from begun [] = []
-whole_from begun (byte ∷ bytes) = if is_line_feed byte then begun ∷ whole_from [] bytes else whole_from (begun ++ byte ∷ []) bytes
+whole_from begun (byte ∷ bytes) =
+    if is_line_feed byte then begun ∷ whole_from [] bytes else whole_from (begun ++ byte ∷ []) bytes
 
 -- the line begun after the piece
 unfoldable pub rest_from : Text → Text → Text
@@ -67,14 +68,21 @@ module _ {M : Type 0} (replies : M → Text → Text → M → Type 0) (before a
     pub sent : Sent sink sink' waiting waiting' (text_of texts)
 
 -- what holds of each result of taking some lines
-abbrev pub Takes : {X M : Type 0} → (M → Text → Text → M → Type 0) → Result X ScriptFault → M → M → SinkState → SinkState → Text → Text → List Text → ℕ → ℕ → Type 0
-Takes replies (Ok x) before after sink sink' waiting waiting' lines count first = HasAnswered replies before after sink sink' waiting waiting' lines
-Takes replies (Err Write) before after sink sink' waiting waiting' lines count first = HasFailed replies before after sink sink' waiting waiting' lines
-Takes replies (Err (NoMemory number)) before after sink sink' waiting waiting' lines count first = HasStarved replies before after sink sink' waiting waiting' lines count first number
+abbrev pub Takes : {X M : Type 0} → (M → Text → Text → M → Type 0) → Result X ScriptFault → M → M
+    → SinkState → SinkState → Text → Text → List Text → ℕ → ℕ → Type 0
+Takes replies (Ok x) before after sink sink' waiting waiting' lines count first =
+    HasAnswered replies before after sink sink' waiting waiting' lines
+Takes replies (Err Write) before after sink sink' waiting waiting' lines count first =
+    HasFailed replies before after sink sink' waiting waiting' lines
+Takes replies (Err (NoMemory number)) before after sink sink' waiting waiting' lines count first =
+    HasStarved replies before after sink sink' waiting waiting' lines count first number
 Takes replies (Err Read) before after sink sink' waiting waiting' lines count first = ⊥
 Takes replies (Err Endless) before after sink sink' waiting waiting' lines count first = ⊥
 
 -- the replies that wait are written after an outcome, and a write that fails then takes its place; after a failed write nothing more is written
-abbrev pub WritesOut : {X : Type 0} → Result X ScriptFault → Result X ScriptFault → SinkState → SinkState → Text → Type 0
+abbrev pub WritesOut : {X : Type 0} → Result X ScriptFault → Result X ScriptFault → SinkState
+    → SinkState → Text → Type 0
 WritesOut (Err Write) result sink sink' waiting = (result ≡ Err Write) × (sink' ≡ sink)
-WritesOut outcome result sink sink' waiting = ((result ≡ outcome) × Took sink sink' waiting 0) ⊎ ((result ≡ Err Write) × TookPart sink sink' waiting)
+WritesOut outcome result sink sink' waiting =
+    ((result ≡ outcome) × Took sink sink' waiting 0)
+    ⊎ ((result ≡ Err Write) × TookPart sink sink' waiting)

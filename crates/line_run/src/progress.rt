@@ -1,3 +1,5 @@
+//! `Progress`: a run between two reads, and how a piece of the source takes it on.
+
 ghost use Rattle.std.specs.Prelude.{◌≡◌, ◌+◌, ◌^◌, ◌<◌, [], ◌∷◌, ◌++◌, length, OnOk, OnErr, IfErr};
 ghost use Rattle.line_run.specs.Lines.{line_begun};
 ghost use Rattle.line_run.specs.declared.fault.ScriptFault.TheVariants.{NoMemory};
@@ -111,9 +113,11 @@ impl Progress {
         requires { self.old.lines + length piece.now + 1 < 2 ^ 128 }
         ensures takes { Takes M.replies result machine.old machine.new (W.state sink.old) (W.state sink.new)
             self.old.outbox.waiting.items self.new.outbox.waiting.items
-            (whole_from self.old.begun.items piece.now) (count_from self.old.begun.items piece.now) (self.old.lines + 1) }
+            (whole_from self.old.begun.items piece.now) (count_from self.old.begun.items piece.now)
+            (self.old.lines + 1) }
         ensures begun { OnOk result (self.new.begun.items ≡ rest_from self.old.begun.items piece.now) }
-        ensures lines { OnOk result (self.new.lines ≡ self.old.lines + length (whole_from self.old.begun.items piece.now)) }
+        ensures lines { OnOk result (self.new.lines
+            ≡ self.old.lines + length (whole_from self.old.begun.items piece.now)) }
     {
         let mut rest = piece;
         while let Some((line, others)) = split_line(rest) {
@@ -134,10 +138,12 @@ impl Progress {
         requires { self.old.lines + length piece.now + 1 < 2 ^ 128 }
         ensures takes { Takes M.replies result machine.old machine.new (W.state sink.old) (W.state sink.new)
             self.old.outbox.waiting.items []
-            (whole_from self.old.begun.items piece.now) (count_from self.old.begun.items piece.now) (self.old.lines + 1) }
+            (whole_from self.old.begun.items piece.now) (count_from self.old.begun.items piece.now)
+            (self.old.lines + 1) }
         ensures outbox { OnOk result (self.new.outbox.waiting.items ≡ []) }
         ensures begun { OnOk result (self.new.begun.items ≡ rest_from self.old.begun.items piece.now) }
-        ensures lines { OnOk result (self.new.lines ≡ self.old.lines + length (whole_from self.old.begun.items piece.now)) }
+        ensures lines { OnOk result (self.new.lines
+            ≡ self.old.lines + length (whole_from self.old.begun.items piece.now)) }
     {
         let taken = self.take_lines(alloc, machine, sink, piece);
         self.outbox.write_out(sink, taken)
@@ -152,7 +158,8 @@ impl Progress {
     ) -> Result<(), ScriptFault>
         requires { self.old.lines + 1 < 2 ^ 128 }
         ensures { Takes M.replies result machine.old machine.new (W.state sink.old) (W.state sink.new)
-            self.old.outbox.waiting.items [] (line_begun self.old.begun.items) (length (line_begun self.old.begun.items)) (self.old.lines + 1) }
+            self.old.outbox.waiting.items []
+            (line_begun self.old.begun.items) (length (line_begun self.old.begun.items)) (self.old.lines + 1) }
     {
         if self.begun.is_empty() {
             return self.outbox.write_out(sink, Ok(()));

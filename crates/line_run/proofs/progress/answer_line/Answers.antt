@@ -11,8 +11,10 @@ returns-in_default g c = starved_first g.M.Machine.replies _ _ _ _ _ 1 c.args.nu
 
 pub returns-in_default-send : goal.returns-in_default-send
 returns-in_default-send g c =
-    failed_one g.M.Machine.replies _ _ _ _ _ _ c.args.line.now _ (sym c.is_blank.ensures ∙ c.if-is_blank.false) c.in-Ok.ensures (rw c.as_bytes.ensures.value at c.in_default-send.ensures)
+    failed_one g.M.Machine.replies _ _ _ _ _ _ c.args.line.now _ (sym c.is_blank.ensures ∙ c.if-is_blank.false) c.in-Ok.ensures
+    (rw c.as_bytes.ensures.value at c.in_default-send.ensures)
 
 pub returns : goal.returns
 returns g c =
-    answered_one g.M.Machine.replies _ _ _ _ _ _ c.args.line.now _ (sym c.is_blank.ensures ∙ c.if-is_blank.false) c.in-Ok.ensures (rw c.as_bytes.ensures.value at c.in-Ok-send.ensures)
+    answered_one g.M.Machine.replies _ _ _ _ _ _ c.args.line.now _ (sym c.is_blank.ensures ∙ c.if-is_blank.false) c.in-Ok.ensures
+    (rw c.as_bytes.ensures.value at c.in-Ok-send.ensures)
