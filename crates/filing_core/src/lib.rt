@@ -1,6 +1,6 @@
 //! The core of the repository: sessions step by step, their commits, and the history of every step with its reply.
 //!
-//! `step` is the vocabulary: steps, replies, entries. `engine` is `Core`, which takes a step, and `fault` says why it did not. `plain` is a version, with what it asks of a `report`; `cells` finds the least cell of a report that is not allowed, and `disallowed` makes the refusal of it. `session` is the open session, `staged` its facts by report, `fact_map` those of one report, and `outcome` what it is told.
+//! Steps, replies and entries are those of `filing_step`. `engine` is `Core`, which takes a step, and `fault` says why it did not. `plain` is a version, with what it asks of a `report`; `cells` finds the least cell of a report that is not allowed, and `disallowed` makes the refusal of it. `session` is the open session, `staged` its facts by report, `fact_map` those of one report, and `outcome` what it is told.
 //!
 //! It knows nothing of JSON, of devices, of locks or of threads.
 #![tactic(auto)]
