@@ -26,11 +26,13 @@ find-remove_entry {V} {X} f q r (e ∷ es) h =
     elim (text_eq q (string_bytes e.0)) as (λ b. text_eq q (string_bytes e.0) ≡ b
     → find text_cmp r (keyed f (cond b es (e ∷ left))) ≡ cond (not (text_eq q r)) (find text_cmp r (keyed f (e ∷ es))) None) [
       | true ↦ λ same. elim (text_eq q r) as (λ b. text_eq q r ≡ b → find text_cmp r (keyed f es) ≡ cond (not b) (find text_cmp r (keyed f (e ∷ es))) None) [
-        | true ↦ λ here. subst (λ x. find text_cmp x (keyed f es) ≡ None) (sym (text_same q (string_bytes e.0) same) ∙ text_same q r here) (below_is_not_found (string_bytes e.0) (keyed f es) (first_holds _ _ h))
-        | false ↦ λ apart. elim (text_eq r (string_bytes e.0)) as (λ b. text_eq r (string_bytes e.0) ≡ b → find text_cmp r (keyed f es) ≡ cond b (Some (f e.1)) (find text_cmp r (keyed f es))) [
-          | true ↦ λ there. absurd (true≢false (sym (ap (λ x. text_eq q x) (text_same r (string_bytes e.0) there) ∙ same) ∙ apart))
-          | false ↦ λ _. refl
-        ] refl
+        | true ↦ λ here. subst (λ x. find text_cmp x (keyed f es) ≡ None) (sym (text_same q (string_bytes e.0) same) ∙ text_same q r here)
+            (below_is_not_found (string_bytes e.0) (keyed f es) (first_holds _ _ h))
+        | false ↦ λ apart. elim (text_eq r (string_bytes e.0)) as (λ b. text_eq r (string_bytes e.0) ≡ b
+            → find text_cmp r (keyed f es) ≡ cond b (Some (f e.1)) (find text_cmp r (keyed f es))) [
+              | true ↦ λ there. absurd (true≢false (sym (ap (λ x. text_eq q x) (text_same r (string_bytes e.0) there) ∙ same) ∙ apart))
+              | false ↦ λ _. refl
+            ] refl
       ] refl
       | false ↦ λ other. elim (text_eq r (string_bytes e.0)) as (λ b. text_eq r (string_bytes e.0) ≡ b
           → cond b (Some (f e.1)) (find text_cmp r (keyed f left)) ≡ cond (not (text_eq q r)) (cond b (Some (f e.1)) (find text_cmp r (keyed f es))) None) [
@@ -40,7 +42,8 @@ find-remove_entry {V} {X} f q r (e ∷ es) h =
     ] refl
 
 get-remove : {X : Type 0} (m : TextMap X) (q r : Text) → get (remove m q) r ≡ cond (not (text_eq q r)) (get m r) None
-get-remove m q r = find-where_key text_cmp (λ k. not (text_eq q k)) r (λ x tied. ap (λ y. not (text_eq q y)) (sym (slice_cmp-IsAntisymmetric nat_cmp-IsAntisymmetric r x tied))) m.entries
+get-remove m q r = find-where_key text_cmp (λ k. not (text_eq q k)) r
+    (λ x tied. ap (λ y. not (text_eq q y)) (sym (slice_cmp-IsAntisymmetric nat_cmp-IsAntisymmetric r x tied))) m.entries
 
 -- the keys of the tree rise
 pub keyed_map_remove_entry : {V X : Type 0} (f : V → X) (es : List (String Global × V)) (q : Text) → IsStrictlySortedBy string_cmp (keys_of es)

@@ -36,12 +36,15 @@ ended d place line h = either d (is_some (at place d)) None (Some line) tt h
 of_load : (d : Data) → HasReport d (load_of d)
 of_load d =
     then d (text_at 1 d) _ (λ name.
-    elim (at 2 d) as (λ o. at 2 d ≡ o → HasReport d ((o >>= λ part. cond (is_some (as_object part) || is_some (as_str part)) (Some part) None) >>= λ report. ended_at 3 d (Load name report))) [
+    elim (at 2 d) as (λ o. at 2 d ≡ o → HasReport d
+    ((o >>= λ part. cond (is_some (as_object part) || is_some (as_str part)) (Some part) None) >>= λ report. ended_at 3 d
+    (Load name report))) [
       | None ↦ λ _. tt
-      | Some part ↦ λ there. elim (is_some (as_object part) || is_some (as_str part)) as (λ b. HasReport d (cond b (Some part) None >>= λ report. ended_at 3 d (Load name report))) [
-        | true ↦ ended d 3 (Load name part) there
-        | false ↦ tt
-      ]
+      | Some part ↦ λ there. elim (is_some (as_object part) || is_some (as_str part)) as
+          (λ b. HasReport d (cond b (Some part) None >>= λ report. ended_at 3 d (Load name report))) [
+            | true ↦ ended d 3 (Load name part) there
+            | false ↦ tt
+          ]
     ] refl)
 
 of_open : (d : Data) → HasReport d (open_of d)
@@ -51,7 +54,8 @@ of_get : (d : Data) → HasReport d (get_of d)
 of_get d = then d (text_at 1 d) _ (λ session. then d (text_at 2 d) _ (λ report. then d (text_at 3 d) _ (λ id. ended d 4 (Get session report id) tt)))
 
 of_add : (d : Data) → HasReport d (add_of d)
-of_add d = then d (text_at 1 d) _ (λ session. then d (text_at 2 d) _ (λ report. then d (text_at 3 d) _ (λ id. then d (object_at 4 d) _ (λ fact. ended d 5 (Add session report id fact) tt))))
+of_add d = then d (text_at 1 d) _ (λ session. then d (text_at 2 d) _
+    (λ report. then d (text_at 3 d) _ (λ id. then d (object_at 4 d) _ (λ fact. ended d 5 (Add session report id fact) tt))))
 
 of_commit : (d : Data) → HasReport d (commit_of d)
 of_commit d = then d (text_at 1 d) _ (λ session. ended d 2 (Commit session) tt)

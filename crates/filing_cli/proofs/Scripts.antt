@@ -1,5 +1,5 @@
 -- A run over a script, in terms of the script's output.
-use Rattle.std.proofs.Common.{◌≡◌, ◌∙◌, ◌^◌, ap, subst}
+use Rattle.std.proofs.Common.{◌≡◌, ◌∙◌, ap, subst}
 use Rattle.std.specs.declared.result.Result.TheVariants.{Err}
 use Rattle.filing_model.specs.Facts.{Table}
 use Rattle.filing_model.specs.History.{History}
@@ -7,17 +7,19 @@ use Rattle.line_run.specs.Devices.{SourceState, SinkState, Took}
 use Rattle.line_run.specs.Lines.{lines_of, spoken, text_of}
 use Rattle.line_run.specs.Run.{IsAnswered, Runs, replies_of, state_after}
 use Rattle.filing_text.specs.Script.{State, start, line_answer, script_output, script_history}
-use Rattle.filing_cli.specs.ScriptRun.{IsReply, IsScriptEnded, IsScriptStopped}
+use Rattle.filing_cli.specs.ScriptRun.{IsReply, most_reads, IsScriptEnded, IsScriptStopped}
 use Rattle.line_run.specs.declared.fault.ScriptFault.{ScriptFault}
 use Rattle.line_run.specs.declared.fault.ScriptFault.TheVariants.{NoMemory}
 use Rattle.line_run.proofs.AnsweringMachines.{answers_of_function}
 use Rattle.line_run.proofs.RunByReads.{starved_at_once}
 
 pub script_ended : (table : Table) (before after : State) (source source' : SourceState) (sink sink' : SinkState) (history : History)
-    → IsAnswered IsReply before after source source' sink sink' → before ≡ start table → history ≡ after.history → IsScriptEnded table source source' sink sink' history
+    → IsAnswered IsReply before after source source' sink sink' → before ≡ start table → history ≡ after.history
+    → IsScriptEnded table source source' sink sink' history
 unfolding script_output script_history
 script_ended table before after source source' sink sink' history p begun is =
-    let told = answers_of_function IsReply (λ (s : State). s) line_answer (λ m n line text h. h) before after (spoken (lines_of p.given)) p.texts p.answers in record {
+    let told = answers_of_function IsReply (λ (s : State). s) line_answer (λ m n line text h. h) before after
+    (spoken (lines_of p.given)) p.texts p.answers in record {
       given = p.given;
       gave = p.gave;
       at_end = p.at_end;
@@ -26,10 +28,11 @@ script_ended table before after source source' sink sink' history p begun is =
     }
 
 pub script_stopped : (table : Table) (before after : State) (source source' : SourceState) (sink sink' : SinkState) (fault : ScriptFault)
-    → Runs {X = Unit {0}} IsReply (2 ^ 32) (Err fault) before after source source' sink sink' → before ≡ start table → IsScriptStopped table source source' sink sink' fault
+    → Runs {X = Unit {0}} IsReply most_reads (Err fault) before after source source' sink sink' → before ≡ start table
+    → IsScriptStopped table source source' sink sink' fault
 script_stopped table before after source source' sink sink' fault p begun = record {
   after = after;
-  runs = subst (λ s. Runs {X = Unit {0}} IsReply (2 ^ 32) (Err fault) s after source source' sink sink') begun p;
+  runs = subst (λ s. Runs {X = Unit {0}} IsReply most_reads (Err fault) s after source source' sink sink') begun p;
 }
 
 pub stopped_at_once : (table : Table) (source : SourceState) (sink : SinkState) → IsScriptStopped table source source sink sink (NoMemory 1)

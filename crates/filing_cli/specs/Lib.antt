@@ -1,1 +1,2 @@
+-- What a run over a script leaves.
 pub mod ScriptRun

@@ -15,13 +15,18 @@ use Rattle.line_run.specs.declared.fault.ScriptFault.{ScriptFault}
 abbrev pub IsReply : State → Text → Text → State → Type 0
 IsReply before line reply after = line_answer before line ≡ (reply, after)
 
+-- so many reads a run over a script makes at most
+abbrev pub most_reads : ℕ
+most_reads = 2 ^ 32
+
 -- the session that the newest entry is of
 abbrev pub newest_session : History → Option ℕ
 newest_session [] = None
 newest_session (e ∷ older) = e.session
 
 -- the source was read to its end, the output of the script that it gave is written and nothing else, and the history is the script's
-pub record IsScriptEnded (table : Table) (source source' : SourceState) (sink sink' : SinkState) (history : History) : Type 0 where
+pub record IsScriptEnded (table : Table) (source source' : SourceState) (sink sink' : SinkState)
+    (history : History) : Type 0 where
   pub given : Text
   pub gave : Gave source source' given 1 0
   pub at_end : IsAtEnd source'.rest
@@ -29,9 +34,10 @@ pub record IsScriptEnded (table : Table) (source source' : SourceState) (sink si
   pub history_is : history ≡ script_history table given
 
 -- the run ended before the end of the source, and left what any run leaves after this fault
-pub record IsScriptStopped (table : Table) (source source' : SourceState) (sink sink' : SinkState) (fault : ScriptFault) : Type 0 where
+pub record IsScriptStopped (table : Table) (source source' : SourceState) (sink sink' : SinkState)
+    (fault : ScriptFault) : Type 0 where
   pub after : State
-  pub runs : Runs {X = Unit {0}} IsReply (2 ^ 32) (Err fault) (start table) after source source' sink sink'
+  pub runs : Runs {X = Unit {0}} IsReply most_reads (Err fault) (start table) after source source' sink sink'
 
 abbrev pub ScriptRuns : Table → Result History ScriptFault → SourceState → SourceState → SinkState → SinkState → Type 0
 ScriptRuns table (Ok history) source source' sink sink' = IsScriptEnded table source source' sink sink' history

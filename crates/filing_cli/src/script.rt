@@ -1,6 +1,8 @@
-ghost use Rattle.std.specs.Prelude.{◌+◌, ◌^◌, ◌≤◌};
+//! A run over a script, from its source to its sink.
+
+ghost use Rattle.std.specs.Prelude.{◌+◌, ◌≤◌};
 ghost use Rattle.std.specs.Arc.{arc_value};
-ghost use Rattle.filing_cli.specs.ScriptRun.{ScriptRuns};
+ghost use Rattle.filing_cli.specs.ScriptRun.{most_reads, ScriptRuns};
 
 use crate::script_machine::ScriptMachine;
 use filing_core::Core;
@@ -19,8 +21,9 @@ pub fn run_script<R: Source, W: Sink>(
     output: &mut W,
     table: &Arc<NumericTable>,
 ) -> Result<Core, ScriptFault>
-    ensures script { ScriptRuns (arc_value table.now) result (R.state input.old) (R.state input.new) (W.state output.old) (W.state output.new) }
-    ensures bounded { (R.state input.new).reads ≤ (R.state input.old).reads + 2 ^ 32 }
+    ensures script { ScriptRuns (arc_value table.now) result (R.state input.old) (R.state input.new)
+        (W.state output.old) (W.state output.new) }
+    ensures bounded { (R.state input.new).reads ≤ (R.state input.old).reads + most_reads }
 {
     let Ok(mut machine) = ScriptMachine::new(alloc, table) else {
         return Err(ScriptFault::NoMemory(1));

@@ -1,3 +1,5 @@
+//! `ScriptMachine`: a core that is asked by lines of a script.
+
 ghost use Rattle.std.specs.Prelude.{◌≡◌, [], IfOk, IsSome, OnOk, Some, Ok, false, string_bytes};
 ghost use Rattle.std.specs.Arc.{arc_value};
 ghost use Rattle.serde_json.specs.View.{view};
@@ -54,7 +56,7 @@ fn report_in(alloc: Global, value: Value, table: &Arc<NumericTable>) -> Result<R
 }
 
 impl ScriptMachine {
-    /// A runner before the first line.
+    /// A machine before the first line.
     pub(crate) fn new(alloc: Global, table: &Arc<NumericTable>) -> Result<ScriptMachine, AllocError>
         ensures { IfOk result (λ r. r ≡ start (arc_value table.now)) }
     {
@@ -100,14 +102,12 @@ impl ScriptMachine {
         number
     }
 
-    /// Puts a name in use.
     fn put_name(&mut self, alloc: Global, session: &str, number: u64) -> Result<(), AllocError>
         ensures { OnOk result (self.new ≡ record self.old { names = insert self.old.names session.now number }) }
     {
         self.names.insert(alloc, session, number)
     }
 
-    /// Frees a name.
     fn free_name(&mut self, session: &str)
         ensures { self.new ≡ record self.old { names = remove self.old.names session.now } }
     {
@@ -122,7 +122,8 @@ impl ScriptMachine {
         step: Step,
     ) -> Result<String, AllocError>
         requires { MayCome self.old.history (step_of step) }
-        ensures { IfOk result (λ text. answered self.old (Due session (step_of step) self.old.names) ≡ (string_bytes text, self.new)) }
+        ensures { IfOk result (λ text. answered self.old (Due session (step_of step) self.old.names)
+            ≡ (string_bytes text, self.new)) }
     {
         match self.core.step(alloc, session, step) {
             Ok(reply) => reply_text(alloc, &reply),
@@ -145,7 +146,8 @@ impl ScriptMachine {
         name: String,
         report: Report,
     ) -> Result<String, AllocError>
-        ensures { IfOk result (λ text. answered self.old (judged_load self.old (string_bytes name) (Ok report)) ≡ (string_bytes text, self.new)) }
+        ensures { IfOk result (λ text. answered self.old
+            (judged_load self.old (string_bytes name) (Ok report)) ≡ (string_bytes text, self.new)) }
     {
         if self.is_busy() {
             return String::from_str(alloc, bad_line_reply());
@@ -156,7 +158,9 @@ impl ScriptMachine {
     /// Answers a load.
     #[tactic(auto, using(filing_text::proofs::ToldFaults::load_is_refused))]
     fn load(&mut self, alloc: Global, name: String, report: Value) -> Result<String, AllocError>
-        ensures { IfOk result (λ text. answered self.old (judged_load self.old (string_bytes name) (report_in self.old.table (view report))) ≡ (string_bytes text, self.new)) }
+        ensures { IfOk result (λ text. answered self.old
+            (judged_load self.old (string_bytes name) (report_in self.old.table (view report)))
+            ≡ (string_bytes text, self.new)) }
     {
         match self.report(alloc, report) {
             Ok(report) => self.take_load(alloc, name, report),
@@ -166,7 +170,8 @@ impl ScriptMachine {
 
     /// Answers an opening.
     fn open(&mut self, alloc: Global, session: &str) -> Result<String, AllocError>
-        ensures { IfOk result (λ text. answered self.old (judged_open self.old session.now) ≡ (string_bytes text, self.new)) }
+        ensures { IfOk result (λ text. answered self.old (judged_open self.old session.now)
+            ≡ (string_bytes text, self.new)) }
     {
         if self.number_of(session).is_some() {
             return String::from_str(alloc, name_in_use_reply());
@@ -188,7 +193,9 @@ impl ScriptMachine {
         report: &str,
         id: &str,
     ) -> Result<String, AllocError>
-        ensures { IfOk result (λ text. answered self.old (judged_call self.old session.now (call.Get report.now id.now)) ≡ (string_bytes text, self.new)) }
+        ensures { IfOk result (λ text. answered self.old
+            (judged_call self.old session.now (call.Get report.now id.now))
+            ≡ (string_bytes text, self.new)) }
     {
         let Some(number) = self.number_of(session) else {
             return String::from_str(alloc, no_session_reply());
@@ -207,7 +214,9 @@ impl ScriptMachine {
         id: &str,
         fact: RawFact,
     ) -> Result<String, AllocError>
-        ensures { IfOk result (λ text. answered self.old (judged_add self.old session.now report.now id.now (Ok fact)) ≡ (string_bytes text, self.new)) }
+        ensures { IfOk result (λ text. answered self.old
+            (judged_add self.old session.now report.now id.now (Ok fact))
+            ≡ (string_bytes text, self.new)) }
     {
         let Some(number) = self.number_of(session) else {
             return String::from_str(alloc, no_session_reply());
@@ -227,7 +236,9 @@ impl ScriptMachine {
         id: &str,
         fact: &Value,
     ) -> Result<String, AllocError>
-        ensures { IfOk result (λ text. answered self.old (judged_add self.old session.now report.now id.now (raw_fact_of (view fact.now))) ≡ (string_bytes text, self.new)) }
+        ensures { IfOk result (λ text. answered self.old
+            (judged_add self.old session.now report.now id.now (raw_fact_of (view fact.now)))
+            ≡ (string_bytes text, self.new)) }
     {
         match raw_fact(alloc, fact) {
             Ok(fact) => self.take_addition(alloc, session, report, id, fact),
@@ -238,7 +249,8 @@ impl ScriptMachine {
     /// Answers a session that ends by this step.
     fn end(&mut self, alloc: Global, session: &str, step: Step) -> Result<String, AllocError>
         requires { MayCome self.old.history (step_of step) }
-        ensures { IfOk result (λ text. answered self.old (judged_end self.old session.now (step_of step)) ≡ (string_bytes text, self.new)) }
+        ensures { IfOk result (λ text. answered self.old
+            (judged_end self.old session.now (step_of step)) ≡ (string_bytes text, self.new)) }
     {
         let Some(number) = self.number_of(session) else {
             return String::from_str(alloc, no_session_reply());
@@ -250,7 +262,8 @@ impl ScriptMachine {
 
     /// The report as the current version has it.
     fn export(&self, alloc: Global, name: &str) -> Result<String, AllocError>
-        ensures { IfOk result (λ text. answered self.now (judged_export self.now name.now) ≡ (string_bytes text, self.now)) }
+        ensures { IfOk result (λ text. answered self.now (judged_export self.now name.now)
+            ≡ (string_bytes text, self.now)) }
     {
         match self.core.current().report(name) {
             Some(report) => exported_reply(alloc, report),

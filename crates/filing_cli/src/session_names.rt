@@ -1,3 +1,5 @@
+//! `SessionNames`: the names in use.
+
 ghost use Rattle.std.specs.Prelude.{◌≡◌, OnOk, OnErr};
 ghost use Rattle.filing_model.specs.TextMap.{empty, get, insert, remove};
 

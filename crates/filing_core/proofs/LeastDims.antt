@@ -26,7 +26,8 @@ not_less_itself d = ap is_lt (tied_itself dims_cmp-total d)
 
 -- what is less than the lesser is less than the other
 less_through : (c d e : Dims) → is_lt (dims_cmp c d) ≡ true → is_lt (dims_cmp d e) ≡ true → is_lt (dims_cmp c e) ≡ true
-less_through c d e p q = ap is_lt (dims_cmp-total.trans c d e (less_from_is_lt (dims_cmp c d) (subst T (sym p) tt)) (less_from_is_lt (dims_cmp d e) (subst T (sym q) tt)))
+less_through c d e p q = ap is_lt (dims_cmp-total.trans c d e (less_from_is_lt (dims_cmp c d) (subst T (sym p) tt))
+    (less_from_is_lt (dims_cmp d e) (subst T (sym q) tt)))
 
 -- ---- the least of a list
 
@@ -46,12 +47,14 @@ lesser_of_two d m e p q = elim (is_lt (dims_cmp e m)) as (λ b. is_lt (dims_cmp 
 the_lesser : (d m : Dims) → is_lt (dims_cmp m d) ≡ false → ord_min dims_cmp m d ≡ d
 the_lesser d m p = elim (is_lt (dims_cmp d m)) as (λ b. is_lt (dims_cmp d m) ≡ b → cond b d m ≡ d) [ true ↦ λ e. refl | false ↦ λ e. neither_less m d p e ] refl
 
-least_comes : (d m : Dims) (ds : List Dims) → is_lt (dims_cmp m d) ≡ false → list_any (dims_eq d) ds ≡ true → has_lesser d ds ≡ false → fold lesser_dims (Some m) ds ≡ Some d
+least_comes : (d m : Dims) (ds : List Dims) → is_lt (dims_cmp m d) ≡ false → list_any (dims_eq d) ds ≡ true → has_lesser d ds ≡ false
+    → fold lesser_dims (Some m) ds ≡ Some d
 least_comes d m [] up there none = absurd (true≢false (sym there))
 least_comes d m (e ∷ ds) up there none =
     let parts = or_parts (is_lt (dims_cmp e d)) (has_lesser d ds) none in
     elim (dims_eq d e) as (λ b. dims_eq d e ≡ b → (b || list_any (dims_eq d) ds) ≡ true → fold lesser_dims (Some (ord_min dims_cmp m e)) ds ≡ Some d) [
-      | true ↦ λ same _. ap (λ x. fold lesser_dims (Some (ord_min dims_cmp m x)) ds) (sym ((dims_decides d e).0 same)) ∙ ap (λ x. fold lesser_dims (Some x) ds) (the_lesser d m up) ∙ least_stays d ds parts.1
+      | true ↦ λ same _. ap (λ x. fold lesser_dims (Some (ord_min dims_cmp m x)) ds) (sym ((dims_decides d e).0 same))
+          ∙ ap (λ x. fold lesser_dims (Some x) ds) (the_lesser d m up) ∙ least_stays d ds parts.1
       | false ↦ λ _ later. least_comes d (ord_min dims_cmp m e) ds (lesser_of_two d m e up parts.0) later parts.1
     ] refl there
 
@@ -80,8 +83,20 @@ any_least d [] = (d, record { there = ap (λ b. b || false) (dims_eq-refl d); le
 any_least d (e ∷ ds) =
     let (m, least) = any_least e ds in
     elim (is_lt (dims_cmp d m)) as (λ b. is_lt (dims_cmp d m) ≡ b → (m : Dims) × IsLeast m (d ∷ e ∷ ds)) [
-      | true ↦ λ less. (d, record { there = ap (λ b. b || list_any (dims_eq d) (e ∷ ds)) (dims_eq-refl d); least = ap (λ b. b || has_lesser d (e ∷ ds)) (not_less_itself d) ∙ none_lesser d m (e ∷ ds) less least.least })
-      | false ↦ λ up. (m, record { there = or_right (dims_eq m d) (list_any (dims_eq m) (e ∷ ds)) least.there; least = ap (λ b. b || has_lesser m (e ∷ ds)) up ∙ least.least })
+      | true ↦ λ less. (
+        d,
+        record {
+          there = ap (λ b. b || list_any (dims_eq d) (e ∷ ds)) (dims_eq-refl d);
+          least = ap (λ b. b || has_lesser d (e ∷ ds)) (not_less_itself d) ∙ none_lesser d m (e ∷ ds) less least.least;
+        },
+      )
+      | false ↦ λ up. (
+        m,
+        record {
+          there = or_right (dims_eq m d) (list_any (dims_eq m) (e ∷ ds)) least.there;
+          least = ap (λ b. b || has_lesser m (e ∷ ds)) up ∙ least.least;
+        },
+      )
     ] refl
 
 -- lists that no test tells apart have one least element
@@ -90,15 +105,18 @@ same_least [] [] same = refl
 same_least [] (e ∷ es) same = absurd (true≢false (sym (same (λ _. true))))
 same_least (d ∷ ds) es same =
     let (m, least) = any_least d ds in
-    least_is m (d ∷ ds) least ∙ sym (least_is m es (record { there = sym (same (dims_eq m)) ∙ least.there; least = sym (same (λ e. is_lt (dims_cmp e m))) ∙ least.least }))
+    least_is m (d ∷ ds) least ∙ sym (least_is m es
+    (record { there = sym (same (dims_eq m)) ∙ least.there; least = sym (same (λ e. is_lt (dims_cmp e m))) ∙ least.least }))
 
 any_kept : (test kept : Dims → Bool) (ds : List Dims) → list_any test (filter kept ds) ≡ list_any (λ d. kept d && test d) ds
 any_kept test kept [] = refl
-any_kept test kept (d ∷ ds) = elim (kept d) as (λ b. list_any test (cond b (d ∷ filter kept ds) (filter kept ds)) ≡ ((b && test d) || list_any (λ d. kept d && test d) ds)) [
-  | true ↦ ap (λ b. test d || b) (any_kept test kept ds)
-  | false ↦ any_kept test kept ds
-]
+any_kept test kept (d ∷ ds) = elim (kept d) as
+    (λ b. list_any test (cond b (d ∷ filter kept ds) (filter kept ds)) ≡ ((b && test d) || list_any (λ d. kept d && test d) ds)) [
+      | true ↦ ap (λ b. test d || b) (any_kept test kept ds)
+      | false ↦ any_kept test kept ds
+    ]
 
 pub least_kept-IsPermutation : (kept : Dims → Bool) (ds es : List Dims) → IsPermutation ds es → least_dims (filter kept ds) ≡ least_dims (filter kept es)
 least_kept-IsPermutation kept ds es moved =
-    same_least (filter kept ds) (filter kept es) (λ test. any_kept test kept ds ∙ list_any-IsPermutation (λ d. kept d && test d) ds es moved ∙ sym (any_kept test kept es))
+    same_least (filter kept ds) (filter kept es)
+    (λ test. any_kept test kept ds ∙ list_any-IsPermutation (λ d. kept d && test d) ds es moved ∙ sym (any_kept test kept es))

@@ -33,7 +33,9 @@ module _ (staged : StagedFacts) where
   find-each_with : (q : Text) (es : List (Text × Report)) → find text_cmp q (each_with es) ≡ option_map (with_facts (staged_in staged q)) (find text_cmp q es)
   find-each_with q [] = refl
   find-each_with q (e ∷ es) =
-      elim (text_eq q e.0) as (λ b. text_eq q e.0 ≡ b → cond b (Some (with_facts (staged_in staged e.0) e.1)) (find text_cmp q (each_with es)) ≡ option_map (with_facts (staged_in staged q)) (cond b (Some e.1) (find text_cmp q es))) [
+      elim (text_eq q e.0) as (λ b. text_eq q e.0 ≡ b
+      → cond b (Some (with_facts (staged_in staged e.0) e.1)) (find text_cmp q (each_with es))
+      ≡ option_map (with_facts (staged_in staged q)) (cond b (Some e.1) (find text_cmp q es))) [
         | true ↦ λ same. ap (λ k. Some (with_facts (staged_in staged k) e.1)) (sym (text_same q e.0 same))
         | false ↦ λ _. find-each_with q es
       ] refl

@@ -37,13 +37,15 @@ one_later : (d : Dims) (f g : Fact) → is_from d f ≡ true → has_dims d f �
 one_later d f g from other later =
     elim (dims_eq d g.dims) as (λ b. dims_eq d g.dims ≡ b → not b ≡ true) [
       | true ↦ λ same.
-          let up : is_lt (dims_cmp d f.dims) ≡ false = ap (λ x. is_lt (dims_cmp x f.dims)) ((dims_decides d g.dims).0 same) ∙ not-true (is_lt (dims_cmp g.dims f.dims)) later in
+          let up : is_lt (dims_cmp d f.dims) ≡ false =
+          ap (λ x. is_lt (dims_cmp x f.dims)) ((dims_decides d g.dims).0 same) ∙ not-true (is_lt (dims_cmp g.dims f.dims)) later in
           let one : d ≡ f.dims = neither_less d f.dims up (not-true (is_lt (dims_cmp f.dims d)) from) in
           absurd (true≢false (sym (dims_eq-refl d) ∙ ap (dims_eq d) one ∙ other))
       | false ↦ λ _. refl
     ] refl
 
-each_later : (d : Dims) (f : Fact) (gs : List Fact) → is_from d f ≡ true → has_dims d f ≡ false → list_all (is_from f.dims) gs ≡ true → list_all (has_other_dims d) gs ≡ true
+each_later : (d : Dims) (f : Fact) (gs : List Fact) → is_from d f ≡ true → has_dims d f ≡ false → list_all (is_from f.dims) gs ≡ true
+    → list_all (has_other_dims d) gs ≡ true
 each_later d f [] from other later = refl
 each_later d f (g ∷ gs) from other later =
     let parts = and_parts (is_from f.dims g) (list_all (is_from f.dims) gs) later in
@@ -76,7 +78,8 @@ cut_in_front d (f ∷ fs) rises from =
           let rest = cut_in_front d fs rise.1 up.1 in
           let next : 1 + in_front d fs ≡ suc (in_front d fs) = omega arith in
           let keep : filter (has_dims d) (f ∷ fs) ≡ f ∷ filter (has_dims d) fs = ap (λ b. cond b (f ∷ filter (has_dims d) fs) (filter (has_dims d) fs)) same in
-          let leave : filter (has_other_dims d) (f ∷ fs) ≡ filter (has_other_dims d) fs = ap (λ b. cond (not b) (f ∷ filter (has_other_dims d) fs) (filter (has_other_dims d) fs)) same in
+          let leave : filter (has_other_dims d) (f ∷ fs) ≡ filter (has_other_dims d) fs =
+          ap (λ b. cond (not b) (f ∷ filter (has_other_dims d) fs) (filter (has_other_dims d) fs)) same in
           record {
             cell = ap (λ n. take n (f ∷ fs)) next ∙ ap (λ gs. f ∷ gs) rest.cell ∙ sym keep;
             others = ap (λ n. drop n (f ∷ fs)) next ∙ rest.others ∙ sym leave;
@@ -107,52 +110,64 @@ other_cell_kept : (d e : Dims) (fs : List Fact) → dims_eq d e ≡ false → fi
 other_cell_kept d e [] differ = refl
 other_cell_kept d e (f ∷ fs) differ =
     let rest = other_cell_kept d e fs differ in
-    elim (dims_eq e f.dims) as (λ b. dims_eq e f.dims ≡ b → filter (has_dims e) (filter (has_other_dims d) (f ∷ fs)) ≡ cond b (f ∷ filter (has_dims e) fs) (filter (has_dims e) fs)) [
+    elim (dims_eq e f.dims) as (λ b. dims_eq e f.dims ≡ b
+    → filter (has_dims e) (filter (has_other_dims d) (f ∷ fs)) ≡ cond b (f ∷ filter (has_dims e) fs) (filter (has_dims e) fs)) [
       | true ↦ λ of.
           ap (λ b. filter (has_dims e) (cond b (f ∷ filter (has_other_dims d) fs) (filter (has_other_dims d) fs))) (apart d e f differ of)
           ∙ ap (λ b. cond b (f ∷ filter (has_dims e) (filter (has_other_dims d) fs)) (filter (has_dims e) (filter (has_other_dims d) fs))) of
           ∙ ap (λ gs. f ∷ gs) rest
       | false ↦ λ not_of.
-          elim (has_other_dims d f) as (λ b. filter (has_dims e) (cond b (f ∷ filter (has_other_dims d) fs) (filter (has_other_dims d) fs)) ≡ filter (has_dims e) fs) [
-            | true ↦ ap (λ b. cond b (f ∷ filter (has_dims e) (filter (has_other_dims d) fs)) (filter (has_dims e) (filter (has_other_dims d) fs))) not_of ∙ rest
+          elim (has_other_dims d f) as (λ b. filter (has_dims e) (cond b (f ∷ filter (has_other_dims d) fs) (filter (has_other_dims d) fs))
+          ≡ filter (has_dims e) fs) [
+            | true ↦ ap (λ b. cond b (f ∷ filter (has_dims e) (filter (has_other_dims d) fs))
+                (filter (has_dims e) (filter (has_other_dims d) fs))) not_of ∙ rest
             | false ↦ rest
           ]
     ] refl
 
 -- where the cell is not among those that a test finds, it may be left out
-left_out : (test : Dims → Bool) (d : Dims) (fs : List Fact) → test d ≡ false → filter test (map (λ f. f.dims) (filter (has_other_dims d) fs)) ≡ filter test (map (λ f. f.dims) fs)
+left_out : (test : Dims → Bool) (d : Dims) (fs : List Fact) → test d ≡ false
+    → filter test (map (λ f. f.dims) (filter (has_other_dims d) fs)) ≡ filter test (map (λ f. f.dims) fs)
 left_out test d [] fails = refl
 left_out test d (f ∷ fs) fails =
     let rest = left_out test d fs fails in
     let kept = filter test (map (λ f. f.dims) fs) in
-    elim (dims_eq d f.dims) as (λ b. dims_eq d f.dims ≡ b → filter test (map (λ f. f.dims) (cond (not b) (f ∷ filter (has_other_dims d) fs) (filter (has_other_dims d) fs))) ≡ cond (test f.dims) (f.dims ∷ kept) kept) [
+    elim (dims_eq d f.dims) as (λ b. dims_eq d f.dims ≡ b
+    → filter test (map (λ f. f.dims) (cond (not b) (f ∷ filter (has_other_dims d) fs) (filter (has_other_dims d) fs)))
+    ≡ cond (test f.dims) (f.dims ∷ kept) kept) [
       | true ↦ λ same. rest ∙ sym (ap (λ b. cond b (f.dims ∷ kept) kept) (ap test (sym ((dims_decides d f.dims).0 same)) ∙ fails))
       | false ↦ λ _. ap (λ ds. cond (test f.dims) (f.dims ∷ ds) ds) rest
     ] refl
 
 -- the walk goes on past a cell that is allowed
-pub next_is_left : (a : Allowed) (all left : List Fact) (d : Dims) → IsLeft a all left → is_disallowed a all d ≡ false → IsLeft a all (filter (has_other_dims d) left)
+pub next_is_left : (a : Allowed) (all left : List Fact) (d : Dims) → IsLeft a all left → is_disallowed a all d ≡ false
+    → IsLeft a all (filter (has_other_dims d) left)
 next_is_left a all left d h allowed = record {
   rises = pairs_filter (λ f g. is_from f.dims g) (has_other_dims d) left h.rises;
   whole = λ e there. other_whole e there;
   least = ap least_dims (left_out (is_disallowed a all) d left allowed) ∙ h.least;
 }
   where
-    other_whole : (e : Dims) → list_any (has_dims e) (filter (has_other_dims d) left) ≡ true → filter (has_dims e) (filter (has_other_dims d) left) ≡ filter (has_dims e) all
+    other_whole : (e : Dims) → list_any (has_dims e) (filter (has_other_dims d) left) ≡ true
+        → filter (has_dims e) (filter (has_other_dims d) left) ≡ filter (has_dims e) all
     other_whole e there =
         elim (dims_eq d e) as (λ b. dims_eq d e ≡ b → filter (has_dims e) (filter (has_other_dims d) left) ≡ filter (has_dims e) all) [
-          | true ↦ λ same. absurd (true≢false (sym there ∙ any-filter_same (has_dims e) (has_other_dims d) false (λ f of. ap (λ x. not (has_dims x f)) ((dims_decides d e).0 same) ∙ ap not of) left))
+          | true ↦ λ same. absurd (true≢false (sym there
+              ∙ any-filter_same (has_dims e) (has_other_dims d) false
+              (λ f of. ap (λ x. not (has_dims x f)) ((dims_decides d e).0 same) ∙ ap not of) left))
           | false ↦ λ differ.
               other_cell_kept d e left differ
               ∙ h.whole e (sym (any-filter_same (has_dims e) (has_other_dims d) true (λ f of. apart d e f differ of) left) ∙ there)
         ] refl
 
 -- the class of the facts in front is that of the cell
-pub first_is_whole : (a : Allowed) (all : List Fact) (f : Fact) (more : List Fact) → IsLeft a all (f ∷ more) → filter (has_dims f.dims) (f ∷ more) ≡ filter (has_dims f.dims) all
+pub first_is_whole : (a : Allowed) (all : List Fact) (f : Fact) (more : List Fact) → IsLeft a all (f ∷ more)
+    → filter (has_dims f.dims) (f ∷ more) ≡ filter (has_dims f.dims) all
 first_is_whole a all f more h = h.whole f.dims (ap (λ b. b || list_any (has_dims f.dims) more) (dims_eq-refl f.dims))
 
 pub from_the_first : (f : Fact) (more : List Fact) → dims_rise (f ∷ more) ≡ true → list_all (is_from f.dims) (f ∷ more) ≡ true
-from_the_first f more rises = and_from (is_from f.dims f) (list_all (is_from f.dims) more) (ap not (not_less_itself f.dims)) (and_parts (list_all (is_from f.dims) more) (dims_rise more) rises).0
+from_the_first f more rises = and_from (is_from f.dims f) (list_all (is_from f.dims) more) (ap not (not_less_itself f.dims))
+    (and_parts (list_all (is_from f.dims) more) (dims_rise more) rises).0
 
 none_lesser : (test : Dims → Bool) (d : Dims) (fs : List Fact) → list_all (is_from d) fs ≡ true → has_lesser d (filter test (map (λ f. f.dims) fs)) ≡ false
 none_lesser test d [] from = refl
@@ -165,7 +180,8 @@ none_lesser test d (f ∷ fs) from =
     ]
 
 -- the first disallowed cell is the least
-pub first_is_least : (a : Allowed) (all : List Fact) (f : Fact) (more : List Fact) → IsLeft a all (f ∷ more) → is_disallowed a all f.dims ≡ true → Some f.dims ≡ least_dims (disallowed_dims a all)
+pub first_is_least : (a : Allowed) (all : List Fact) (f : Fact) (more : List Fact) → IsLeft a all (f ∷ more)
+    → is_disallowed a all f.dims ≡ true → Some f.dims ≡ least_dims (disallowed_dims a all)
 first_is_least a all f more h disallowed =
     let test = is_disallowed a all in
     let later = filter test (map (λ g. g.dims) more) in
@@ -211,21 +227,27 @@ ties_are_cells x y =
 tied_behind : (x : FactRef) (ys : List FactRef) → filter (has_dims (dims_behind x)) (facts_behind ys) ≡ facts_behind (filter (ties is_before x) ys)
 tied_behind x [] = refl
 tied_behind x (y ∷ ys) =
-    ap (λ b. cond b (arc_value y.now ∷ filter (has_dims (dims_behind x)) (facts_behind ys)) (filter (has_dims (dims_behind x)) (facts_behind ys))) (sym (ties_are_cells x y))
-    ∙ elim (ties is_before x y) as (λ b. cond b (arc_value y.now ∷ filter (has_dims (dims_behind x)) (facts_behind ys)) (filter (has_dims (dims_behind x)) (facts_behind ys)) ≡ facts_behind (cond b (y ∷ filter (ties is_before x) ys) (filter (ties is_before x) ys))) [
+    ap (λ b. cond b (arc_value y.now ∷ filter (has_dims (dims_behind x)) (facts_behind ys))
+    (filter (has_dims (dims_behind x)) (facts_behind ys))) (sym (ties_are_cells x y))
+    ∙ elim (ties is_before x y) as (λ b. cond b (arc_value y.now ∷ filter (has_dims (dims_behind x)) (facts_behind ys))
+    (filter (has_dims (dims_behind x)) (facts_behind ys))
+    ≡ facts_behind (cond b (y ∷ filter (ties is_before x) ys) (filter (ties is_before x) ys))) [
       | true ↦ ap (λ gs. arc_value y.now ∷ gs) (tied_behind x ys)
       | false ↦ tied_behind x ys
     ]
 
 -- a cell is as it was before a stable sort
-same_cell : (xs ys : List FactRef) → IsStableBy is_before xs ys → (x : FactRef) → filter (has_dims (dims_behind x)) (facts_behind ys) ≡ filter (has_dims (dims_behind x)) (facts_behind xs)
+same_cell : (xs ys : List FactRef) → IsStableBy is_before xs ys → (x : FactRef)
+    → filter (has_dims (dims_behind x)) (facts_behind ys) ≡ filter (has_dims (dims_behind x)) (facts_behind xs)
 same_cell xs ys stable x = tied_behind x ys ∙ ap facts_behind (stable x) ∙ sym (tied_behind x xs)
 
 same_disallowed : (a : Allowed) (xs ys : List FactRef) → IsStableBy is_before xs ys → (zs : List FactRef)
-    → filter (is_disallowed a (facts_behind ys)) (map (λ f. f.dims) (facts_behind zs)) ≡ filter (is_disallowed a (facts_behind xs)) (map (λ f. f.dims) (facts_behind zs))
+    → filter (is_disallowed a (facts_behind ys)) (map (λ f. f.dims) (facts_behind zs))
+    ≡ filter (is_disallowed a (facts_behind xs)) (map (λ f. f.dims) (facts_behind zs))
 same_disallowed a xs ys stable [] = refl
 same_disallowed a xs ys stable (z ∷ zs) =
-    λ i. cond (not (allows a (class_of (same_cell xs ys stable z i)))) (dims_behind z ∷ same_disallowed a xs ys stable zs i) (same_disallowed a xs ys stable zs i)
+    λ i. cond (not (allows a (class_of (same_cell xs ys stable z i)))) (dims_behind z ∷ same_disallowed a xs ys stable zs i)
+    (same_disallowed a xs ys stable zs i)
 
 pub same_least_disallowed : (a : Allowed) (xs ys : List FactRef) → IsPermutation xs ys → IsStableBy is_before xs ys
     → least_dims (disallowed_dims a (facts_behind ys)) ≡ least_dims (disallowed_dims a (facts_behind xs))
@@ -255,14 +277,18 @@ at_end n end within = elim (nat_lt n end) as (λ b. nat_lt n end ≡ b → unwra
   | false ↦ λ e. (let past = ltb-false n end e in omega arith)
 ] refl
 
-pub place_or_length : (d : Dims) (xs : List FactRef) (found : Option ℕ) → found ≡ place (position_or_len (λ x. has_other_dims d (arc_value x.now)) xs) (length xs) → unwrap_or found (length xs) ≡ in_front d (facts_behind xs)
+pub place_or_length : (d : Dims) (xs : List FactRef) (found : Option ℕ)
+    → found ≡ place (position_or_len (λ x. has_other_dims d (arc_value x.now)) xs) (length xs)
+    → unwrap_or found (length xs) ≡ in_front d (facts_behind xs)
 place_or_length d xs found is =
     ap (λ o. unwrap_or o (length xs)) (is ∙ ap (λ n. place n (length xs)) (in_front_behind d xs))
     ∙ at_end (in_front d (facts_behind xs)) (length xs) (in_front_at_most d xs)
 
 -- ---- one turn of the walk
 
-module _ (a : Allowed) (xs : List FactRef) (start : ℕ) (x : FactRef) (n : ℕ) (is : x ≡ get_or xs start x) (within : start < length xs) (left : IsLeft a (facts_behind xs) (facts_behind (drop start xs))) (count : n ≡ in_front (dims_behind x) (facts_behind (drop start xs))) where
+module _ (a : Allowed) (xs : List FactRef) (start : ℕ) (x : FactRef) (n : ℕ) (is : x ≡ get_or xs start x) (within : start < length xs)
+    (left : IsLeft a (facts_behind xs) (facts_behind (drop start xs)))
+    (count : n ≡ in_front (dims_behind x) (facts_behind (drop start xs))) where
   here : drop start xs ≡ x ∷ drop (suc start) xs
   here = drop-cons xs start x within ∙ ap (λ y. y ∷ drop (suc start) xs) (sym is)
 
@@ -273,21 +299,33 @@ module _ (a : Allowed) (xs : List FactRef) (start : ℕ) (x : FactRef) (n : ℕ)
   cut =
       subst (IsCut (dims_behind x) (facts_behind (drop start xs))) (sym count)
       (subst (λ ys. IsCut (dims_behind x) (facts_behind ys) (in_front (dims_behind x) (facts_behind ys))) (sym here)
-      (cut_in_front (dims_behind x) (arc_value x.now ∷ facts_behind (drop (suc start) xs)) standing.rises (from_the_first (arc_value x.now) (facts_behind (drop (suc start) xs)) standing.rises)))
+      (cut_in_front (dims_behind x) (arc_value x.now ∷ facts_behind (drop (suc start) xs)) standing.rises
+      (from_the_first (arc_value x.now) (facts_behind (drop (suc start) xs)) standing.rises)))
 
-  whole_class : (class : Class) → class ≡ class_of (facts_behind (take n (drop start xs))) → class ≡ class_of (filter (has_dims (dims_behind x)) (facts_behind xs))
+  whole_class : (class : Class) → class ≡ class_of (facts_behind (take n (drop start xs)))
+      → class ≡ class_of (filter (has_dims (dims_behind x)) (facts_behind xs))
   whole_class class of =
-      of ∙ ap class_of (sym (take-map (λ y. arc_value y.now) n (drop start xs)) ∙ cut.cell ∙ ap (λ ys. filter (has_dims (dims_behind x)) (facts_behind ys)) here ∙ first_is_whole a (facts_behind xs) (arc_value x.now) (facts_behind (drop (suc start) xs)) standing)
+      of ∙ ap class_of (sym (take-map (λ y. arc_value y.now) n (drop start xs)) ∙ cut.cell
+      ∙ ap (λ ys. filter (has_dims (dims_behind x)) (facts_behind ys)) here
+      ∙ first_is_whole a (facts_behind xs) (arc_value x.now) (facts_behind (drop (suc start) xs)) standing)
 
-  pub found : (class : Class) → class ≡ class_of (facts_behind (take n (drop start xs))) → allows a class ≡ false → Some (dims_behind x) ≡ least_dims (disallowed_dims a (facts_behind xs))
-  found class of refused = first_is_least a (facts_behind xs) (arc_value x.now) (facts_behind (drop (suc start) xs)) standing (ap (λ c. not (allows a c)) (sym (whole_class class of)) ∙ ap not refused)
+  pub found : (class : Class) → class ≡ class_of (facts_behind (take n (drop start xs))) → allows a class ≡ false
+      → Some (dims_behind x) ≡ least_dims (disallowed_dims a (facts_behind xs))
+  found class of refused = first_is_least a (facts_behind xs) (arc_value x.now) (facts_behind (drop (suc start) xs)) standing
+      (ap (λ c. not (allows a c)) (sym (whole_class class of)) ∙ ap not refused)
 
-  pub passed : (class : Class) → class ≡ class_of (facts_behind (take n (drop start xs))) → allows a class ≡ true → IsLeft a (facts_behind xs) (facts_behind (drop (start + n) xs))
+  pub passed : (class : Class) → class ≡ class_of (facts_behind (take n (drop start xs))) → allows a class ≡ true
+      → IsLeft a (facts_behind xs) (facts_behind (drop (start + n) xs))
   passed class of allowed =
-      subst (IsLeft a (facts_behind xs)) (sym (ap facts_behind (sym (drop-drop n start xs)) ∙ sym (drop-map (λ y. arc_value y.now) n (drop start xs)) ∙ cut.others))
-      (next_is_left a (facts_behind xs) (facts_behind (drop start xs)) (dims_behind x) left (ap (λ c. not (allows a c)) (sym (whole_class class of)) ∙ ap not allowed))
+      subst (IsLeft a (facts_behind xs)) (sym (ap facts_behind (sym (drop-drop n start xs))
+      ∙ sym (drop-map (λ y. arc_value y.now) n (drop start xs)) ∙ cut.others))
+      (next_is_left a (facts_behind xs) (facts_behind (drop start xs)) (dims_behind x) left
+      (ap (λ c. not (allows a c)) (sym (whole_class class of)) ∙ ap not allowed))
 
   pub some_in_front : 0 < n
   some_in_front =
-      let one_more : n ≡ 1 + in_front (dims_behind x) (facts_behind (drop (suc start) xs)) = count ∙ ap (λ ys. in_front (dims_behind x) (facts_behind ys)) here ∙ ap (λ b. cond (not (not b)) (1 + in_front (dims_behind x) (facts_behind (drop (suc start) xs))) 0) (dims_eq-refl (dims_behind x)) in
+      let one_more : n ≡ 1 + in_front (dims_behind x) (facts_behind (drop (suc start) xs)) =
+      count ∙ ap (λ ys. in_front (dims_behind x) (facts_behind ys)) here
+      ∙ ap (λ b. cond (not (not b)) (1 + in_front (dims_behind x) (facts_behind (drop (suc start) xs))) 0)
+      (dims_eq-refl (dims_behind x)) in
       omega arith

@@ -21,4 +21,5 @@ dims_rise facts = every_pair (λ f g. is_from f.dims g) facts
 -- why a report is refused: for nothing where it obeys, and else for its least cell that is not allowed, by its class and its identifiers
 abbrev pub IsRefusedFor : Report → Option (Class × List Text) → Type 0
 IsRefusedFor r None = report_obeys r ≡ true
-IsRefusedFor r (Some told) = (report_obeys r ≡ false) × ((name : Text) → disallowed_cell name r ≡ Disallowed name told.0 told.1)
+IsRefusedFor r (Some told) = (report_obeys r ≡ false)
+    × ((name : Text) → disallowed_cell name r ≡ Disallowed name told.0 told.1)

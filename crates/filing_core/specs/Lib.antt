@@ -1,3 +1,4 @@
+-- What contracts of the core cite.
 pub mod Laid
 pub mod Staged
 pub mod Kept

@@ -18,7 +18,8 @@ abbrev pub found_or_absent : Option Fact → Reply
 found_or_absent fact = option_map_or reply.Found fact reply.Absent
 
 abbrev pub get_outcome : Repository → StagedFacts → Text → Text → Reply
-get_outcome c staged name id = option_map_or (λ r. found_or_absent (seen_fact staged name id r)) (report_at c name) reply.NoReport
+get_outcome c staged name id = option_map_or (λ r. found_or_absent (seen_fact staged name id r))
+    (report_at c name) reply.NoReport
 
 abbrev pub fit_outcome : Result Fact FactFault → Result Fact Reply
 fit_outcome (Ok fact) = Ok fact
@@ -26,5 +27,6 @@ fit_outcome (Err fault) = Err (reply.BadFact fault)
 
 -- the fact to be staged, or the reply that refuses it
 abbrev pub add_outcome : Repository → StagedFacts → Text → Text → RawFact → Result Fact Reply
-add_outcome c staged name id raw =
-    option_map_or (λ r. cond (is_some (seen_fact staged name id r)) (Err reply.Taken) (fit_outcome (fit_of r.names raw))) (report_at c name) (Err reply.NoReport)
+add_outcome c staged name id raw = option_map_or
+    (λ r. cond (is_some (seen_fact staged name id r)) (Err reply.Taken) (fit_outcome (fit_of r.names raw)))
+    (report_at c name) (Err reply.NoReport)

@@ -34,12 +34,17 @@ UnstagedObey staged (e ∷ es) = (get staged e.0 ≡ None → report_obeys e.1 �
 -- the next version, which is not refused, or the refusal of it
 abbrev pub CommitMakes : Repository → StagedFacts → Result Repository DisallowedCell → Type 0
 CommitMakes base staged (Ok next) = IsNextVersion base next staged × (refusal_of next ≡ None)
-CommitMakes base staged (Err r) = (next : Repository) × IsNextVersion base next staged × (refusal_of next ≡ Some (refusal_told r))
+CommitMakes base staged (Err r) = (next : Repository) × IsNextVersion base next staged
+    × (refusal_of next ≡ Some (refusal_told r))
 
 -- the commit of the session passes, and this is the repository that it makes
 pub record IsPassedCommit (h : History) (session : Option ℕ) (next : Repository) : Type 0 where
   pub told : next_reply h session model.Commit ≡ Some (reply.Committed next.count)
-  pub makes : repository (record { session = session; step = model.Commit; reply = reply.Committed next.count } ∷ h) ≡ next
+  pub makes : repository (record {
+    session = session;
+    step = model.Commit;
+    reply = reply.Committed next.count;
+  } ∷ h) ≡ next
   pub count : next.count ≡ (repository h).count + 1
 
 -- the commit of the session is refused with this reply

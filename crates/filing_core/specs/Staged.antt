@@ -16,7 +16,7 @@ staged_in staged name = unwrap_or (get staged name) empty
 abbrev pub staged_at : StagedFacts → Text → Text → Option Fact
 staged_at staged name id = get (staged_in staged name) id
 
--- the same with one fact more
+-- what is staged, with one fact more
 abbrev pub staged_with : StagedFacts → Text → Text → Fact → StagedFacts
 staged_with staged name id fact = insert staged name (insert (staged_in staged name) id fact)
 
@@ -25,9 +25,10 @@ with_facts facts r = record r { facts = laid facts r.facts }
 
 -- the reports of the copy are those of the base, with the staged facts laid over them
 abbrev pub IsLaidOver : Repository → Repository → StagedFacts → Type 0
-IsLaidOver base copy staged = (name : Text) → report_at copy name ≡ option_map (with_facts (staged_in staged name)) (report_at base name)
+IsLaidOver base copy staged = (name : Text)
+    → report_at copy name ≡ option_map (with_facts (staged_in staged name)) (report_at base name)
 
--- the same, and it counts one more
+-- the next version is the base with the staged facts laid over it, and counts one more
 pub record IsNextVersion (base next : Repository) (staged : StagedFacts) : Type 0 where
   pub count : next.count ≡ base.count + 1
   pub laid : IsLaidOver base next staged

@@ -35,7 +35,8 @@ pub(crate) fn cell(
     facts: &[(String, Arc<Fact>)],
 ) -> Result<(Class, Vec<String>), AllocError>
     ensures class { IfOk result (λ told. told.0 ≡ class_of (facts_of (cell_of dims.now (keyed arc_value facts.now)))) }
-    ensures ids { IfOk result (λ told. map string_bytes told.1.items ≡ map (λ e. e.0) (cell_of dims.now (keyed arc_value facts.now))) }
+    ensures ids { IfOk result (λ told. map string_bytes told.1.items
+        ≡ map (λ e. e.0) (cell_of dims.now (keyed arc_value facts.now))) }
 {
     let mut ids = Vec::new(alloc);
     let mut held = Vec::new(alloc);
@@ -54,7 +55,9 @@ pub(crate) fn refusal_in(
     allowed: Allowed,
     facts: &[(String, Arc<Fact>)],
 ) -> Result<Option<(Class, Vec<String>)>, AllocError>
-    ensures { IfOk result (λ o. (r : Report) → r.allowed ≡ allowed → r.facts.entries ≡ keyed arc_value facts.now → IsRefusedFor r (option_map (λ told. (told.0, map string_bytes told.1.items)) o)) }
+    ensures { IfOk result (λ o. (r : Report) → r.allowed ≡ allowed
+        → r.facts.entries ≡ keyed arc_value facts.now
+        → IsRefusedFor r (option_map (λ told. (told.0, map string_bytes told.1.items)) o)) }
 {
     match least_disallowed(alloc, allowed, facts)? {
         None => Ok(None),
@@ -79,7 +82,9 @@ fn references<'a>(
 /// The facts in the order of their dimensions. Those of one cell keep their order.
 fn sorted_by_dims<'a>(facts: Vec<&'a Arc<Fact>>) -> Result<Vec<&'a Arc<Fact>>, AllocError>
     ensures rises { IfOk result (λ v. IsTrue (dims_rise (facts_behind v.items))) }
-    ensures same { IfOk result (λ v. (a : Allowed) → least_dims (disallowed_dims a (facts_behind v.items)) ≡ least_dims (disallowed_dims a (facts_behind facts.entry.items))) }
+    ensures same { IfOk result (λ v. (a : Allowed)
+        → least_dims (disallowed_dims a (facts_behind v.items))
+        ≡ least_dims (disallowed_dims a (facts_behind facts.entry.items))) }
 {
     let mut sorted = facts;
     sorted.sort_by(|one, other| one.dims.cmp(&other.dims))?;

@@ -1,3 +1,5 @@
+//! `FactMap`: the facts of one report by identifier, each shared with whoever else has it.
+
 ghost use Rattle.std.specs.Prelude.{◌≡◌, Option, option_map, string_bytes, IfOk, OnOk, OnErr};
 ghost use Rattle.std.specs.Arc.{arc_value};
 ghost use Rattle.filing_model.specs.TextMap.{empty, get, insert};

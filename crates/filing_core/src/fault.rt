@@ -1,3 +1,5 @@
+//! `CoreFault`: why a step was not taken.
+
 use std::alloc::{AllocError, AllocFailed};
 use thiserror::Error;
 

@@ -50,7 +50,8 @@ pub(crate) fn addition(
     id: &str,
     raw: &RawFact,
 ) -> Result<Result<Fact, Reply>, AllocError>
-    ensures { IfOk result (λ r. result_map_both (λ f. f) reply_of r ≡ add_outcome current.now staged.now name.now id.now raw.now) }
+    ensures { IfOk result (λ r. result_map_both (λ f. f) reply_of r
+        ≡ add_outcome current.now staged.now name.now id.now raw.now) }
 {
     let Some(report) = current.report(name) else {
         return Ok(Err(Reply::NoReport));

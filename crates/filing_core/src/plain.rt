@@ -1,3 +1,5 @@
+//! `Plain`: a version of the repository, the version that staged facts make of it, and what refuses that one.
+
 ghost use Rattle.std.specs.Prelude.{◌≡◌, ◌+◌, true, Option, option_map, string_bytes, unwrap_or, IfOk, OnOk, OnErr, ◌<◌, ◌^◌};
 ghost use Rattle.std.specs.Arc.{arc_value};
 ghost use Rattle.filing_model.specs.TextMap.{empty};
@@ -127,7 +129,8 @@ fn laid_over(
     report: &Arc<Report>,
     facts: Option<&FactMap>,
 ) -> Result<Arc<Report>, AllocError>
-    ensures { IfOk result (λ r. arc_value r ≡ with_facts (unwrap_or (option_map (λ f. f.now) facts.entry) empty) (arc_value report.now)) }
+    ensures { IfOk result (λ r. arc_value r
+        ≡ with_facts (unwrap_or (option_map (λ f. f.now) facts.entry) empty) (arc_value report.now)) }
 {
     match facts {
         None => report.clone(),

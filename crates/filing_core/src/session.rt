@@ -1,3 +1,5 @@
+//! `Session`: the open session.
+
 use crate::staged::Staged;
 
 /// The open session: its number and what it has staged over the version of its opening, which is the current one for as long as nothing is accepted beside it.

@@ -1,3 +1,5 @@
+//! `Staged`: what a session has added, by report.
+
 ghost use Rattle.std.specs.Prelude.{◌≡◌, option_map, string_bytes, OnOk, OnErr};
 ghost use Rattle.std.specs.Arc.{arc_value};
 ghost use Rattle.filing_model.specs.TextMap.{empty, get};

@@ -1,3 +1,5 @@
+//! `Kind`: what a session is opened for.
+
 /// What a session may do.
 #[derive(Clone, Copy, Debug, PartialEq, Eq)]
 pub enum Kind {

@@ -1,3 +1,5 @@
+//! `Reply`: every answer to a step, and its clone.
+
 ghost use Rattle.std.specs.Prelude.{◌≡◌, map, string_bytes, IfOk};
 
 use oim_fact::{Class, Fact, FactFault};

@@ -21,7 +21,8 @@ open_session h (Some s) e = let found = kind_of_live (status_of s h) e in (s, fo
 found_open : (h entries : History) → some_open h entries ≡ true → IsBusy h
 found_open h [] e = absurd (true≢false (sym e))
 found_open h (x ∷ xs) e =
-    elim (option_map_or (λ s. is_live (status_of s h)) x.session false) as (λ b. option_map_or (λ s. is_live (status_of s h)) x.session false ≡ b → (b || some_open h xs) ≡ true → IsBusy h) [
+    elim (option_map_or (λ s. is_live (status_of s h)) x.session false) as
+    (λ b. option_map_or (λ s. is_live (status_of s h)) x.session false ≡ b → (b || some_open h xs) ≡ true → IsBusy h) [
       | true ↦ λ here _. open_session h x.session here
       | false ↦ λ _ rest. found_open h xs rest
     ] refl e
@@ -31,12 +32,14 @@ live_here : (h : History) (s : ℕ) (kind : Kind) (session : Option ℕ) → sta
 live_here h s kind None live e = e
 live_here h s kind (Some n) live e = ap (λ m. is_live (status_of m h)) (eqb→eq n s (subst T (sym e) tt)) ∙ ap is_live live
 
-open_is_found : (h : History) (s : ℕ) (kind : Kind) → status_of s h ≡ Live kind → (entries : History) (k : Kind) → status_of s entries ≡ Live k → some_open h entries ≡ true
+open_is_found : (h : History) (s : ℕ) (kind : Kind) → status_of s h ≡ Live kind → (entries : History) (k : Kind)
+    → status_of s entries ≡ Live k → some_open h entries ≡ true
 open_is_found h s kind live [] k e = let apart : Unknown ≡ Live k = e in cc
 open_is_found h s kind live (x ∷ xs) k e =
     elim (is_of s x) as (λ b. is_of s x ≡ b → cond b (status_after x.step (status_of s xs)) (status_of s xs) ≡ Live k → some_open h (x ∷ xs) ≡ true) [
       | true ↦ λ of _. ap (λ b. b || some_open h xs) (live_here h s kind x.session live of)
-      | false ↦ λ _ rest. ap (λ b. option_map_or (λ n. is_live (status_of n h)) x.session false || b) (open_is_found h s kind live xs k rest) ∙ or_right _ true refl
+      | false ↦ λ _ rest. ap (λ b. option_map_or (λ n. is_live (status_of n h)) x.session false || b)
+          (open_is_found h s kind live xs k rest) ∙ or_right _ true refl
     ] refl e
 
 busy_is_found : (h : History) → IsBusy h → is_busy h ≡ true

@@ -34,13 +34,18 @@ addition_is_told WrongShape reading state session name id text fails told = refu
 addition_is_told NotWhole reading state session name id text fails told = refused (Some NotWhole) reading state session name id text fails told
 addition_is_told (Fit fault) reading state session name id text fails told = refused (Some (Fit fault)) reading state session name id text fails told
 addition_is_told (Dims dim.NoMemory) reading state session name id text fails told = absurd (true≢false (ap is_some told))
-addition_is_told (Dims dim.NameTwice) reading state session name id text fails told = refused (Some (Dims dim.NameTwice)) reading state session name id text fails told
-addition_is_told (Dims dim.NullCore) reading state session name id text fails told = refused (Some (Dims dim.NullCore)) reading state session name id text fails told
-addition_is_told (Dims dim.NoConcept) reading state session name id text fails told = refused (Some (Dims dim.NoConcept)) reading state session name id text fails told
-addition_is_told (Dims dim.TooLong) reading state session name id text fails told = refused (Some (Dims dim.TooLong)) reading state session name id text fails told
+addition_is_told (Dims dim.NameTwice) reading state session name id text fails told =
+    refused (Some (Dims dim.NameTwice)) reading state session name id text fails told
+addition_is_told (Dims dim.NullCore) reading state session name id text fails told =
+    refused (Some (Dims dim.NullCore)) reading state session name id text fails told
+addition_is_told (Dims dim.NoConcept) reading state session name id text fails told =
+    refused (Some (Dims dim.NoConcept)) reading state session name id text fails told
+addition_is_told (Dims dim.TooLong) reading state session name id text fails told =
+    refused (Some (Dims dim.TooLong)) reading state session name id text fails told
 
 -- and so its answer
 pub addition_is_refused : (fault : Trouble) (reading : Result RawFact Trouble) (state : State) (session name id text : Text)
     → Fails (fact_trouble fault) reading → Some text ≡ option_map bad_fact_text (told_fault fault)
     → answered state (judged_add state session name id reading) ≡ (text, state)
-addition_is_refused fault reading state session name id text fails told = ap (answered state) (addition_is_told fault reading state session name id text fails told)
+addition_is_refused fault reading state session name id text fails told =
+    ap (answered state) (addition_is_told fault reading state session name id text fails told)

@@ -74,7 +74,8 @@ thing_text (thing.Report name) = codes "[\"report\"," ++ (quoted name ++ codes "
 thing_text (thing.Id name id) = codes "[\"id\"," ++ (quoted name ++ (codes "," ++ (quoted id ++ codes "]")))
 thing_text (thing.Cell name dims) = codes "[\"cell\"," ++ (quoted name ++ (codes "," ++ (dims_text dims ++ codes "]")))
 thing_text (thing.Query name concept period) =
-    codes "[\"query\"," ++ (quoted name ++ (codes "," ++ (quoted concept ++ (codes "," ++ (nullable_text period ++ codes "]")))))
+    codes "[\"query\"," ++ (quoted name ++ (codes ","
+    ++ (quoted concept ++ (codes "," ++ (nullable_text period ++ codes "]")))))
 
 -- ---- replies
 
@@ -90,16 +91,20 @@ reply_text Closed = codes "[\"closed\"]"
 reply_text (Found fact) = codes "[\"fact\"," ++ (fact_text fact ++ codes "]")
 reply_text Absent = codes "[\"none\"]"
 reply_text NoReport = codes "[\"no-report\"]"
-reply_text (Cell class ids) = codes "[\"cell\"," ++ (word_text (class_word class) ++ (codes "," ++ (texts_text ids ++ codes "]")))
+reply_text (Cell class ids) = codes "[\"cell\","
+    ++ (word_text (class_word class) ++ (codes "," ++ (texts_text ids ++ codes "]")))
 reply_text (Page ids more) = codes "[\"page\"," ++ (texts_text ids ++ (codes "," ++ (bool_text more ++ codes "]")))
 reply_text Staged = codes "[\"staged\"]"
 reply_text Taken = codes "[\"taken\"]"
 reply_text ReadOnly = codes "[\"read-only\"]"
 reply_text (BadFact fault) = bad_fact_text (trouble.Fit fault)
 reply_text (Committed number) = codes "[\"committed\"," ++ (decimal number ++ codes "]")
-reply_text (Conflict number thing) = codes "[\"conflict\"," ++ (decimal number ++ (codes "," ++ (thing_text thing ++ codes "]")))
+reply_text (Conflict number thing) = codes "[\"conflict\","
+    ++ (decimal number ++ (codes "," ++ (thing_text thing ++ codes "]")))
 reply_text (Disallowed name class ids) =
-    codes "[\"disallowed\"," ++ (quoted name ++ (codes "," ++ (word_text (class_word class) ++ (codes "," ++ (texts_text ids ++ codes "]")))))
+    codes "[\"disallowed\"," ++ (quoted name
+    ++ (codes "," ++ (word_text (class_word class)
+    ++ (codes "," ++ (texts_text ids ++ codes "]")))))
 
 -- ---- replies to lines that take no step
 

@@ -69,7 +69,8 @@ judged_open state session =
 
 -- a call of the session that has the name
 abbrev pub judged_call : State → Text → Call → Judgement
-judged_call state session c = option_map_or (λ number. Due (Some number) (step.Ask c) state.names) (get state.names session) (Told no_session_text)
+judged_call state session c = option_map_or (λ number. Due (Some number) (step.Ask c) state.names)
+    (get state.names session) (Told no_session_text)
 
 abbrev pub judged_add : State → Text → Text → Text → Result RawFact Trouble → Judgement
 judged_add state session name id (Err fault) = Told (bad_fact_text fault)
@@ -77,7 +78,9 @@ judged_add state session name id (Ok raw) = judged_call state session (call.Add 
 
 -- a step that ends the session and frees its name
 abbrev pub judged_end : State → Text → Step → Judgement
-judged_end state session end = option_map_or (λ number. Due (Some number) end (remove state.names session)) (get state.names session) (Told no_session_text)
+judged_end state session end = option_map_or
+    (λ number. Due (Some number) end (remove state.names session))
+    (get state.names session) (Told no_session_text)
 
 -- the report of a load by this numeric table: an object, or the text of one
 abbrev pub report_in : Table → Data → Result Report ReportFault
@@ -86,7 +89,8 @@ report_in table d = report_of table d
 
 -- the report as the current version has it. That is no step
 abbrev pub judged_export : State → Text → Judgement
-judged_export state name = Told (option_map_or exported_text (report_at (repository state.history) name) (reply_text NoReport))
+judged_export state name =
+    Told (option_map_or exported_text (report_at (repository state.history) name) (reply_text NoReport))
 
 abbrev pub judged_line : State → Line → Judgement
 judged_line state (Load name r) = judged_load state name (report_in state.table r)
@@ -110,7 +114,10 @@ step_text h session s = option_map_or reply_text (next_reply h session s) no_ses
 -- a reply, and what is carried on
 abbrev pub answered : State → Judgement → Text × State
 answered state (Told text) = (text, state)
-answered state (Due session s names) = (step_text state.history session s, record { table = state.table; history = after_step state.history session s; names = names })
+answered state (Due session s names) = (
+  step_text state.history session s,
+  record { table = state.table; history = after_step state.history session s; names = names },
+)
 
 -- of a line that is this JSON value, or none
 abbrev pub value_answer : State → Option Data → Text × State

@@ -1,3 +1,5 @@
+//! `Line`: a line of a script by its kind, read from JSON without a copy of its parts.
+
 ghost use Rattle.std.specs.Prelude.{◌≡◌, codes, is_some, IsSome, Some, option_map, option_copied};
 ghost use Rattle.serde_json.specs.Find.{at};
 ghost use Rattle.serde_json.specs.View.{view};

@@ -1,4 +1,5 @@
-// The lines of replies, as compact JSON, without the LF that ends them.
+//! The lines of replies, as compact JSON, without the LF that ends them.
+
 mod lines;
 mod refusals;
 mod replies;

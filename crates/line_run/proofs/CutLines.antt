@@ -71,7 +71,9 @@ whole_at begun (byte ∷ bytes) h =
           let one : 1 + ends bytes ≡ suc (ends bytes) = omega arith in
           let two : suc (ends bytes) + 1 ≡ suc (ends bytes + 1) = omega arith in
           let small : ends bytes < length bytes = omega arith in
-          rw (one, two) (whole_at (begun ++ byte ∷ []) bytes small ∙ ap (λ line. line ∷ whole_from [] (after_first is_line_feed bytes)) (append_assoc begun (byte ∷ []) (before_first is_line_feed bytes)))
+          rw (one, two) (whole_at (begun ++ byte ∷ []) bytes small
+          ∙ ap (λ line. line ∷ whole_from [] (after_first is_line_feed bytes))
+          (append_assoc begun (byte ∷ []) (before_first is_line_feed bytes)))
     ] h
 
 pub rest_at : (begun text : Text) → ends text < length text → rest_from begun text ≡ rest_from [] (after_first is_line_feed text)
@@ -125,7 +127,8 @@ first_of : (text : Text) → (part : Text) × ((parts : List Text) × (parts_of 
 first_of [] = ([], ([], refl))
 first_of (byte ∷ bytes) =
     let rest = first_of bytes in
-    elim (is_line_feed byte) as (λ b. (part : Text) × ((parts : List Text) × (cond b ([] ∷ parts_of bytes) (onto_first byte (parts_of bytes)) ≡ part ∷ parts))) [
+    elim (is_line_feed byte) as (λ b. (part : Text)
+    × ((parts : List Text) × (cond b ([] ∷ parts_of bytes) (onto_first byte (parts_of bytes)) ≡ part ∷ parts))) [
       | true ↦ ([], (parts_of bytes, refl))
       | false ↦ (byte ∷ rest.0, (rest.1.0, ap (onto_first byte) rest.1.1))
     ]
@@ -146,13 +149,15 @@ both begun (byte ∷ bytes) =
     (cond b (begun ∷ whole_from [] bytes) (whole_from (begun ++ byte ∷ []) bytes))
     (cond b (rest_from [] bytes) (rest_from (begun ++ byte ∷ []) bytes))) [
       | true ↦
-          let below : Both [] (part ∷ parts) (whole_from [] bytes) (rest_from [] bytes) = subst (λ ps. Both [] ps (whole_from [] bytes) (rest_from [] bytes)) is (both [] bytes) in
+          let below : Both [] (part ∷ parts) (whole_from [] bytes) (rest_from [] bytes) =
+          subst (λ ps. Both [] ps (whole_from [] bytes) (rest_from [] bytes)) is (both [] bytes) in
           let here : Both begun ([] ∷ (part ∷ parts)) (begun ∷ whole_from [] bytes) (rest_from [] bytes) =
           (ap (λ line. line ∷ all_but_last (part ∷ parts)) (append-nil begun) ∙ ap (λ lines. begun ∷ lines) below.0, below.1) in
           subst (λ ps. Both begun ([] ∷ ps) (begun ∷ whole_from [] bytes) (rest_from [] bytes)) (sym is) here
       | false ↦
           let more : Text = begun ++ byte ∷ [] in
-          let below : Both more (part ∷ parts) (whole_from more bytes) (rest_from more bytes) = subst (λ ps. Both more ps (whole_from more bytes) (rest_from more bytes)) is (both more bytes) in
+          let below : Both more (part ∷ parts) (whole_from more bytes) (rest_from more bytes) =
+          subst (λ ps. Both more ps (whole_from more bytes) (rest_from more bytes)) is (both more bytes) in
           let same : more ++ part ≡ begun ++ (byte ∷ part) = append_assoc begun (byte ∷ []) part in
           let here : Both begun ((byte ∷ part) ∷ parts) (whole_from more bytes) (rest_from more bytes) =
           subst (λ line. (all_but_last (line ∷ parts) ≡ whole_from more bytes) × (last_of (line ∷ parts) ≡ rest_from more bytes)) same below in
@@ -175,4 +180,5 @@ last_part_lem text =
 
 pub lines_of_lem : (text : Text) → lines_of text ≡ whole_from [] text ++ line_begun (rest_from [] text)
 unfolding lines_of
-lines_of_lem text = ap (λ lines. lines ++ line_begun (last_part text)) (whole_lines_lem text) ∙ ap (λ part. whole_from [] text ++ line_begun part) (last_part_lem text)
+lines_of_lem text = ap (λ lines. lines ++ line_begun (last_part text)) (whole_lines_lem text)
+    ∙ ap (λ part. whole_from [] text ++ line_begun part) (last_part_lem text)

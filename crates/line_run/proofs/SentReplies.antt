@@ -33,5 +33,6 @@ sent_after {a = a} d {reply = reply} waiting waiting' end (Err e) is p q none la
     subst (λ m. TookPart a d (m ++ (reply ++ end))) is (part_after p (part_after q last))
 
 -- the reply itself fails
-pub failed_reply : {a b c : SinkState} {flushed reply : Text} (waiting end : Text) → flushed ≡ waiting → Took a b flushed 0 → TookPart b c reply → TookPart a c (waiting ++ (reply ++ end))
+pub failed_reply : {a b c : SinkState} {flushed reply : Text} (waiting end : Text) → flushed ≡ waiting → Took a b flushed 0
+    → TookPart b c reply → TookPart a c (waiting ++ (reply ++ end))
 failed_reply {a} {c = c} {reply = reply} waiting end is p q = subst (λ m. TookPart a c (m ++ (reply ++ end))) is (part_after p (part_longer end q))

@@ -85,9 +85,15 @@ module _ {M : Type 0} (replies : M → Text → Text → M → Type 0) (before a
     pub took : Took sink sink' (text_of texts) 0
 
 -- what holds of each result of a run
-abbrev pub Runs : {X M : Type 0} → (M → Text → Text → M → Type 0) → ℕ → Result X ScriptFault → M → M → SourceState → SourceState → SinkState → SinkState → Type 0
-Runs replies reads (Ok x) before after source source' sink sink' = IsAnswered replies before after source source' sink sink'
-Runs replies reads (Err Read) before after source source' sink sink' = IsUnread replies before after source source' sink sink'
-Runs replies reads (Err Endless) before after source source' sink sink' = IsEndless replies before after source source' sink sink' reads
-Runs replies reads (Err Write) before after source source' sink sink' = IsUnwritten replies before after source source' sink sink'
-Runs replies reads (Err (NoMemory number)) before after source source' sink sink' = IsStarved replies before after source source' sink sink' number
+abbrev pub Runs : {X M : Type 0} → (M → Text → Text → M → Type 0) → ℕ → Result X ScriptFault → M → M
+    → SourceState → SourceState → SinkState → SinkState → Type 0
+Runs replies reads (Ok x) before after source source' sink sink' =
+    IsAnswered replies before after source source' sink sink'
+Runs replies reads (Err Read) before after source source' sink sink' =
+    IsUnread replies before after source source' sink sink'
+Runs replies reads (Err Endless) before after source source' sink sink' =
+    IsEndless replies before after source source' sink sink' reads
+Runs replies reads (Err Write) before after source source' sink sink' =
+    IsUnwritten replies before after source source' sink sink'
+Runs replies reads (Err (NoMemory number)) before after source source' sink sink' =
+    IsStarved replies before after source source' sink sink' number

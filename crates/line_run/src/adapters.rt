@@ -1,3 +1,5 @@
+//! Sources and sinks made of readers and writers.
+
 ghost use Rattle.std.specs.Prelude.{◌≡◌, ◌<◌, ◌≤◌};
 ghost use Rattle.line_run.specs.Devices.{new_source, new_sink};
 
@@ -37,7 +39,12 @@ impl<R: Read, L: Ledger> FromReader<R, L> {
 }
 
 impl<R: Read, L: Ledger> Source for FromReader<R, L> {
-    ghost state = { λ s. record { rest = R.remaining s.reader; reads = s.counts.reads.amount; ends = s.counts.ends.amount; failed = s.counts.failed.amount } };
+    ghost state = { λ s. record {
+      rest = R.remaining s.reader;
+      reads = s.counts.reads.amount;
+      ends = s.counts.ends.amount;
+      failed = s.counts.failed.amount;
+    } };
 
     fn read(&mut self, buffer: &mut [u8]) -> Result<usize, Failed> {
         self.counts.count_read();

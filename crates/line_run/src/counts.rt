@@ -1,3 +1,5 @@
+//! Counts of a device's calls, held in ledgers.
+
 ghost use Rattle.std.specs.Prelude.{◌≡◌, ◌+◌, ◌<◌, ◌≤◌};
 
 use std::sync::ledger::{Blank, Book, Ledger, Share};

@@ -1,3 +1,5 @@
+//! What can go wrong: in one call of a device, and in a run.
+
 use thiserror::Error;
 
 /// A call of a device failed.

@@ -1,3 +1,5 @@
+//! A line in a piece of text: where it ends, and whether it is blank.
+
 ghost use Rattle.std.specs.Prelude.{◌≡◌, length, MatchOption};
 ghost use Rattle.std.specs.List.{position, position_or_len};
 ghost use Rattle.line_run.specs.Lines.{is_blank as is_blank_line, is_line_feed};

@@ -1,3 +1,5 @@
+//! `Machine`: what answers lines.
+
 ghost use Rattle.std.specs.Prelude.{ℕ, List, IfOk, string_bytes};
 
 use std::alloc::{AllocError, Global};

@@ -1,3 +1,5 @@
+//! Devices over memory, whose calls can be made to fail.
+
 ghost use Rattle.std.specs.Prelude.{◌≡◌, ◌<◌, ◌≤◌, [], Some, IfOk};
 ghost use Rattle.line_run.specs.Devices.{new_source, new_sink};
 
@@ -52,7 +54,7 @@ impl<'a, L: Ledger> MemoryIn<'a, L> {
         }
     }
 
-    /// The same source, whose read of this number, from 1 on, fails.
+    /// This source, whose read of this number, from 1 on, fails.
     pub fn failing_at(mut self, read: u64) -> MemoryIn<'a, L>
         ensures { ⟦<MemoryIn<'a, L> as Source>⟧.state result ≡ ⟦<MemoryIn<'a, L> as Source>⟧.state self.entry }
     {
@@ -62,7 +64,12 @@ impl<'a, L: Ledger> MemoryIn<'a, L> {
 }
 
 impl<'a, L: Ledger> Source for MemoryIn<'a, L> {
-    ghost state = { λ s. record { rest = Some s.rest.now; reads = s.counts.reads.amount; ends = s.counts.ends.amount; failed = s.counts.failed.amount } };
+    ghost state = { λ s. record {
+      rest = Some s.rest.now;
+      reads = s.counts.reads.amount;
+      ends = s.counts.ends.amount;
+      failed = s.counts.failed.amount;
+    } };
 
     fn read(&mut self, buffer: &mut [u8]) -> Result<usize, Failed> {
         self.counts.count_read();
@@ -113,7 +120,7 @@ impl<L: Ledger> MemoryOut<L> {
         })
     }
 
-    /// The same sink, whose write of this number, from 1 on, fails.
+    /// This sink, whose write of this number, from 1 on, fails.
     pub fn failing_at(mut self, write: u64) -> MemoryOut<L>
         ensures { ⟦<MemoryOut<L> as Sink>⟧.state result ≡ ⟦<MemoryOut<L> as Sink>⟧.state self }
     {
@@ -121,7 +128,7 @@ impl<L: Ledger> MemoryOut<L> {
         self
     }
 
-    /// The same sink, whose write of this number, from 1 on, takes nothing.
+    /// This sink, whose write of this number, from 1 on, takes nothing.
     pub fn idle_at(mut self, write: u64) -> MemoryOut<L>
         ensures { ⟦<MemoryOut<L> as Sink>⟧.state result ≡ ⟦<MemoryOut<L> as Sink>⟧.state self }
     {

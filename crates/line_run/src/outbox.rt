@@ -1,6 +1,9 @@
+//! `Outbox`: replies on their way to a sink.
+
 ghost use Rattle.std.specs.Prelude.{◌≡◌, ◌≤◌, [], ◌∷◌, ◌++◌, MatchResult, MatchBool, OnOk, vec_len};
 ghost use Rattle.line_run.specs.Devices.{Took, TookPart};
 ghost use Rattle.line_run.specs.Pieces.{Sent, WritesOut};
+ghost use Rattle.line_run.specs.declared.outbox.TheConstants.{ROOM};
 
 use crate::fault::{Failed, ScriptFault};
 use crate::sink::{Sink, write_all};
@@ -13,7 +16,7 @@ const ROOM: usize = 65536;
 #[derive(Drop)]
 pub(crate) struct Outbox {
     pub(crate) waiting: Vec<u8>,
-    ghost few: { vec_len waiting ≤ 65536 },
+    ghost few: { vec_len waiting ≤ ROOM },
 }
 
 impl Outbox {
@@ -60,7 +63,8 @@ impl Outbox {
     /// Sends a reply and a line feed: they wait, or are written after all that waits.
     pub(crate) fn send<W: Sink>(&mut self, sink: &mut W, reply: &[u8]) -> Result<(), Failed>
         ensures { MatchResult result
-            (λ _. Sent (W.state sink.old) (W.state sink.new) self.old.waiting.items self.new.waiting.items (reply.now ++ 10 ∷ []))
+            (λ _. Sent (W.state sink.old) (W.state sink.new) self.old.waiting.items self.new.waiting.items
+            (reply.now ++ 10 ∷ []))
             (λ _. TookPart (W.state sink.old) (W.state sink.new) (self.old.waiting.items ++ (reply.now ++ 10 ∷ []))) }
     {
         if self.keep(reply) {

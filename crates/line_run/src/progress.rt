@@ -1,7 +1,9 @@
+//! `Progress`: a run between two reads, and how a piece of the source takes it on.
+
 ghost use Rattle.std.specs.Prelude.{◌≡◌, ◌+◌, ◌^◌, ◌<◌, [], ◌∷◌, ◌++◌, length, OnOk, OnErr, IfErr};
 ghost use Rattle.line_run.specs.Lines.{line_begun};
 ghost use Rattle.line_run.specs.declared.fault.ScriptFault.TheVariants.{NoMemory};
-ghost use Rattle.line_run.specs.Pieces.{Takes, whole_from, rest_from, count_from};
+ghost use Rattle.line_run.specs.Pieces.{standing, Takes, whole_from, rest_from, count_from};
 
 use crate::fault::ScriptFault;
 use crate::lines::{is_blank, split_line};
@@ -27,8 +29,10 @@ fn answer_line<M: Machine, W: Sink>(
     number: u128,
     line: &[u8],
 ) -> Result<(), ScriptFault>
-    ensures { Takes M.replies result machine.old machine.new (W.state sink.old) (W.state sink.new)
-        outbox.old.waiting.items outbox.new.waiting.items (line.now ∷ []) 1 number }
+    ensures { Takes M.replies result
+        (standing machine.old (W.state sink.old) outbox.old.waiting.items)
+        (standing machine.new (W.state sink.new) outbox.new.waiting.items)
+        (line.now ∷ []) 1 number }
 {
     if is_blank(line) {
         return Ok(());
@@ -79,8 +83,9 @@ impl Progress {
         bytes: &[u8],
     ) -> Result<(), ScriptFault>
         requires { self.old.lines + 1 < 2 ^ 128 }
-        ensures takes { Takes M.replies result machine.old machine.new (W.state sink.old) (W.state sink.new)
-            self.old.outbox.waiting.items self.new.outbox.waiting.items
+        ensures takes { Takes M.replies result
+            (standing machine.old (W.state sink.old) self.old.outbox.waiting.items)
+            (standing machine.new (W.state sink.new) self.new.outbox.waiting.items)
             ((self.old.begun.items ++ bytes.now) ∷ []) 1 (self.old.lines + 1) }
         ensures begun { OnOk result (self.new.begun.items ≡ []) }
         ensures lines { OnOk result (self.new.lines ≡ self.old.lines + 1) }
@@ -109,11 +114,14 @@ impl Progress {
         piece: &[u8],
     ) -> Result<(), ScriptFault>
         requires { self.old.lines + length piece.now + 1 < 2 ^ 128 }
-        ensures takes { Takes M.replies result machine.old machine.new (W.state sink.old) (W.state sink.new)
-            self.old.outbox.waiting.items self.new.outbox.waiting.items
-            (whole_from self.old.begun.items piece.now) (count_from self.old.begun.items piece.now) (self.old.lines + 1) }
+        ensures takes { Takes M.replies result
+            (standing machine.old (W.state sink.old) self.old.outbox.waiting.items)
+            (standing machine.new (W.state sink.new) self.new.outbox.waiting.items)
+            (whole_from self.old.begun.items piece.now) (count_from self.old.begun.items piece.now)
+            (self.old.lines + 1) }
         ensures begun { OnOk result (self.new.begun.items ≡ rest_from self.old.begun.items piece.now) }
-        ensures lines { OnOk result (self.new.lines ≡ self.old.lines + length (whole_from self.old.begun.items piece.now)) }
+        ensures lines { OnOk result (self.new.lines
+            ≡ self.old.lines + length (whole_from self.old.begun.items piece.now)) }
     {
         let mut rest = piece;
         while let Some((line, others)) = split_line(rest) {
@@ -132,12 +140,15 @@ impl Progress {
         piece: &[u8],
     ) -> Result<(), ScriptFault>
         requires { self.old.lines + length piece.now + 1 < 2 ^ 128 }
-        ensures takes { Takes M.replies result machine.old machine.new (W.state sink.old) (W.state sink.new)
-            self.old.outbox.waiting.items []
-            (whole_from self.old.begun.items piece.now) (count_from self.old.begun.items piece.now) (self.old.lines + 1) }
+        ensures takes { Takes M.replies result
+            (standing machine.old (W.state sink.old) self.old.outbox.waiting.items)
+            (standing machine.new (W.state sink.new) [])
+            (whole_from self.old.begun.items piece.now) (count_from self.old.begun.items piece.now)
+            (self.old.lines + 1) }
         ensures outbox { OnOk result (self.new.outbox.waiting.items ≡ []) }
         ensures begun { OnOk result (self.new.begun.items ≡ rest_from self.old.begun.items piece.now) }
-        ensures lines { OnOk result (self.new.lines ≡ self.old.lines + length (whole_from self.old.begun.items piece.now)) }
+        ensures lines { OnOk result (self.new.lines
+            ≡ self.old.lines + length (whole_from self.old.begun.items piece.now)) }
     {
         let taken = self.take_lines(alloc, machine, sink, piece);
         self.outbox.write_out(sink, taken)
@@ -151,8 +162,10 @@ impl Progress {
         sink: &mut W,
     ) -> Result<(), ScriptFault>
         requires { self.old.lines + 1 < 2 ^ 128 }
-        ensures { Takes M.replies result machine.old machine.new (W.state sink.old) (W.state sink.new)
-            self.old.outbox.waiting.items [] (line_begun self.old.begun.items) (length (line_begun self.old.begun.items)) (self.old.lines + 1) }
+        ensures { Takes M.replies result
+            (standing machine.old (W.state sink.old) self.old.outbox.waiting.items)
+            (standing machine.new (W.state sink.new) [])
+            (line_begun self.old.begun.items) (length (line_begun self.old.begun.items)) (self.old.lines + 1) }
     {
         if self.begun.is_empty() {
             return self.outbox.write_out(sink, Ok(()));

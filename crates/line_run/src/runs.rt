@@ -1,3 +1,5 @@
+//! A whole run, from the first read to the last write.
+
 ghost use Rattle.std.specs.Prelude.{◌≡◌, ◌+◌, ◌≤◌, ◌<◌, IfOk, length, vec_len};
 ghost use Rattle.line_run.specs.Run.{Runs};
 
@@ -13,7 +15,7 @@ const PIECE: usize = 65536;
 
 // Room for a piece.
 fn new_buffer(alloc: Global) -> Result<Vec<u8>, AllocError>
-    ensures { IfOk result (λ buffer. vec_len buffer ≡ 65536) }
+    ensures { IfOk result (λ buffer. vec_len buffer ≡ PIECE) }
 {
     vec![in alloc; 0u8; PIECE]
 }
@@ -28,7 +30,7 @@ fn run_with<M: Machine, R: Source, W: Sink>(
     buffer: &mut [u8],
 ) -> Result<(), ScriptFault>
     requires some { 0 < length buffer.old }
-    requires few { length buffer.old ≤ 65536 }
+    requires few { length buffer.old ≤ PIECE }
     ensures runs { Runs M.replies reads result machine.old machine.new
         (R.state source.old) (R.state source.new) (W.state sink.old) (W.state sink.new) }
     ensures bounded { (R.state source.new).reads ≤ (R.state source.old).reads + reads }

@@ -1,3 +1,5 @@
+//! `Sink`: a device that takes bytes.
+
 ghost use Rattle.std.specs.Prelude.{◌≡◌, ◌+◌, ◌≤◌, length, IfOk, MatchResult};
 ghost use Rattle.std.specs.Io.KnownBytes.{WriteAppends};
 ghost use Rattle.line_run.specs.Devices.{SinkState, CountsNothing, Took, TookPart};

@@ -1,3 +1,5 @@
+//! `Source`: a device that gives bytes.
+
 ghost use Rattle.std.specs.Prelude.{◌≡◌, ◌+◌, ◌≤◌, length, is_ok, IfOk, MatchResult, if◌then◌else◌};
 ghost use Rattle.std.specs.Io.KnownBytes.{ReadConsumes};
 ghost use Rattle.line_run.specs.Devices.{SourceState, CountsNothing};

@@ -35,14 +35,17 @@ unfolding rest_from
 rest_at_byte begun b rest is = ap (λ c. cond c (rest_from [] rest) (rest_from (begun ++ b ∷ []) rest)) is
 
 -- a line feed ends the line begun
-pub cut_feed : (before : List Text) (begun : Text) (b : ℕ) (left rest script : Text) → left ≡ b ∷ rest → is_line_feed b ≡ true → IsCutSo before begun left script → IsCutSo (before ++ begun ∷ []) [] rest script
+pub cut_feed : (before : List Text) (begun : Text) (b : ℕ) (left rest script : Text) → left ≡ b ∷ rest → is_line_feed b ≡ true
+    → IsCutSo before begun left script → IsCutSo (before ++ begun ∷ []) [] rest script
 cut_feed before begun b left rest script is feed cut = record {
-  whole = append_assoc before (begun ∷ []) (whole_from [] rest) ∙ ap (λ lines. before ++ lines) (sym (ap (λ l. whole_from begun l) is ∙ whole_at_feed begun b rest feed)) ∙ cut.whole;
+  whole = append_assoc before (begun ∷ []) (whole_from [] rest)
+      ∙ ap (λ lines. before ++ lines) (sym (ap (λ l. whole_from begun l) is ∙ whole_at_feed begun b rest feed)) ∙ cut.whole;
   rest = sym (ap (λ l. rest_from begun l) is ∙ rest_at_feed begun b rest feed) ∙ cut.rest;
 }
 
 -- another byte goes on the line begun
-pub cut_byte : (before : List Text) (begun : Text) (b : ℕ) (left rest script : Text) → left ≡ b ∷ rest → is_line_feed b ≡ false → IsCutSo before begun left script → IsCutSo before (begun ++ b ∷ []) rest script
+pub cut_byte : (before : List Text) (begun : Text) (b : ℕ) (left rest script : Text) → left ≡ b ∷ rest → is_line_feed b ≡ false
+    → IsCutSo before begun left script → IsCutSo before (begun ++ b ∷ []) rest script
 cut_byte before begun b left rest script is other cut = record {
   whole = ap (λ lines. before ++ lines) (sym (ap (λ l. whole_from begun l) is ∙ whole_at_byte begun b rest other)) ∙ cut.whole;
   rest = sym (ap (λ l. rest_from begun l) is ∙ rest_at_byte begun b rest other) ∙ cut.rest;

@@ -69,12 +69,17 @@ none_pass p (e ∷ es) none =
 abbrev told_cell : Text → List (Text × Fact) → Dims → reply.Reply
 told_cell name es dims = reply.Disallowed name (class_of (facts_of (cell_of dims es))) (map (λ e. e.0) (cell_of dims es))
 
-empty_cell : (name : Text) (es : List (Text × Fact)) (dims : Dims) → position (has_dims dims) (facts_of es) ≡ None → told_cell name es dims ≡ reply.Disallowed name Empty []
-empty_cell name es dims none = ap (λ cell. reply.Disallowed name (class_of (facts_of cell)) (map (λ e. e.0) cell)) (none_pass (has_dims dims) es (is_nowhere (has_dims dims) (facts_of es) none))
+empty_cell : (name : Text) (es : List (Text × Fact)) (dims : Dims) → position (has_dims dims) (facts_of es) ≡ None
+    → told_cell name es dims ≡ reply.Disallowed name Empty []
+empty_cell name es dims none = ap (λ cell. reply.Disallowed name (class_of (facts_of cell)) (map (λ e. e.0) cell))
+    (none_pass (has_dims dims) es (is_nowhere (has_dims dims) (facts_of es) none))
 
-pub no_place : (name : Text) (r : Report) → least_disallowed_place r.allowed (facts_of r.facts.entries) ≡ None → reply.Disallowed name Empty [] ≡ disallowed_cell name r
+pub no_place : (name : Text) (r : Report) → least_disallowed_place r.allowed (facts_of r.facts.entries) ≡ None
+    → reply.Disallowed name Empty [] ≡ disallowed_cell name r
 no_place name r none =
-    elim (least_disallowed r.allowed r.facts.entries) as (λ o. option_and_then (λ dims. position (has_dims dims) (facts_of r.facts.entries)) o ≡ None → reply.Disallowed name Empty [] ≡ option_map_or (told_cell name r.facts.entries) o (reply.Disallowed name Empty [])) [
+    elim (least_disallowed r.allowed r.facts.entries) as
+    (λ o. option_and_then (λ dims. position (has_dims dims) (facts_of r.facts.entries)) o ≡ None
+    → reply.Disallowed name Empty [] ≡ option_map_or (told_cell name r.facts.entries) o (reply.Disallowed name Empty [])) [
       | None ↦ λ _. refl
       | Some dims ↦ λ nowhere. sym (empty_cell name r.facts.entries dims nowhere)
     ] none
@@ -83,10 +88,12 @@ facts_of_shared : (fs : List Shared) → facts_of (facts_view fs) ≡ map (λ e.
 facts_of_shared [] = refl
 facts_of_shared (f ∷ fs) = ap (λ rest. arc_value f.1 ∷ rest) (facts_of_shared fs)
 
-dims_at_place : (fs : List Shared) (dims : Dims) (i : ℕ) (d : Shared) → position (has_dims dims) (facts_of (facts_view fs)) ≡ Some i → dims ≡ (arc_value (get_or fs i d).1).dims
+dims_at_place : (fs : List Shared) (dims : Dims) (i : ℕ) (d : Shared) → position (has_dims dims) (facts_of (facts_view fs)) ≡ Some i
+    → dims ≡ (arc_value (get_or fs i d).1).dims
 dims_at_place fs dims i d found =
     let test : Shared → Bool = λ e. has_dims dims (arc_value e.1) in
-    let place : position test fs ≡ Some i = sym (position_view (has_dims dims) (λ e. arc_value e.1) fs) ∙ ap (λ xs. position (has_dims dims) xs) (sym (facts_of_shared fs)) ∙ found in
+    let place : position test fs ≡ Some i = sym (position_view (has_dims dims) (λ e. arc_value e.1) fs)
+    ∙ ap (λ xs. position (has_dims dims) xs) (sym (facts_of_shared fs)) ∙ found in
     let there = is_there test fs i place in
     let low : position_or_len test fs < length fs = omega (arith, there.0, there.1) in
     let passes : has_dims dims (arc_value (get_or fs i d).1) ≡ true = subst (λ n. test (get_or fs n d) ≡ true) there.0 (passes_there test fs d low) in
@@ -97,7 +104,9 @@ pub cell_at_place : (name : Text) (r : Report) (fs : List Shared) (i : ℕ) (d :
     → facts_view fs ≡ r.facts.entries → least_disallowed_place r.allowed (facts_of r.facts.entries) ≡ Some i → dims ≡ (arc_value (get_or fs i d).1).dims
     → IsCellOf dims r.facts.entries ids facts → class ≡ class_of facts → reply.Disallowed name class ids ≡ disallowed_cell name r
 cell_at_place name r fs i d dims class ids facts same place dims_is found class_is =
-    elim (least_disallowed r.allowed r.facts.entries) as (λ o. option_and_then (λ dims. position (has_dims dims) (facts_of r.facts.entries)) o ≡ Some i → reply.Disallowed name class ids ≡ option_map_or (told_cell name r.facts.entries) o (reply.Disallowed name Empty [])) [
+    elim (least_disallowed r.allowed r.facts.entries) as
+    (λ o. option_and_then (λ dims. position (has_dims dims) (facts_of r.facts.entries)) o ≡ Some i
+    → reply.Disallowed name class ids ≡ option_map_or (told_cell name r.facts.entries) o (reply.Disallowed name Empty [])) [
       | None ↦ λ none. cc
       | Some least ↦ λ there.
           let least_is : least ≡ dims = dims_at_place fs least i d (ap (λ es. position (has_dims least) (facts_of es)) same ∙ there) ∙ sym dims_is in

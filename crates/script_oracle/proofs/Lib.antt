@@ -1,3 +1,4 @@
+-- Lists that are looked through from the front, and what is judged and told by them.
 pub mod NamedLists
 pub mod Plain
 pub mod FoundCells

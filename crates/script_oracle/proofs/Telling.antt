@@ -21,11 +21,13 @@ unfolding text_of
 text_of_more text texts = refl
 
 -- a blank line tells nothing
-pub passed_over : (state : State) (out line : Text) (later : List Text) → is_blank line ≡ true → out ++ output_of state later ≡ out ++ output_of state (line ∷ later)
+pub passed_over : (state : State) (out line : Text) (later : List Text) → is_blank line ≡ true
+    → out ++ output_of state later ≡ out ++ output_of state (line ∷ later)
 passed_over state out line later blank = ap (λ lines. out ++ text_of (replies_of line_answer state lines)) (sym (spoken_blank line later blank))
 
 -- another is answered
-pub told : (state after : State) (out first second text line feed : Text) (later : List Text) → is_blank line ≡ false → line_answer state line ≡ (text, after) → first ≡ out ++ text → second ≡ first ++ feed → feed ≡ 10 ∷ []
+pub told : (state after : State) (out first second text line feed : Text) (later : List Text) → is_blank line ≡ false
+    → line_answer state line ≡ (text, after) → first ≡ out ++ text → second ≡ first ++ feed → feed ≡ 10 ∷ []
     → second ++ output_of after later ≡ out ++ output_of state (line ∷ later)
 told state after out first second text line feed later speaks answer first_is second_is feed_is =
     let rest = output_of after later in
@@ -42,7 +44,8 @@ unfolding spoken text_of
 nothing_left state = refl
 
 -- all lines are answered
-pub all_told : (state : State) (out : Text) (table : Table) (script : Text) (left : List Text) → left ≡ [] → out ++ output_of state left ≡ output_of (start table) (lines_of script) → out ≡ script_output table script
+pub all_told : (state : State) (out : Text) (table : Table) (script : Text) (left : List Text) → left ≡ []
+    → out ++ output_of state left ≡ output_of (start table) (lines_of script) → out ≡ script_output table script
 unfolding script_output
 all_told state out table script left none so_far =
     sym (ap (λ l. out ++ output_of state l) none ∙ ap (λ t. out ++ t) (nothing_left state) ∙ append-nil out) ∙ so_far

@@ -17,7 +17,8 @@ judgement_view (Due session step names) = model.Due session (step_of step) names
 
 -- a step of the session that has the name, which leaves the names
 abbrev pub due_call : model.State → Text → Step → model.Judgement
-due_call state session step = option_map_or (λ number. model.Due (Some number) step state.names) (get state.names session) (model.Told no_session_text)
+due_call state session step = option_map_or (λ number. model.Due (Some number) step state.names)
+    (get state.names session) (model.Told no_session_text)
 
 -- a load or an opening is due only where no session is open
 abbrev pub MayBeTaken : History → model.Judgement → Type 0

@@ -1,3 +1,4 @@
+-- What the lists of the oracle are seen as, and what it comes to of a line.
 pub mod Named
 pub mod Views
 pub mod Alone

@@ -1,3 +1,5 @@
+//! `Books`: the plain repository, whose every change is a copy.
+
 ghost use Rattle.std.specs.Prelude.{◌≡◌, ◌+◌, ◌<◌, ◌^◌, Some, option_map, string_bytes, IfOk};
 ghost use Rattle.std.specs.Arc.{arc_value};
 ghost use Rattle.filing_model.specs.Repository.{nothing, report_at, fact_in, with_fact, with_fact_at, with_report};
@@ -68,7 +70,7 @@ fn with_fact(
     }))
 }
 
-/// The same reports.
+/// The reports once more.
 fn clone_reports(
     alloc: Global,
     reports: &Vec<(String, Report)>,

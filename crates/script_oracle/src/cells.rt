@@ -95,7 +95,8 @@ fn cell(
     dims: &DimSet,
     facts: &[(String, Arc<Fact>)],
 ) -> Result<(Vec<String>, Vec<Held>), AllocError>
-    ensures { IfOk result (λ told. IsCellOf dims.now (facts_view facts.now) (map string_bytes told.0.items) (map held_fact told.1.items)) }
+    ensures { IfOk result (λ told. IsCellOf dims.now (facts_view facts.now)
+        (map string_bytes told.0.items) (map held_fact told.1.items)) }
 {
     let mut ids = Vec::new(alloc);
     let mut members = Vec::new(alloc);

@@ -1,3 +1,5 @@
+//! `Judgement`: what a line comes to, before its step is taken.
+
 use crate::names::Names;
 use filing_step::Step;
 

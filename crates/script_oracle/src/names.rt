@@ -1,3 +1,5 @@
+//! `Names`: the names in use, as a list.
+
 ghost use Rattle.std.specs.Prelude.{◌≡◌, not, IfOk};
 ghost use Rattle.std.specs.List.{filter};
 ghost use Rattle.filing_model.specs.Text.{text_eq};
@@ -42,7 +44,7 @@ fn numbers_without(
     Ok(left)
 }
 
-/// The same numbers.
+/// The numbers once more.
 fn clone_numbers(
     alloc: Global,
     numbers: &Vec<(String, u64)>,

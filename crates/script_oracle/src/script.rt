@@ -1,3 +1,5 @@
+//! The lines of a script, cut byte by byte, and its whole output.
+
 ghost use Rattle.std.specs.Prelude.{◌≡◌, List, ◌∷◌, ◌++◌, string_bytes, IfOk, OnOk};
 ghost use Rattle.std.specs.Arc.{arc_value};
 ghost use Rattle.line_run.specs.Lines.{lines_of};
@@ -38,7 +40,9 @@ fn push_answer(
     line: &[u8],
     output: &mut String,
 ) -> Result<(), AllocError>
-    ensures { OnOk result ((later : List Text) → string_bytes output.new ++ output_of oracle.new later ≡ string_bytes output.old ++ output_of oracle.old (line.now ∷ later)) }
+    ensures { OnOk result ((later : List Text)
+        → string_bytes output.new ++ output_of oracle.new later ≡ string_bytes output.old
+        ++ output_of oracle.old (line.now ∷ later)) }
 {
     if is_blank(line) {
         return Ok(());

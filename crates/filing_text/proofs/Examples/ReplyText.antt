@@ -26,7 +26,11 @@ a_large_number = refl
 pub no_fact : reply_text Absent ≡ codes "[\"none\"]"
 no_fact = refl
 
-pub a_number : reply_text (Found (record { dims = (codes "concept", Some (codes "ex:Assets")) ∷ []; value = Number (codes "1000") (pos 1000000000000000) (Some (negsuc 2)); links = None }))
+pub a_number : reply_text (Found (record {
+  dims = (codes "concept", Some (codes "ex:Assets")) ∷ [];
+  value = Number (codes "1000") (pos 1000000000000000) (Some (negsuc 2));
+  links = None;
+}))
     ≡ codes "[\"fact\",{\"decimals\":-3,\"dimensions\":{\"concept\":\"ex:Assets\"},\"value\":\"1000\"}]"
 unfolding filing_on_literals
 a_number = refl
@@ -64,19 +68,23 @@ pub an_identifier_was_added : reply_text (Conflict 2 (thing.Id (codes "acme") (c
 unfolding filing_on_literals
 an_identifier_was_added = refl
 
-pub a_cell_was_changed : reply_text (Conflict 3 (thing.Cell (codes "acme") assets)) ≡ codes "[\"conflict\",3,[\"cell\",\"acme\",{\"concept\":\"ex:Assets\",\"ex:d\":null}]]"
+pub a_cell_was_changed : reply_text (Conflict 3 (thing.Cell (codes "acme") assets))
+    ≡ codes "[\"conflict\",3,[\"cell\",\"acme\",{\"concept\":\"ex:Assets\",\"ex:d\":null}]]"
 unfolding filing_on_literals
 a_cell_was_changed = refl
 
-pub a_query_of_any_period : reply_text (Conflict 4 (thing.Query (codes "acme") (codes "ex:Assets") None)) ≡ codes "[\"conflict\",4,[\"query\",\"acme\",\"ex:Assets\",null]]"
+pub a_query_of_any_period : reply_text (Conflict 4 (thing.Query (codes "acme") (codes "ex:Assets") None))
+    ≡ codes "[\"conflict\",4,[\"query\",\"acme\",\"ex:Assets\",null]]"
 unfolding filing_on_literals
 a_query_of_any_period = refl
 
-pub a_query_of_one_period : reply_text (Conflict 4 (thing.Query (codes "acme") (codes "ex:Assets") (Some (codes "2024")))) ≡ codes "[\"conflict\",4,[\"query\",\"acme\",\"ex:Assets\",\"2024\"]]"
+pub a_query_of_one_period : reply_text (Conflict 4 (thing.Query (codes "acme") (codes "ex:Assets") (Some (codes "2024"))))
+    ≡ codes "[\"conflict\",4,[\"query\",\"acme\",\"ex:Assets\",\"2024\"]]"
 unfolding filing_on_literals
 a_query_of_one_period = refl
 
-pub a_disallowed_cell : reply_text (Disallowed (codes "acme") class.Inconsistent (codes "f1" ∷ codes "f2" ∷ [])) ≡ codes "[\"disallowed\",\"acme\",\"inconsistent\",[\"f1\",\"f2\"]]"
+pub a_disallowed_cell : reply_text (Disallowed (codes "acme") class.Inconsistent (codes "f1" ∷ codes "f2" ∷ []))
+    ≡ codes "[\"disallowed\",\"acme\",\"inconsistent\",[\"f1\",\"f2\"]]"
 unfolding filing_on_literals
 a_disallowed_cell = refl
 

@@ -35,9 +35,11 @@ two_lines = refl
 abbrev load_r1 : Text
 load_r1 = codes "[\"load\",\"r1\",{\"documentInfo\":{\"documentType\":\"https://xbrl.org/2021/xbrl-json\",\"namespaces\":{\"ex\":\"http://e.org/t\"}}}]"
 
--- the same with these facts, as it is exported
+-- the report r1 with these facts, as it is exported
 abbrev exported_r1 : Text → Text
-exported_r1 facts = codes "[\"report\",{\"documentInfo\":{\"documentType\":\"https://xbrl.org/2021/xbrl-json\",\"namespaces\":{\"ex\":\"http://e.org/t\"}},\"facts\":{" ++ (facts ++ codes "}}]")
+exported_r1 facts =
+    codes "[\"report\",{\"documentInfo\":{\"documentType\":\"https://xbrl.org/2021/xbrl-json\",\"namespaces\":{\"ex\":\"http://e.org/t\"}},\"facts\":{"
+    ++ (facts ++ codes "}}]")
 
 abbrev open_s1 : Text
 open_s1 = codes "[\"open\",\"s1\",\"amend\"]"
@@ -105,13 +107,15 @@ unfolding line_answer line_of filing_on_literals
 names_and_reports_first = refl
 
 -- a fact that is refused is found before a name that is not in use
-pub fact_first : told (codes "[\"add\",\"s1\",\"r1\",\"a\",{\"value\":\"1\"}]" ∷ codes "[\"add\",\"s1\",\"r1\",\"a\",{\"value\":\"1\",\"dimensions\":{\"concept\":\"ex:Name\"}}]" ∷ [])
+pub fact_first : told
+    (codes "[\"add\",\"s1\",\"r1\",\"a\",{\"value\":\"1\"}]" ∷ codes "[\"add\",\"s1\",\"r1\",\"a\",{\"value\":\"1\",\"dimensions\":{\"concept\":\"ex:Name\"}}]" ∷ [])
     ≡ codes "[\"bad-fact\",\"wrong-shape\"]" ∷ codes "[\"no-session\"]" ∷ []
 unfolding line_answer line_of filing_on_literals
 fact_first = refl
 
 -- a report may be given as its text, after one byte order mark; it is exported as it is written
-pub report_as_text : told (codes "[\"load\",\"r1\",\"\\ufeff{\\\"documentInfo\\\":{\\\"namespaces\\\":{\\\"ex\\\":\\\"http://e.org/t\\\"},\\\"documentType\\\":\\\"https://xbrl.org/2021/xbrl-json\\\"}}\"]"
+pub report_as_text : told
+    (codes "[\"load\",\"r1\",\"\\ufeff{\\\"documentInfo\\\":{\\\"namespaces\\\":{\\\"ex\\\":\\\"http://e.org/t\\\"},\\\"documentType\\\":\\\"https://xbrl.org/2021/xbrl-json\\\"}}\"]"
     ∷ codes "[\"export\",\"r1\"]"
     ∷ codes "[\"export\",\"r2\"]"
     ∷ [])
@@ -151,7 +155,8 @@ exports = refl
 -- a load of a report with further members of `documentInfo` and with facts
 abbrev pub load_with : Text → Text → Text
 load_with members facts =
-    codes "[\"load\",\"r1\",{\"documentInfo\":{\"documentType\":\"https://xbrl.org/2021/xbrl-json\"" ++ (members ++ (codes "},\"facts\":" ++ (facts ++ codes "}]")))
+    codes "[\"load\",\"r1\",{\"documentInfo\":{\"documentType\":\"https://xbrl.org/2021/xbrl-json\""
+    ++ (members ++ (codes "},\"facts\":" ++ (facts ++ codes "}]")))
 
 -- the prefix ex is bound
 abbrev pub bound : Text
@@ -182,10 +187,13 @@ unfolding line_answer line_of filing_on_literals
 refused_reports = refl
 
 -- a report that disobeys its allowed duplicates is refused as a step, after its name
-pub disallowed_loads : told (load_with (codes ",\"features\":{\"xbrl:allowedDuplicates\":\"complete\"}" ++ bound) (codes "{\"a\":{\"value\":\"1000\",\"decimals\":-3,\"dimensions\":{\"concept\":\"ex:Assets\"}},\"b\":{\"value\":\"2000\",\"decimals\":-3,\"dimensions\":{\"concept\":\"ex:Assets\"}}}")
-    ∷ load_with (codes ",\"features\":{\"xbrl:allowedDuplicates\":\"none\"}" ++ bound) (codes "{\"a\":{\"value\":\"x\",\"dimensions\":{\"concept\":\"ex:Name\"}},\"b\":{\"value\":\"x\",\"dimensions\":{\"concept\":\"ex:Name\"}}}")
+pub disallowed_loads : told (load_with (codes ",\"features\":{\"xbrl:allowedDuplicates\":\"complete\"}" ++ bound)
+    (codes "{\"a\":{\"value\":\"1000\",\"decimals\":-3,\"dimensions\":{\"concept\":\"ex:Assets\"}},\"b\":{\"value\":\"2000\",\"decimals\":-3,\"dimensions\":{\"concept\":\"ex:Assets\"}}}")
+    ∷ load_with (codes ",\"features\":{\"xbrl:allowedDuplicates\":\"none\"}" ++ bound)
+    (codes "{\"a\":{\"value\":\"x\",\"dimensions\":{\"concept\":\"ex:Name\"}},\"b\":{\"value\":\"x\",\"dimensions\":{\"concept\":\"ex:Name\"}}}")
     ∷ load_r1
-    ∷ load_with (codes ",\"features\":{\"xbrl:allowedDuplicates\":\"none\"}" ++ bound) (codes "{\"a\":{\"value\":\"x\",\"dimensions\":{\"concept\":\"ex:Name\"}},\"b\":{\"value\":\"x\",\"dimensions\":{\"concept\":\"ex:Name\"}}}")
+    ∷ load_with (codes ",\"features\":{\"xbrl:allowedDuplicates\":\"none\"}" ++ bound)
+    (codes "{\"a\":{\"value\":\"x\",\"dimensions\":{\"concept\":\"ex:Name\"}},\"b\":{\"value\":\"x\",\"dimensions\":{\"concept\":\"ex:Name\"}}}")
     ∷ [])
     ≡ codes "[\"disallowed\",\"r1\",\"consistent\",[\"a\",\"b\"]]"
     ∷ codes "[\"disallowed\",\"r1\",\"complete\",[\"a\",\"b\"]]"
@@ -196,7 +204,8 @@ unfolding line_answer line_of filing_on_literals
 disallowed_loads = refl
 
 -- numbers whose intervals meet pass, and others are refused at the commit
-pub disallowed_commit : told (load_with (codes ",\"features\":{\"xbrl:allowedDuplicates\":\"consistent\"}" ++ bound) (codes "{\"a\":{\"value\":\"1000\",\"decimals\":-3,\"dimensions\":{\"concept\":\"ex:Assets\"}}}")
+pub disallowed_commit : told (load_with (codes ",\"features\":{\"xbrl:allowedDuplicates\":\"consistent\"}" ++ bound)
+    (codes "{\"a\":{\"value\":\"1000\",\"decimals\":-3,\"dimensions\":{\"concept\":\"ex:Assets\"}}}")
     ∷ open_s1
     ∷ codes "[\"add\",\"s1\",\"r1\",\"b\",{\"value\":\"1500\",\"dimensions\":{\"concept\":\"ex:Assets\"}}]"
     ∷ codes "[\"commit\",\"s1\"]"
@@ -258,6 +267,7 @@ unfolding line_answer line_of filing_on_literals
 bad_lines = refl
 
 -- a line that takes no step is in no history, an export neither
-pub history_of_steps : length (script_history table (codes "[]\n[\"export\",\"r1\"]\n[\"open\",\"s1\",\"amend\"]\n[\"open\",\"s1\",\"amend\"]\n[\"close\",\"s1\"]")) ≡ 2
+pub history_of_steps : length (script_history table
+    (codes "[]\n[\"export\",\"r1\"]\n[\"open\",\"s1\",\"amend\"]\n[\"open\",\"s1\",\"amend\"]\n[\"close\",\"s1\"]")) ≡ 2
 unfolding script_history whole_lines last_part lines_of spoken line_answer line_of filing_on_literals
 history_of_steps = refl

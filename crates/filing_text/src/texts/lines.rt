@@ -1,3 +1,5 @@
+//! The replies of one word, to lines that come to no step.
+
 ghost use Rattle.std.specs.Prelude.{◌≡◌};
 ghost use Rattle.filing_text.specs.ReplyText.{bad_line_text, name_in_use_text, no_session_text};
 

@@ -1,3 +1,5 @@
+//! The texts of replies to steps.
+
 ghost use Rattle.std.specs.Prelude.{◌≡◌, ◌++◌, false, map, OnOk, IfOk, string_bytes, codes, decimal};
 ghost use Rattle.json.specs.Print.{quoted};
 ghost use Rattle.filing_step.specs.Steps.{reply_of};
@@ -36,7 +38,8 @@ fn push_texts(out: &mut String, texts: &[String]) -> Result<(), AllocError>
 
 /// Appends the array of a word and a number.
 fn push_numbered(out: &mut String, opening: &str, number: u64) -> Result<(), AllocError>
-    ensures { OnOk result (string_bytes out.new ≡ string_bytes out.old ++ (opening.now ++ (decimal number ++ codes "]"))) }
+    ensures { OnOk result (string_bytes out.new ≡ string_bytes out.old
+        ++ (opening.now ++ (decimal number ++ codes "]"))) }
 {
     out.push_str(opening)?;
     push_number(out, number)?;
@@ -45,7 +48,8 @@ fn push_numbered(out: &mut String, opening: &str, number: u64) -> Result<(), All
 
 /// Appends the array of a fact that was found.
 fn push_found(out: &mut String, fact: &Fact) -> Result<(), AllocError>
-    ensures { OnOk result (string_bytes out.new ≡ string_bytes out.old ++ (codes "[\"fact\"," ++ (fact_text fact.now ++ codes "]"))) }
+    ensures { OnOk result (string_bytes out.new ≡ string_bytes out.old
+        ++ (codes "[\"fact\"," ++ (fact_text fact.now ++ codes "]"))) }
 {
     out.push_str("[\"fact\",")?;
     push_fact(out, fact)?;
@@ -54,7 +58,9 @@ fn push_found(out: &mut String, fact: &Fact) -> Result<(), AllocError>
 
 /// Appends a class with its identifiers, which end an array.
 fn push_classed(out: &mut String, class: Class, ids: &[String]) -> Result<(), AllocError>
-    ensures { OnOk result (string_bytes out.new ≡ string_bytes out.old ++ (word_text (class_word class) ++ (codes "," ++ (texts_text (map string_bytes ids.now) ++ codes "]")))) }
+    ensures { OnOk result (string_bytes out.new ≡ string_bytes out.old
+        ++ (word_text (class_word class) ++ (codes ","
+        ++ (texts_text (map string_bytes ids.now) ++ codes "]")))) }
 {
     push_word(out, class_word(class))?;
     out.push_str(",")?;
@@ -69,7 +75,8 @@ fn push_disallowed(
     class: Class,
     ids: &[String],
 ) -> Result<(), AllocError>
-    ensures { OnOk result (string_bytes out.new ≡ string_bytes out.old ++ reply_text (Disallowed name.now class (map string_bytes ids.now))) }
+    ensures { OnOk result (string_bytes out.new ≡ string_bytes out.old
+        ++ reply_text (Disallowed name.now class (map string_bytes ids.now))) }
 {
     out.push_str("[\"disallowed\",")?;
     push_quoted(out, name)?;

@@ -1,3 +1,5 @@
+//! The words for classes and for faults of facts.
+
 ghost use Rattle.std.specs.Prelude.{◌≡◌};
 ghost use Rattle.filing_text.specs.ReplyText.{class_word, dim_fault_word, fact_fault_word, trouble_word};
 

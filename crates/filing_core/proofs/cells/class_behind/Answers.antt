@@ -15,5 +15,6 @@ each_is_itself (f ∷ given) = ap (λ fs. arc_value f.now ∷ fs) (each_is_itsel
 pub returns : goal.returns
 returns c =
     let (given, (end, (last, given_by, over)), class) = c.class_over.ensures in
-    let all = items_from_drains given (last, given_by, λ _. (end, over)) (YieldsList-from_copied (YieldsList-from_slice c.args.facts.now (ap iter_rest c.copied.ensures.source ∙ c.iter.ensures.rest))) in
+    let all = items_from_drains given (last, given_by, λ _. (end, over))
+    (YieldsList-from_copied (YieldsList-from_slice c.args.facts.now (ap iter_rest c.copied.ensures.source ∙ c.iter.ensures.rest))) in
     class ∙ ap class_of (each_is_itself given ∙ ap facts_behind all)

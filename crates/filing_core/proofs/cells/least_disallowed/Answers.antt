@@ -13,6 +13,7 @@ pub returns-then-matches : goal.returns-then-matches
 returns-then-matches c =
     let entries = keyed arc_value c.args.facts.now in
     elim c.match-matches.branch [
-      | in-All w ↦ sym (ap (λ a. least_disallowed a entries) w.in-All.is ∙ (obeys_where_no_cell_is_disallowed All entries).0 (pairs_always (λ f g. true) (λ f g. refl) (facts_of entries)))
+      | in-All w ↦ sym (ap (λ a. least_disallowed a entries) w.in-All.is
+          ∙ (obeys_where_no_cell_is_disallowed All entries).0 (pairs_always (λ f g. true) (λ f g. refl) (facts_of entries)))
       | in_default w ↦ absurd (true≢false (sym c.if-matches.true ∙ w.matches-is))
     ]

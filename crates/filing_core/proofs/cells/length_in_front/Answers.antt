@@ -10,4 +10,5 @@ pub returns-clause-count : goal.returns-clause-count
 returns-clause-count c =
     c.unwrap_or.ensures
     ∙ place_or_length c.args.dims.now c.args.facts.now c.position.result
-    (position_from_yields_List (λ x. has_other_dims c.args.dims.now (arc_value x.now)) _ _ c.position.result c.position.ensures.ran (YieldsList-from_slice c.args.facts.now c.iter.ensures.rest) (λ x b q k. search rules))
+    (position_from_yields_List (λ x. has_other_dims c.args.dims.now (arc_value x.now)) _ _ c.position.result c.position.ensures.ran
+    (YieldsList-from_slice c.args.facts.now c.iter.ensures.rest) (λ x b q k. search rules))

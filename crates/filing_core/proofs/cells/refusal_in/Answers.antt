@@ -12,6 +12,7 @@ returns-in-None c = λ r allowed facts.
 
 pub returns-in_ok-cell-in-Some : goal.returns-in_ok-cell-in-Some
 returns-in_ok-cell-in-Some c = λ r allowed facts.
-    refused_where_some r c.args.allowed (keyed arc_value c.args.facts.now) c.in-Some.dims.now c.in_ok-cell-in-Some.field-0.0 (map string_bytes c.in_ok-cell-in-Some.field-0.1.items) (record { allowed = allowed; facts = facts })
+    refused_where_some r c.args.allowed (keyed arc_value c.args.facts.now) c.in-Some.dims.now c.in_ok-cell-in-Some.field-0.0
+    (map string_bytes c.in_ok-cell-in-Some.field-0.1.items) (record { allowed = allowed; facts = facts })
     (sym c.in_ok-least_disallowed.ensures ∙ ap (option_map (λ d. d.now)) c.in-Some.is)
     c.in_ok-cell-in-Some.ensures.class c.in_ok-cell-in-Some.ensures.ids

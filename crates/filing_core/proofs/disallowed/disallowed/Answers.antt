@@ -7,7 +7,8 @@ use Rattle.filing_core.proofs.disallowed.disallowed.Goals as goal
 pub returns-in_ok-from_str-in-Some : goal.returns-in_ok-from_str-in-Some
 returns-in_ok-from_str-in-Some c =
     (λ i. Some (Disallowed (c.in_ok-from_str-in-Some.ensures.ok i) c.in-Some.class (map string_bytes c.in-Some.ids.items)))
-    ∙ ap (λ o. option_map (λ cell. Disallowed c.args.name.now cell.0 cell.1) (option_map (λ told. (told.0, map string_bytes told.1.items)) o)) (sym c.in-Some.is)
+    ∙ ap (λ o. option_map (λ cell. Disallowed c.args.name.now cell.0 cell.1)
+    (option_map (λ told. (told.0, map string_bytes told.1.items)) o)) (sym c.in-Some.is)
     ∙ refusal_by c.args.report.now c.args.name.now _ (c.in_ok-class.ensures c.args.report.now (sym c.allowed.ensures) (sym c.facts.ensures))
 
 pub returns-in-None : goal.returns-in-None

@@ -8,4 +8,5 @@ loop-rest-init g c = up_to_none _ _
 
 pub loop-rest-preserved : goal.loop-rest-preserved
 loop-rest-preserved g c =
-    up_to_more c.in_ok-count.count c.loop-rest.invariant c.in_ok-count.ensures.bytes (c.in_ok-count.ensures.failed.something (omega arith)) (grind (arith, common_steps))
+    up_to_more c.in_ok-count.count c.loop-rest.invariant c.in_ok-count.ensures.bytes (c.in_ok-count.ensures.failed.something (omega arith))
+    (grind (arith, common_steps))

@@ -11,7 +11,8 @@ loop-id-preserved c =
 
 pub returns : goal.returns
 returns c =
-    let begun : laid_entries (keyed arc_value c.into_iter-id-iterator.result) c.args.self ≡ laid_entries (keyed arc_value c.added.inside.facts.entries) c.args.self =
+    let begun : laid_entries (keyed arc_value c.into_iter-id-iterator.result) c.args.self
+    ≡ laid_entries (keyed arc_value c.added.inside.facts.entries) c.args.self =
     λ i. laid_entries (keyed arc_value (c.into_iter-id-iterator.ensures.into_iter_gives.0 i)) c.args.self in
     laid_end arc_value _ _ _ _ c.in-None.ensures.steps.0 c.into_iter-id-iterator.ensures.into_iter_gives.5 (c.loop-id.invariant ∙ begun)
     ∙ ap (λ m. laid m c.args.self) c.added.view_is

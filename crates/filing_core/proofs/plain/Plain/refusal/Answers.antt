@@ -23,7 +23,8 @@ returns-in-Some-2 c =
     ∙ ap (λ v. v.reports.entries) c.self.view_is in
     told c.args.staged.now _ _ _ (string_bytes c.in-Some.name.now, arc_value c.in-Some.report.now) (refusal_told c.in-Some-2.cell)
     (ap (λ es. keyed arc_value es) c.in-Some.ensures.steps)
-    (ap (λ o. option_map refusal_told o) (sym c.in-Some-2.is) ∙ c.in_ok-cell.ensures ∙ (λ i. report_refusal (c.deref-then-is_some.ensures i) (c.deref-then-is_some-2.ensures i)))
+    (ap (λ o. option_map refusal_told o) (sym c.in-Some-2.is) ∙ c.in_ok-cell.ensures
+    ∙ (λ i. report_refusal (c.deref-then-is_some.ensures i) (c.deref-then-is_some-2.ensures i)))
     c.loop-name.invariant
     ∙ ap first_refusal all
 

@@ -8,4 +8,5 @@ use Rattle.filing_core.proofs.plain.Plain.with.Given as goal
 
 -- what is left, with its facts and over what there is, comes to the same at each turn
 abbrev pub invariant-loop-name : goal.invariant-loop-name
-invariant-loop-name l = laid_entries (each_with l.staged (keyed arc_value l.name-iterator)) (keyed_map arc_value l.reports.entries) ≡ laid_entries (each_with l.staged (keyed arc_value l.initial.name-iterator)) empty
+invariant-loop-name l = laid_entries (each_with l.staged (keyed arc_value l.name-iterator)) (keyed_map arc_value l.reports.entries)
+    ≡ laid_entries (each_with l.staged (keyed arc_value l.initial.name-iterator)) empty

@@ -16,11 +16,13 @@ if_err (Err e) f p = f p
 pub returns-in-Some-clause-ok : goal.returns-in-Some-clause-ok
 returns-in-Some-clause-ok c =
     if_ok c.insert.result (λ same.
-    staged_more c.self.inside.reports.entries _ c.args.name.now c.in-Some.facts.now c.insert.new.self (c.get_mut.follows.holds c.insert.new.self).0 c.in-Some.ensures.value _ _ same
+    staged_more c.self.inside.reports.entries _ c.args.name.now c.in-Some.facts.now c.insert.new.self
+    (c.get_mut.follows.holds c.insert.new.self).0 c.in-Some.ensures.value _ _ same
     ∙ ap (λ s. staged_with s c.args.name.now (string_bytes c.args.id) (arc_value c.args.fact)) c.self.view_is) c.insert.ensures.ok
 
 pub returns-in-Some-clause-err : goal.returns-in-Some-clause-err
 returns-in-Some-clause-err c =
     if_err c.insert.result (λ same.
-    staged_same c.self.inside.reports.entries _ c.args.name.now c.in-Some.facts.now c.insert.new.self (c.get_mut.follows.holds c.insert.new.self).0 c.in-Some.ensures.value same
+    staged_same c.self.inside.reports.entries _ c.args.name.now c.in-Some.facts.now c.insert.new.self
+    (c.get_mut.follows.holds c.insert.new.self).0 c.in-Some.ensures.value same
     ∙ c.self.view_is) c.insert.ensures.err

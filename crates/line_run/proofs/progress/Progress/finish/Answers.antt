@@ -11,4 +11,5 @@ returns-then-is_empty g c =
 pub returns : goal.returns
 returns g c =
     let some : 0 < length c.args.self.now.begun.items = omega (arith, false-eqb _ 0 c.if-is_empty.ensures, c.args.self.now.begun.ok.0) in
-    takes_out g.M.Machine.replies _ _ _ _ _ _ _ _ _ _ _ _ (finished_some g.M.Machine.replies _ _ _ _ _ _ _ _ _ some c.end_line-taken.ensures.takes) c.write_out-2.ensures.written
+    takes_out g.M.Machine.replies _ _ _ _ _ _ _ _ _ _
+    (finished_some g.M.Machine.replies _ _ _ _ _ some c.end_line-taken.ensures.takes) c.write_out-2.ensures.written
