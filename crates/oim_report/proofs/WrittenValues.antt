@@ -163,9 +163,17 @@ same_json i j h =
     let same : ◌≡◌ {A = Option (json.Json × List Token)} (Some (i, [])) (Some (j, [])) = sym one ∙ ap (λ ts. json.value n (ts ++ [])) h ∙ other in
     ap (λ o. elim o as (λ _. json.Json) [ None ↦ i | Some p ↦ p.0 ]) same
 
-pub read_back : (d : Data) (text : Text) → Reads d → text ≡ compact_text d → NestsWithin max_depth text → json_of text ≡ Some d
+-- the text of a value is JSON: its tokens are those of the value's outline, which is read to its end
+pub read_back : (d : Data) (text : Text) → Reads d → text ≡ compact_text d → NestsWithin max_depth text
+    → json_of text ≡ Some d
 read_back d text reads is nests =
-    let written : tokens text ≡ json_tokens (outline d) = ap tokens (is ∙ sym (print-outline d)) ∙ tokens-print (json_tokens (outline d)) (ArePrintable-json_tokens (outline d) reads.numbers) in
-    let same : nests.json ≡ outline d = same_json _ _ (sym nests.tokens ∙ written) in
-    let value : json.value max_depth (tokens text) ≡ Some (nests.json, []) = ap (json.value max_depth) (nests.tokens ∙ sym (append-nil (json_tokens nests.json))) ∙ value-json_tokens nests.json max_depth [] nests.shallow in
-    json_of-Some text d (nests.utf8, ap (λ o. option_and_then of_json (option_and_then (λ p. json.if_last p.0 p.1) o)) value ∙ ap of_json same ∙ reads.back)
+    let written : tokens text ≡ json_tokens (outline d) =
+    ap tokens (is ∙ sym (print-outline d))
+    ∙ tokens-print (json_tokens (outline d)) (ArePrintable-json_tokens (outline d) reads.numbers) in
+    let value : json.value max_depth (tokens text) ≡ Some (outline d, []) =
+    ap (json.value max_depth) (written ∙ sym (append-nil (json_tokens (outline d))))
+    ∙ value-json_tokens (outline d) max_depth [] (nests.shallow (outline d) written) in
+    json_of-Some text d (
+      nests.utf8,
+      ap (λ o. option_and_then of_json (option_and_then (λ p. json.if_last p.0 p.1) o)) value ∙ reads.back,
+    )

@@ -1,4 +1,4 @@
--- What is written is read back. `serde_json` reads texts that nest at most 127 deep (`max_depth`).
+-- What is written is JSON, and is read back. `serde_json` reads texts that nest at most `max_depth` deep, which is 127.
 use Rattle.std.specs.Prelude.{◌≡◌, Some, Ok}
 use Rattle.serde_json.specs.Data.{Data}
 use Rattle.serde_json.specs.Read.{max_depth}
