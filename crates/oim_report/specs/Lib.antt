@@ -8,3 +8,4 @@ pub mod Nesting
 pub mod JsonValues
 pub mod ReadBack
 pub mod Pieces
+pub mod Appended

@@ -5,6 +5,7 @@ ghost use Rattle.json.specs.Print.{quoted};
 ghost use Rattle.serde_json.specs.Written.{comma_if};
 ghost use Rattle.filing_model.specs.Writing.{decimals_text, nullable_text};
 ghost use Rattle.oim_fact.specs.Texts.{text_of};
+ghost use Rattle.oim_report.specs.Appended.{IsFrontAppended};
 
 use json::Writer;
 use std::alloc::{AllocError, Global};
@@ -24,7 +25,8 @@ fn quoted_text(alloc: Global, text: &str) -> Result<String, AllocError>
 
 /// Appends a text as a JSON text.
 pub fn push_quoted(out: &mut String, text: &str) -> Result<(), AllocError>
-    ensures { OnOk result (string_bytes out.new ≡ string_bytes out.old ++ quoted text.now) }
+    ensures text { OnOk result (string_bytes out.new ≡ string_bytes out.old ++ quoted text.now) }
+    ensures front { IsFrontAppended (string_bytes out.old) (string_bytes out.new) (quoted text.now) }
 {
     let quoted = quoted_text(*out.allocator(), text)?;
     out.push_str(&quoted)
@@ -32,14 +34,16 @@ pub fn push_quoted(out: &mut String, text: &str) -> Result<(), AllocError>
 
 /// Appends a comma, where something stands before.
 pub fn push_comma(out: &mut String, later: bool) -> Result<(), AllocError>
-    ensures { OnOk result (string_bytes out.new ≡ string_bytes out.old ++ comma_if later) }
+    ensures text { OnOk result (string_bytes out.new ≡ string_bytes out.old ++ comma_if later) }
+    ensures front { IsFrontAppended (string_bytes out.old) (string_bytes out.new) (comma_if later) }
 {
     if later { out.push_str(",") } else { Ok(()) }
 }
 
 /// Appends a JSON text, or null.
 pub fn push_nullable(out: &mut String, text: &Option<String>) -> Result<(), AllocError>
-    ensures { OnOk result (string_bytes out.new ≡ string_bytes out.old ++ nullable_text (text_of text.now)) }
+    ensures text { OnOk result (string_bytes out.new ≡ string_bytes out.old ++ nullable_text (text_of text.now)) }
+    ensures front { IsFrontAppended (string_bytes out.old) (string_bytes out.new) (nullable_text (text_of text.now)) }
 {
     match text {
         None => out.push_str("null"),
@@ -49,10 +53,14 @@ pub fn push_nullable(out: &mut String, text: &Option<String>) -> Result<(), Allo
 
 /// Appends the member `decimals` with the comma after it, where there is one.
 pub(crate) fn push_decimals(out: &mut String, decimals: &Option<i64>) -> Result<(), AllocError>
-    ensures { OnOk result (string_bytes out.new ≡ string_bytes out.old ++ decimals_text decimals.now) }
+    ensures text { OnOk result (string_bytes out.new ≡ string_bytes out.old ++ decimals_text decimals.now) }
+    ensures front { IsFrontAppended (string_bytes out.old) (string_bytes out.new) (decimals_text decimals.now) }
 {
     match decimals {
         None => Ok(()),
-        Some(decimals) => write!(out, "\"decimals\":{decimals},"),
+        Some(decimals) => {
+            let member = format!(in *out.allocator(); "\"decimals\":{decimals},")?;
+            out.push_str(&member)
+        }
     }
 }
