@@ -1,4 +1,4 @@
--- A numeric table that is sorted with no row asked_twice is the table of its rows.
+-- A numeric table that is sorted with no row twice is the table of its rows.
 use Rattle.std.proofs.Common.{◌≡◌, ◌∙◌, ap, sym, refl, subst, ℕ, Bool, true, false, ◌&&◌, ◌||◌, cond, T, List, [], ◌∷◌, map, fold, Option, Some, None, is_some, Less, Equal, Greater, is_lt, true≢false, IsPermutation, String, string_bytes, Result, is_ok, length}
 use Rattle.std.specs.Cmp.{first_so, second_so, tied_then}
 use Rattle.std.specs.Cmp.Lexicographic.{texts_ties, same_text}

@@ -20,7 +20,7 @@ module _ {P K X : Type 0} (R : K → K → Ordering) (o : IsTotalOrder R) (entry
   turned : (x y : K) → R x y ≡ Less → R y x ≡ Greater
   turned x y l = o.antisymm y x ∙ ap ordering_reverse l
 
-  -- no element is less_from_is_lt than the one before it
+  -- no element is less than the one before it
   pub IsSortedBy-entries : (ps : List P) → T (is_sorted R (entries ps)) → IsSortedBy (λ a b. is_lt (R (entry a).0 (entry b).0)) ps
   IsSortedBy-entries [] h k d low high = absurd (omega arith)
   IsSortedBy-entries (p ∷ ps) h zero d low high = ap is_lt (turned _ _ (below_at (entry p).0 ps 0 d (first_holds _ _ h) (omega arith)))

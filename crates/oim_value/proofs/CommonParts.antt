@@ -38,7 +38,7 @@ to_common_low i j low x l p q = omega (arith, ints, clamps)
 to_common_high : (i j : Interval) (high x : ℤ) → high ≡ int_min i.high j.high → x ≤ℤ i.high → x ≤ℤ j.high → x ≤ℤ high
 to_common_high i j high x h p q = omega (arith, ints, clamps)
 
--- a number is in the common part just where it is in and_parts
+-- a number is in the common part just where it is in both
 pub common_part : (i j : Interval) (low high : ℤ) → low ≡ int_max i.low j.low → high ≡ int_min i.high j.high → (x : ℤ) → IsWithin (record { low = low; high = high }) x ↔ (IsWithin i x × IsWithin j x)
 common_part i j low high l h x = (
   λ (p, q). from_common i j low high x l h p q,

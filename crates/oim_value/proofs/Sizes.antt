@@ -1,4 +1,4 @@
--- Lemmas of the size of a numeral: that the running number of and_parts its parts fits, and is the definition's sum of places.
+-- Lemmas of the size of a numeral: that the running number of both its parts fits, and is the definition's sum of places.
 use Rattle.std.proofs.Common.{◌≡◌, ℕ, ◌+◌, ◌-◌, ◌*◌, ◌^◌, ◌<◌, ◌≤◌, nat_lt, Bool, true, ℤ, Ok, Err, ◌++◌, length, ap, sym, ◌∙◌, arith, pow-add}
 use Rattle.std.proofs.Math.Nat.{mul-le-mul_right, pow-le-pow_right}
 use Rattle.std.proofs.lemmas.List.Folds.{list_all-append}
@@ -24,7 +24,7 @@ few_behind whole fraction number is digits few =
     let most : 10 ^ (length whole + length fraction) ≤ number_limit = pow-le-pow_right {n = 10} (omega arith) {i = length whole + length fraction} {j = most_whole_digits + most_fraction_digits} (omega arith) in
     omega arith
 
--- the running number of and_parts parts, with its places filled up, is the definition's
+-- the running number of both parts, with its places filled up, is the definition's
 pub scaled_by_running : (whole fraction : Text) (first number power : ℕ) → first ≡ 0 * 10 ^ length whole + place_sum whole → number ≡ first * 10 ^ length fraction + place_sum fraction → power ≡ 10 ^ (most_fraction_digits - length fraction) → number * power ≡ scaled whole fraction
 scaled_by_running whole fraction first number power a b p =
     let front : first ≡ place_sum whole = omega arith in
