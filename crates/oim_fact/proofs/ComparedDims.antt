@@ -47,7 +47,9 @@ nullable_eq (Some x) None = refl
 nullable_eq (Some x) (Some y) = texts_ties (string_bytes x) (string_bytes y)
 
 held_ties : (p q : Held) → held_eq p q ≡ is_eq (held_cmp p q)
-held_ties p q = (λ i. texts_ties (string_bytes p.0) (string_bytes q.0) i && nullable_eq p.1 q.1 i) ∙ tied_then (string_cmp p.0 q.0) (option_cmp string_cmp p.1 q.1)
+held_ties p q =
+    (λ i. texts_ties (string_bytes p.0) (string_bytes q.0) i && nullable_eq p.1 q.1 i)
+    ∙ tied_then (string_cmp p.0 q.0) (option_cmp string_cmp p.1 q.1)
 
 pub equal : (ps qs : List Held) → pointwise held_eq ps qs ≡ dims_eq (dims_view ps) (dims_view qs)
 equal ps qs = lists_ties held_cmp held_ties ps qs ∙ ap is_eq (compared ps qs)
@@ -61,4 +63,6 @@ each_fed [] = refl
 each_fed (p ∷ ps) = λ i. (fed.str (string_bytes p.0) ++ nullable_fed p.1 i) ++ each_fed ps i
 
 pub hashed : (ps : List Held) → fed.slice held_hash ps ≡ dims_hash (dims_view ps)
-hashed ps = let long : length ps ≡ length (dims_view ps) = sym (length-map ps (λ p. (string_bytes p.0, text_of p.1))) in λ i. fed.usize (long i) ++ each_fed ps i
+hashed ps =
+    let long : length ps ≡ length (dims_view ps) = sym (length-map ps (λ p. (string_bytes p.0, text_of p.1))) in
+    λ i. fed.usize (long i) ++ each_fed ps i

@@ -18,9 +18,13 @@ use Rattle.oim_fact.proofs.ComparedDims.{Held, held_cmp}
 
 -- the set by its tests, where the list itself is the set
 pub dims_of_by_tests : (ds : Dims) → NoneFalls (names_in ds)
-    → dims_of ds ≡ cond (has_neighbours (names_in ds)) (Err NameTwice) (cond (list_any is_null_core ds) (Err NullCore) (cond (not (list_any is_concept ds)) (Err NoConcept) (cond (list_any is_long_dim ds) (Err TooLong) (Ok ds))))
+    → dims_of ds ≡ cond (has_neighbours (names_in ds)) (Err NameTwice)
+    (cond (list_any is_null_core ds) (Err NullCore)
+    (cond (not (list_any is_concept ds)) (Err NoConcept) (cond (list_any is_long_dim ds) (Err TooLong) (Ok ds))))
 dims_of_by_tests ds h =
-    elim (has_repeats (names_in ds)) as (λ b. has_repeats (names_in ds) ≡ b → cond b (Err NameTwice) (judged ds (from_entries ds).entries) ≡ cond b (Err NameTwice) (judged ds ds)) [
+    elim (has_repeats (names_in ds))
+    as (λ b. has_repeats (names_in ds) ≡ b
+    → cond b (Err NameTwice) (judged ds (from_entries ds).entries) ≡ cond b (Err NameTwice) (judged ds ds)) [
       | true ↦ λ _. refl
       | false ↦ λ once. ap (judged ds) (from_entries-sorted ds (sorted_from_rises ds (Rises-names ds h) once))
     ] refl
@@ -37,7 +41,10 @@ names_view (p ∷ ps) = ap (λ ts. string_bytes p.0 ∷ ts) (names_view ps)
 
 -- names that were sorted do not fall
 pub NoneFalls-dims : (ps : List Held) → IsSorted held_cmp ps → NoneFalls (names_in (dims_view ps))
-NoneFalls-dims ps h = subst NoneFalls (names_view ps) (NoneFalls-sorted (λ p. string_bytes p.0) (λ p q. is_lt (held_cmp p q)) (λ p q. first_is_not_less (string_cmp p.0 q.0) _) ps h)
+NoneFalls-dims ps h =
+    subst NoneFalls (names_view ps)
+    (NoneFalls-sorted (λ p. string_bytes p.0) (λ p q. is_lt (held_cmp p q))
+    (λ p q. first_is_not_less (string_cmp p.0 q.0) _) ps h)
 
 -- the set is that of the pairs before they were sorted
 pub dims_of-moved : (ps qs : List Held) → IsPermutation ps qs → dims_of (dims_view qs) ≡ dims_of (dims_view ps)

@@ -69,7 +69,9 @@ json_links = json.object (json.member (codes "a") (json.number (codes "1")) json
 abbrev json_fact : json.Json
 json_fact = json.object
     (json.member (codes "decimals") (json.number (codes "-3"))
-    (json.member (codes "dimensions") (json.object (json.member (codes "concept") (json.string (codes "ex:Assets")) (json.member (codes "ex:axis") json.null json.no_members)))
+    (json.member (codes "dimensions")
+    (json.object (json.member (codes "concept") (json.string (codes "ex:Assets"))
+    (json.member (codes "ex:axis") json.null json.no_members)))
     (json.member (codes "links") json_links
     (json.member (codes "value") (json.string (codes "1000")) json.no_members))))
 
@@ -171,7 +173,8 @@ info =
     (member (codes "namespaces") (object (member (codes "ex") (string (codes "http://e.org/t")) no_members)) no_members))
 
 abbrev info_text : Text
-info_text = codes "{\"documentType\":\"https://xbrl.org/2021/xbrl-json\",\"features\":{\"xbrl:allowedDuplicates\":\"none\"},\"namespaces\":{\"ex\":\"http://e.org/t\"}}"
+info_text =
+    codes "{\"documentType\":\"https://xbrl.org/2021/xbrl-json\",\"features\":{\"xbrl:allowedDuplicates\":\"none\"},\"namespaces\":{\"ex\":\"http://e.org/t\"}}"
 
 is_info : IsInfo info_text names.prefixes Never
 unfolding filing_on_literals

@@ -29,15 +29,21 @@ right_type = codes "https://xbrl.org/2021/xbrl-json"
 abbrev named : Table → TextMap Text → Names
 named table prefixes = record { prefixes = prefixes; table = table }
 
-names_by_prefixes : (table : Table) (o : Option Data) → (bound_of o >>= λ bound. map_err (λ _. AliasTwice) (names_of bound table)) ≡ (prefixes_of_namespaces o >>= λ prefixes. Ok (named table prefixes))
+names_by_prefixes : (table : Table) (o : Option Data)
+    → (bound_of o >>= λ bound. map_err (λ _. AliasTwice) (names_of bound table))
+    ≡ (prefixes_of_namespaces o >>= λ prefixes. Ok (named table prefixes))
 names_by_prefixes table None = refl
 names_by_prefixes table (Some (object ms)) =
-    elim (each prefix_of (pairs ms)) as (λ r. (r >>= λ bound. map_err (λ _. AliasTwice) (names_of bound table)) ≡ ((r >>= λ bound. map_err (λ _. AliasTwice) (prefixes_of bound)) >>= λ prefixes. Ok (named table prefixes))) [
+    elim (each prefix_of (pairs ms))
+    as (λ r. (r >>= λ bound. map_err (λ _. AliasTwice) (names_of bound table))
+    ≡ ((r >>= λ bound. map_err (λ _. AliasTwice) (prefixes_of bound)) >>= λ prefixes. Ok (named table prefixes))) [
       | Err fault ↦ refl
-      | Ok bound ↦ elim (prefixes_of bound) as (λ r. map_err (λ _. AliasTwice) (result_map_both (named table) (λ fault. fault) r) ≡ (map_err (λ _. AliasTwice) r >>= λ prefixes. Ok (named table prefixes))) [
-        | Ok prefixes ↦ refl
-        | Err fault ↦ refl
-      ]
+      | Ok bound ↦
+          elim (prefixes_of bound) as (λ r. map_err (λ _. AliasTwice) (result_map_both (named table) (λ fault. fault) r)
+          ≡ (map_err (λ _. AliasTwice) r >>= λ prefixes. Ok (named table prefixes))) [
+            | Ok prefixes ↦ refl
+            | Err fault ↦ refl
+          ]
     ]
 names_by_prefixes table (Some null) = refl
 names_by_prefixes table (Some (boolean b)) = refl
@@ -47,13 +53,16 @@ names_by_prefixes table (Some (array ds)) = refl
 
 -- ---- `documentInfo`
 
-typed : (o : Option Text) (x : Data) → (ok_or o WrongDocumentType >>= λ type. cond (text_eq type right_type) (Ok x) (Err WrongDocumentType)) ≡ cond (option_map_or (λ type. text_eq type right_type) o false) (Ok x) (Err WrongDocumentType)
+typed : (o : Option Text) (x : Data)
+    → (ok_or o WrongDocumentType >>= λ type. cond (text_eq type right_type) (Ok x) (Err WrongDocumentType))
+    ≡ cond (option_map_or (λ type. text_eq type right_type) o false) (Ok x) (Err WrongDocumentType)
 typed None x = refl
 typed (Some type) x = refl
 
 info_by_member : (d : Data) → document_info_of d ≡ document_info_at (get (codes "documentInfo") d)
 info_by_member d =
-    ap (λ f. ok_or (object_at (codes "documentInfo") d) report.WrongShape >>= f) (λ i info. typed (option_and_then as_str (get (codes "documentType") info)) info i)
+    ap (λ f. ok_or (object_at (codes "documentInfo") d) report.WrongShape >>= f)
+    (λ i info. typed (option_and_then as_str (get (codes "documentType") info)) info i)
 
 -- ---- the whole
 
@@ -88,13 +97,17 @@ with_facts facts declared = do
 report_by_info : (table : Table) (facts : Option Data) (d : Data) → of_info table facts d ≡ (declared_from table d >>= with_facts facts)
 report_by_info table facts d =
     elim (allowed_of_features (get (codes "features") d)) as (λ r.
-    (r >>= λ allowed. prefixes_of_namespaces (get (codes "namespaces") d) >>= λ prefixes. whole_text_of d >>= λ info. facts_of (named table prefixes) facts >>= λ facts. ok_report info (named table prefixes) allowed facts)
+    (r >>= λ allowed. prefixes_of_namespaces (get (codes "namespaces") d) >>= λ prefixes. whole_text_of d
+    >>= λ info. facts_of (named table prefixes) facts
+    >>= λ facts. ok_report info (named table prefixes) allowed facts)
     ≡ ((r >>= λ allowed. names_in table d >>= λ names. whole_text_of d >>= λ info. ok_declaration info names allowed) >>= with_facts facts)) [
       | Err fault ↦ refl
       | Ok allowed ↦
           ap (λ r. r) (elim (prefixes_of_namespaces (get (codes "namespaces") d)) as (λ r.
-          (r >>= λ prefixes. whole_text_of d >>= λ info. facts_of (named table prefixes) facts >>= λ facts. ok_report info (named table prefixes) allowed facts)
-          ≡ (((r >>= λ prefixes. Ok (named table prefixes)) >>= λ names. whole_text_of d >>= λ info. ok_declaration info names allowed) >>= with_facts facts)) [
+          (r >>= λ prefixes. whole_text_of d >>= λ info. facts_of (named table prefixes) facts
+          >>= λ facts. ok_report info (named table prefixes) allowed facts)
+          ≡ (((r >>= λ prefixes. Ok (named table prefixes)) >>= λ names. whole_text_of d
+          >>= λ info. ok_declaration info names allowed) >>= with_facts facts)) [
             | Err fault ↦ refl
             | Ok prefixes ↦ elim (whole_text_of d) as (λ r.
                 (r >>= λ info. facts_of (named table prefixes) facts >>= λ facts. ok_report info (named table prefixes) allowed facts)
@@ -103,13 +116,16 @@ report_by_info table facts d =
                   | Ok info ↦ refl
                 ]
           ])
-          ∙ ap (λ names. (names >>= λ names. whole_text_of d >>= λ info. ok_declaration info names allowed) >>= with_facts facts) (sym (names_by_prefixes table (get (codes "namespaces") d)))
+          ∙ ap (λ names. (names >>= λ names. whole_text_of d >>= λ info. ok_declaration info names allowed)
+          >>= with_facts facts) (sym (names_by_prefixes table (get (codes "namespaces") d)))
     ]
 
 pub report_by_members : (table : Table) (d : Data) → report_of table d ≡ report_at table (get (codes "documentInfo") d) (get (codes "facts") d)
 report_by_members table d =
     ap (λ r. r >>= of_info table (get (codes "facts") d)) (info_by_member d)
-    ∙ elim (document_info_at (get (codes "documentInfo") d)) as (λ r. (r >>= of_info table (get (codes "facts") d)) ≡ ((r >>= declared_from table) >>= with_facts (get (codes "facts") d))) [
+    ∙ elim (document_info_at (get (codes "documentInfo") d))
+    as (λ r. (r >>= of_info table (get (codes "facts") d))
+    ≡ ((r >>= declared_from table) >>= with_facts (get (codes "facts") d))) [
       | Err fault ↦ refl
       | Ok info ↦ report_by_info table (get (codes "facts") d) info
     ]
@@ -147,19 +163,23 @@ text_if : (b : Bool) (t info : Text) → cond b (Err report.NotWhole) (Ok t) ≡
 text_if true t info h = cc
 text_if false t info h = cc
 
-bound_by : (table : Table) (r : Result (TextMap Text) ReportFault) (names : Names) → (r >>= λ prefixes. Ok (named table prefixes)) ≡ Ok names → r ≡ Ok names.prefixes
+bound_by : (table : Table) (r : Result (TextMap Text) ReportFault) (names : Names)
+    → (r >>= λ prefixes. Ok (named table prefixes)) ≡ Ok names → r ≡ Ok names.prefixes
 bound_by table (Ok prefixes) names h = let same : named table prefixes ≡ names = cc in ap (λ n. Ok n.prefixes) same
 bound_by table (Err fault) names h = cc
 
 info_of_object : (table : Table) (d : Data) (info : Text) (names : Names) (allowed : Allowed) → IsAccepted d
-    → allowed_of_features (get (codes "features") d) ≡ Ok allowed → names_in table d ≡ Ok names → whole_text_of d ≡ Ok info → IsWritable d → IsInfo info names.prefixes allowed
+    → allowed_of_features (get (codes "features") d) ≡ Ok allowed → names_in table d ≡ Ok names
+    → whole_text_of d ≡ Ok info → IsWritable d → IsInfo info names.prefixes allowed
 info_of_object table (object ms) info names allowed is declares named_by text writable = record {
   members = ms;
   writable = writable;
   text = text_if (has_float (object ms)) (compact_text (object ms)) info text;
   type = is.type;
   declares = declares;
-  binds = bound_by table (prefixes_of_namespaces (get (codes "namespaces") (object ms))) names (sym (names_by_prefixes table (get (codes "namespaces") (object ms))) ∙ named_by);
+  binds =
+      bound_by table (prefixes_of_namespaces (get (codes "namespaces") (object ms))) names
+      (sym (names_by_prefixes table (get (codes "namespaces") (object ms))) ∙ named_by);
 }
 info_of_object table null info names allowed is declares named_by text writable = absurd (true≢false (sym is.is_object))
 info_of_object table (boolean b) info names allowed is declares named_by text writable = absurd (true≢false (sym is.is_object))
@@ -168,5 +188,6 @@ info_of_object table (string s) info names allowed is declares named_by text wri
 info_of_object table (array ds) info names allowed is declares named_by text writable = absurd (true≢false (sym is.is_object))
 
 pub info_of_declared : (table : Table) (o : Option Data) (d : Data) (info : Text) (names : Names) (allowed : Allowed) → document_info_at o ≡ Ok d
-    → allowed_of_features (get (codes "features") d) ≡ Ok allowed → names_in table d ≡ Ok names → whole_text_of d ≡ Ok info → IsWritable d → IsInfo info names.prefixes allowed
+    → allowed_of_features (get (codes "features") d) ≡ Ok allowed → names_in table d ≡ Ok names
+    → whole_text_of d ≡ Ok info → IsWritable d → IsInfo info names.prefixes allowed
 info_of_declared table o d info names allowed h = info_of_object table d info names allowed (accepted o d h)

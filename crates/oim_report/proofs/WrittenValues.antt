@@ -103,12 +103,14 @@ before_more : (ns : Members) (l : Text) (e : Data) (k : Text) → AllBefore ns k
 before_more no_members l e k h below = (below, tt)
 before_more (member m f ns) l e k h below = (h.0, before_more ns l e k h.1 below)
 
-precede_more : (ns : Members) (l : Text) (e : Data) (ms : Members) → Precede ns ms → T (below_all text_cmp l (pairs ms)) → Precede (joined ns (member l e no_members)) ms
+precede_more : (ns : Members) (l : Text) (e : Data) (ms : Members) → Precede ns ms → T (below_all text_cmp l (pairs ms))
+    → Precede (joined ns (member l e no_members)) ms
 precede_more ns l e no_members h below = tt
 precede_more ns l e (member k d ms) h below =
     (before_more ns l e k h.0 (less_from_is_lt _ (first_holds _ _ below)), precede_more ns l e ms h.1 (second_holds _ _ below))
 
-members_back : (ns ms : Members) → Precede ns ms → T (is_sorted text_cmp (pairs ms)) → EachReads ms → of_members (members_outline ms) ns ≡ Some (joined ns ms)
+members_back : (ns ms : Members) → Precede ns ms → T (is_sorted text_cmp (pairs ms)) → EachReads ms
+    → of_members (members_outline ms) ns ≡ Some (joined ns ms)
 members_back ns no_members h sorted each = ap Some (sym (joined_none ns))
 members_back ns (member k d ms) h sorted each =
     ap (option_and_then (λ d. of_members (members_outline ms) (put k d ns))) each.0.back
@@ -125,7 +127,11 @@ members_numbers no_members h = tt
 members_numbers (member k d ms) h = (h.0.numbers, members_numbers ms h.1)
 
 pub Reads-object : (ms : Members) → T (is_sorted text_cmp (pairs ms)) → EachReads ms → Reads (object ms)
-Reads-object ms sorted each = record { numbers = members_numbers ms each; back = ap (option_map object) (members_back no_members ms (none_precede ms) sorted each) }
+Reads-object ms sorted each =
+    record {
+      numbers = members_numbers ms each;
+      back = ap (option_map object) (members_back no_members ms (none_precede ms) sorted each);
+    }
 
 -- ---- values with whole numbers alone
 

@@ -41,6 +41,7 @@ returns-in_err-push_comma-clause-front c =
 pub returns-in_err-push_dim-clause-front : goal.returns-in_err-push_dim-clause-front
 returns-in_err-push_dim-clause-front c =
     let left = next c.loop-name.later c.args.pairs.now c.loop-name.name-index _ c.loop-name-test.true c.loop-name-item.is in
-    let dim : IsFrontAppended (string_bytes c.push_comma.new.out) (string_bytes c.push_dim.new.out) (pair_text c.loop-name-item.result) = search rules in
+    let dim : IsFrontAppended (string_bytes c.push_comma.new.out) (string_bytes c.push_dim.new.out)
+    (pair_text c.loop-name-item.result) = search rules in
     let comma = underway_next (comma_if c.loop-name.later) c.loop-name.invariant left c.in_ok-push_comma.ensures.text in
     front_behind (codes "{") c.in_ok-push_str.ensures.bytes (front_before (codes "}") (front_underway _ comma refl dim))

@@ -16,11 +16,13 @@ pub returns-in_err-push_nullable-clause-front : goal.returns-in_err-push_nullabl
 returns-in_err-push_nullable-clause-front c =
     let raw = c.raw.inside in
     subst (λ raw. IsFrontAppended (string_bytes c.args.out.now) (string_bytes c.push_nullable.new.out) (raw_fact_text raw)) c.raw.view_is
-    (front_in_value raw.dims (text_of raw.value) raw.decimals (text_of raw.links) c.in_ok-push_before_value.ensures.text c.push_nullable.ensures.front)
+    (front_in_value raw.dims (text_of raw.value) raw.decimals (text_of raw.links) c.in_ok-push_before_value.ensures.text
+    c.push_nullable.ensures.front)
 
 pub returns-clause-front : goal.returns-clause-front
 returns-clause-front c =
     let raw = c.raw.inside in
     subst (λ raw. IsFrontAppended (string_bytes c.args.out.now) (string_bytes c.push_str.new.self) (raw_fact_text raw)) c.raw.view_is
-    (front_after_value raw.dims (text_of raw.value) raw.decimals (text_of raw.links) c.in_ok-push_before_value.ensures.text c.in_ok-push_nullable.ensures.text
+    (front_after_value raw.dims (text_of raw.value) raw.decimals (text_of raw.links)
+    c.in_ok-push_before_value.ensures.text c.in_ok-push_nullable.ensures.text
     (front_pushed c.push_str.result (codes "}") c.push_str.ensures.bytes))

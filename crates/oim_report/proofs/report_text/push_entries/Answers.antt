@@ -40,5 +40,6 @@ returns-in_err-push_comma-clause-front c =
 pub returns-in_err-push_entry-clause-front : goal.returns-in_err-push_entry-clause-front
 returns-in_err-push_entry-clause-front c =
     let left = next c.loop-id.later c.args.facts.now c.loop-id.id-index _ c.loop-id-test.true c.loop-id-item.is in
-    let entry : IsFrontAppended (string_bytes c.push_comma.new.out) (string_bytes c.push_entry.new.out) (entry_text c.loop-id-item.result) = search rules in
+    let entry : IsFrontAppended (string_bytes c.push_comma.new.out) (string_bytes c.push_entry.new.out)
+    (entry_text c.loop-id-item.result) = search rules in
     front_underway _ (underway_next (comma_if c.loop-id.later) c.loop-id.invariant left c.in_ok-push_comma.ensures.text) refl entry

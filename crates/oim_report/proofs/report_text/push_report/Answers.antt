@@ -41,7 +41,9 @@ pub returns-in_err-push_entries-clause-front : goal.returns-in_err-push_entries-
 unfolding report_text
 returns-in_err-push_entries-clause-front c =
     let info = appended_as (string_bytes c.push_str.new.self) c.in_ok-push_str-2.ensures.bytes c.info.ensures.info in
-    let facts = subst (λ facts. IsFrontAppended (string_bytes c.push_str-3.new.self) (string_bytes c.push_entries.new.out) (texts facts)) c.facts.ensures
+    let facts =
+    subst (λ facts. IsFrontAppended (string_bytes c.push_str-3.new.self) (string_bytes c.push_entries.new.out)
+    (texts facts)) c.facts.ensures
     c.push_entries.ensures.front in
     front_behind (codes "{\"documentInfo\":") c.in_ok-push_str.ensures.bytes
     (front_behind c.args.report.now.info info
