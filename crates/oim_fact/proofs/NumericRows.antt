@@ -16,18 +16,18 @@ use Rattle.filing_model.specs.Tables.{row_cmp, table_of}
 use Rattle.filing_model.proofs.NumericTables.{row_cmp-total, row_cmp-Equal, is_numeric-table_of}
 use Rattle.filing_model.proofs.Tests.{both_hold, asked_twice}
 use Rattle.oim_fact.specs.Texts.{row_of, rows_view}
-use Rattle.oim_fact.specs.Tables.{keyed, is_table}
+use Rattle.oim_fact.specs.Tables.{row_entries, is_table}
 use Rattle.oim_fact.proofs.SearchedEntries.{search_finds}
 
 -- ---- what the definition makes is in order
 
-put_key : (row : Text × Text) (rows : Table) → keyed (insert_key row_cmp rows row) ≡ put row_cmp row tt (keyed rows)
+put_key : (row : Text × Text) (rows : Table) → row_entries (insert_key row_cmp rows row) ≡ put row_cmp row tt (row_entries rows)
 put_key row [] = refl
 put_key row (other ∷ rows) =
-    elim (row_cmp row other) as (λ o. keyed (match_ordering o (row ∷ other ∷ rows) (other ∷ rows)
+    elim (row_cmp row other) as (λ o. row_entries (match_ordering o (row ∷ other ∷ rows) (other ∷ rows)
     (other ∷ insert_key row_cmp rows row))
-    ≡ by_order o ((row, tt) ∷ keyed (other ∷ rows)) ((other, tt) ∷ keyed rows)
-    ((other, tt) ∷ put row_cmp row tt (keyed rows))) [
+    ≡ by_order o ((row, tt) ∷ row_entries (other ∷ rows)) ((other, tt) ∷ row_entries rows)
+    ((other, tt) ∷ put row_cmp row tt (row_entries rows))) [
       | Less ↦ refl
       | Equal ↦ refl
       | Greater ↦ ap (λ es. (other, tt) ∷ es) (put_key row rows)
@@ -38,21 +38,21 @@ folded [] table h = h
 folded (row ∷ rows) table h =
     folded rows (insert_key row_cmp table row)
     (subst (λ es. T (is_sorted row_cmp es)) (sym (put_key row table))
-    (is_sorted-put row_cmp row_cmp-total row tt (keyed table) h))
+    (is_sorted-put row_cmp row_cmp-total row tt (row_entries table) h))
 
 pub is_table-table_of : (rows : Table) → T (is_table (table_of rows))
 is_table-table_of rows = folded rows [] tt
 
 -- ---- tables with the same rows are equal
 
-keys_keyed : (rows : Table) → map (λ e. e.0) (keyed rows) ≡ rows
+keys_keyed : (rows : Table) → map (λ e. e.0) (row_entries rows) ≡ rows
 keys_keyed [] = refl
 keys_keyed (row ∷ rows) = ap (λ rs. row ∷ rs) (keys_keyed rows)
 
 -- a look-up finds a row where the table has it
-pub is_numeric-find : (rows : Table) (concept : Text × Text) → is_some (find row_cmp concept (keyed rows)) ≡ is_numeric rows concept
+pub is_numeric-find : (rows : Table) (concept : Text × Text) → is_some (find row_cmp concept (row_entries rows)) ≡ is_numeric rows concept
 is_numeric-find rows concept =
-    is_some-find row_cmp concept (keyed rows) ∙ ap (λ rs. list_any (eq_by_cmp row_cmp concept) rs) (keys_keyed rows)
+    is_some-find row_cmp concept (row_entries rows) ∙ ap (λ rs. list_any (eq_by_cmp row_cmp concept) rs) (keys_keyed rows)
     ∙ sym (λ i. list_any (λ row. tied_then (text_cmp concept.0 row.0) (text_cmp concept.1 row.1) i) rows)
 
 same_nothing : (x y : Option (Unit {0})) → is_some x ≡ is_some y → x ≡ y
@@ -66,7 +66,7 @@ pub same_table : (rows others : Table) → T (is_table rows) → T (is_table oth
 same_table rows others h g same =
     sym (keys_keyed rows)
     ∙ ap (λ es. map (λ e. e.0) es)
-    (same_entries row_cmp row_cmp-total row_cmp-Equal (keyed rows) (keyed others) h g
+    (same_entries row_cmp row_cmp-total row_cmp-Equal (row_entries rows) (row_entries others) h g
     (λ q. same_nothing _ _ (is_numeric-find rows q ∙ same q ∙ sym (is_numeric-find others q))))
     ∙ keys_keyed others
 
@@ -108,7 +108,7 @@ module _ (test : Text × Text → Bool) where
   any-dedup (r ∷ rs) = any_from r rs
 
 below : (r : Held) (rs : List Held) → AllByRecursion (λ s. row_cmp (row_of r) (row_of s) ≡ Less) rs
-    → T (below_all row_cmp (row_of r) (keyed (rows_view rs)))
+    → T (below_all row_cmp (row_of r) (row_entries (rows_view rs)))
 below r [] h = tt
 below r (s ∷ rs) h = both_hold _ _ (subst (λ o. T (is_lt o)) (sym h.0) tt) (below r rs h.1)
 
@@ -129,7 +129,7 @@ table_of-kept rows sorted moved h =
 
 -- ---- a binary search
 
-keyed_rows : (rs : List Held) → map (λ r. (row_of r, tt)) rs ≡ keyed (rows_view rs)
+keyed_rows : (rs : List Held) → map (λ r. (row_of r, tt)) rs ≡ row_entries (rows_view rs)
 keyed_rows [] = refl
 keyed_rows (r ∷ rs) = ap (λ es. (row_of r, tt) ∷ es) (keyed_rows rs)
 

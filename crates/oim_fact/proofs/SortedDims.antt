@@ -11,7 +11,7 @@ use Rattle.filing_model.specs.declared.faults.DimFault.{DimFault}
 use Rattle.filing_model.specs.declared.faults.DimFault.TheVariants.{NameTwice, NullCore, NoConcept, TooLong}
 use Rattle.filing_model.proofs.DimensionSets.{dims_of-IsPermutation, judged}
 use Rattle.filing_model.proofs.MapsOfLists.{sorted_from_rises, from_entries-sorted}
-use Rattle.oim_fact.specs.Texts.{text_of, names_in, NoneFalls, has_neighbours}
+use Rattle.oim_fact.specs.Texts.{text_view, names_in, NoneFalls, has_neighbours}
 use Rattle.oim_fact.specs.Dims.{dims_view, unless}
 use Rattle.oim_fact.proofs.SortedTexts.{Rises-names, repeated_are_neighbours, NoneFalls-sorted}
 use Rattle.oim_fact.proofs.ComparedDims.{Held, held_cmp}
@@ -48,7 +48,7 @@ NoneFalls-dims ps h =
 
 -- the set is that of the pairs before they were sorted
 pub dims_of-moved : (ps qs : List Held) → IsPermutation ps qs → dims_of (dims_view qs) ≡ dims_of (dims_view ps)
-dims_of-moved ps qs p = sym (dims_of-IsPermutation _ _ (IsPermutation-map (λ p. (string_bytes p.0, text_of p.1)) ps qs p))
+dims_of-moved ps qs p = sym (dims_of-IsPermutation _ _ (IsPermutation-map (λ p. (string_bytes p.0, text_view p.1)) ps qs p))
 
 -- a set that is given, and a fault
 pub given : (fault : Option DimFault) (ds : Dims) (set : Result Dims DimFault) → unless fault ds ≡ set → fault ≡ None → Ok ds ≡ set
