@@ -18,7 +18,7 @@ use Rattle.filing_model.specs.declared.duplicates.Allowed.{Allowed}
 use Rattle.filing_model.proofs.Texts.{text_decides}
 use Rattle.oim_fact.specs.Names.{names_of}
 use Rattle.oim_report.specs.Parts.{IsInfo}
-use Rattle.oim_report.specs.Readings.{Declaration, has_document_type, document_info_at, bound_of, names_in, report_at}
+use Rattle.oim_report.specs.Readings.{Declaration, has_document_type, document_info_at, bound_of, declared_names, report_of_members}
 
 -- the document type of xBRL-JSON 1.0
 abbrev right_type : Text
@@ -85,7 +85,7 @@ of_info table facts document_info = do
 abbrev declared_from : Table → Data → Result Declaration ReportFault
 declared_from table document_info = do
   allowed ← allowed_of_features (get (codes "features") document_info)
-  names ← names_in table document_info
+  names ← declared_names table document_info
   info ← whole_text_of document_info
   ok_declaration info names allowed
 
@@ -100,7 +100,7 @@ report_by_info table facts d =
     (r >>= λ allowed. prefixes_of_namespaces (get (codes "namespaces") d) >>= λ prefixes. whole_text_of d
     >>= λ info. facts_of (named table prefixes) facts
     >>= λ facts. ok_report info (named table prefixes) allowed facts)
-    ≡ ((r >>= λ allowed. names_in table d >>= λ names. whole_text_of d >>= λ info. ok_declaration info names allowed) >>= with_facts facts)) [
+    ≡ ((r >>= λ allowed. declared_names table d >>= λ names. whole_text_of d >>= λ info. ok_declaration info names allowed) >>= with_facts facts)) [
       | Err fault ↦ refl
       | Ok allowed ↦
           ap (λ r. r) (elim (prefixes_of_namespaces (get (codes "namespaces") d)) as (λ r.
@@ -120,7 +120,7 @@ report_by_info table facts d =
           >>= with_facts facts) (sym (names_by_prefixes table (get (codes "namespaces") d)))
     ]
 
-pub report_by_members : (table : Table) (d : Data) → report_of table d ≡ report_at table (get (codes "documentInfo") d) (get (codes "facts") d)
+pub report_by_members : (table : Table) (d : Data) → report_of table d ≡ report_of_members table (get (codes "documentInfo") d) (get (codes "facts") d)
 report_by_members table d =
     ap (λ r. r >>= of_info table (get (codes "facts") d)) (info_by_member d)
     ∙ elim (document_info_at (get (codes "documentInfo") d))
@@ -169,7 +169,7 @@ bound_by table (Ok prefixes) names h = let same : named table prefixes ≡ names
 bound_by table (Err fault) names h = cc
 
 info_of_object : (table : Table) (d : Data) (info : Text) (names : Names) (allowed : Allowed) → IsAccepted d
-    → allowed_of_features (get (codes "features") d) ≡ Ok allowed → names_in table d ≡ Ok names
+    → allowed_of_features (get (codes "features") d) ≡ Ok allowed → declared_names table d ≡ Ok names
     → whole_text_of d ≡ Ok info → IsWritable d → IsInfo info names.prefixes allowed
 info_of_object table (object ms) info names allowed is declares named_by text writable = record {
   members = ms;
@@ -188,6 +188,6 @@ info_of_object table (string s) info names allowed is declares named_by text wri
 info_of_object table (array ds) info names allowed is declares named_by text writable = absurd (true≢false (sym is.is_object))
 
 pub info_of_declared : (table : Table) (o : Option Data) (d : Data) (info : Text) (names : Names) (allowed : Allowed) → document_info_at o ≡ Ok d
-    → allowed_of_features (get (codes "features") d) ≡ Ok allowed → names_in table d ≡ Ok names
+    → allowed_of_features (get (codes "features") d) ≡ Ok allowed → declared_names table d ≡ Ok names
     → whole_text_of d ≡ Ok info → IsWritable d → IsInfo info names.prefixes allowed
 info_of_declared table o d info names allowed h = info_of_object table d info names allowed (accepted o d h)

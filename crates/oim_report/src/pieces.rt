@@ -4,8 +4,8 @@ ghost use Rattle.std.specs.Prelude.{◌≡◌, ◌++◌, OnOk, IfOk, string_byte
 ghost use Rattle.json.specs.Print.{quoted};
 ghost use Rattle.serde_json.specs.Written.{comma_if};
 ghost use Rattle.filing_model.specs.Writing.{decimals_text, nullable_text};
-ghost use Rattle.oim_fact.specs.Texts.{text_of};
-ghost use Rattle.oim_report.specs.Appended.{IsFrontAppended};
+ghost use Rattle.oim_fact.specs.Texts.{text_view};
+ghost use Rattle.oim_report.specs.Appended.{IsFrontPushed};
 
 use json::Writer;
 use std::alloc::{AllocError, Global};
@@ -26,7 +26,7 @@ fn quoted_text(alloc: Global, text: &str) -> Result<String, AllocError>
 /// Appends a text as a JSON text.
 pub fn push_quoted(out: &mut String, text: &str) -> Result<(), AllocError>
     ensures text { OnOk result (string_bytes out.new ≡ string_bytes out.old ++ quoted text.now) }
-    ensures front { IsFrontAppended (string_bytes out.old) (string_bytes out.new) (quoted text.now) }
+    ensures front { IsFrontPushed out.old out.new (quoted text.now) }
 {
     let quoted = quoted_text(*out.allocator(), text)?;
     out.push_str(&quoted)
@@ -35,15 +35,16 @@ pub fn push_quoted(out: &mut String, text: &str) -> Result<(), AllocError>
 /// Appends a comma, where something stands before.
 pub fn push_comma(out: &mut String, later: bool) -> Result<(), AllocError>
     ensures text { OnOk result (string_bytes out.new ≡ string_bytes out.old ++ comma_if later) }
-    ensures front { IsFrontAppended (string_bytes out.old) (string_bytes out.new) (comma_if later) }
+    ensures front { IsFrontPushed out.old out.new (comma_if later) }
 {
     if later { out.push_str(",") } else { Ok(()) }
 }
 
 /// Appends a JSON text, or null.
 pub fn push_nullable(out: &mut String, text: &Option<String>) -> Result<(), AllocError>
-    ensures text { OnOk result (string_bytes out.new ≡ string_bytes out.old ++ nullable_text (text_of text.now)) }
-    ensures front { IsFrontAppended (string_bytes out.old) (string_bytes out.new) (nullable_text (text_of text.now)) }
+    ensures text { OnOk result (string_bytes out.new
+        ≡ string_bytes out.old ++ nullable_text (text_view text.now)) }
+    ensures front { IsFrontPushed out.old out.new (nullable_text (text_view text.now)) }
 {
     match text {
         None => out.push_str("null"),
@@ -53,8 +54,9 @@ pub fn push_nullable(out: &mut String, text: &Option<String>) -> Result<(), Allo
 
 /// Appends the member `decimals` with the comma after it, where there is one.
 pub(crate) fn push_decimals(out: &mut String, decimals: &Option<i64>) -> Result<(), AllocError>
-    ensures text { OnOk result (string_bytes out.new ≡ string_bytes out.old ++ decimals_text decimals.now) }
-    ensures front { IsFrontAppended (string_bytes out.old) (string_bytes out.new) (decimals_text decimals.now) }
+    ensures text { OnOk result (string_bytes out.new
+        ≡ string_bytes out.old ++ decimals_text decimals.now) }
+    ensures front { IsFrontPushed out.old out.new (decimals_text decimals.now) }
 {
     match decimals {
         None => Ok(()),

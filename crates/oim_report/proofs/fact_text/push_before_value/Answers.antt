@@ -1,6 +1,6 @@
 use Rattle.std.proofs.Common.{codes, string_bytes}
 use Rattle.filing_model.specs.Writing.{decimals_text, dims_text, links_text}
-use Rattle.oim_fact.specs.Texts.{text_of}
+use Rattle.oim_fact.specs.Texts.{text_view}
 use Rattle.oim_report.specs.Pieces.{before_value}
 use Rattle.oim_report.proofs.Fronts.{front_before, front_behind, front_pushed}
 use Rattle.oim_report.proofs.WrittenPieces.{once_appended, six_pieces}
@@ -11,7 +11,7 @@ unfolding before_value
 returns-clause-text c =
     let decimals = decimals_text c.args.decimals.now in
     let dims = dims_text c.args.dims.now in
-    let links = links_text (text_of c.args.links.now) in
+    let links = links_text (text_view c.args.links.now) in
     once_appended c.push_str-3.result _ (string_bytes c.push_links.new.out) (codes ",\"value\":")
     c.push_str-3.ensures.bytes
     (λ last.
@@ -57,4 +57,4 @@ returns-clause-front c =
     (front_behind (decimals_text c.args.decimals.now) c.in_ok-push_decimals.ensures.text
     (front_behind (codes "\"dimensions\":") c.in_ok-push_str-2.ensures.bytes
     (front_behind (dims_text c.args.dims.now) c.in_ok-push_dims.ensures.text
-    (front_behind (links_text (text_of c.args.links.now)) c.in_ok-push_links.ensures.text name))))
+    (front_behind (links_text (text_view c.args.links.now)) c.in_ok-push_links.ensures.text name))))

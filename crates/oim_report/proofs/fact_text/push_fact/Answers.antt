@@ -4,7 +4,7 @@ use Rattle.filing_model.specs.Dimensions.{Dims}
 use Rattle.filing_model.specs.Writing.{decimals_in, fact_text, raw_fact_text}
 use Rattle.filing_model.specs.Writing.{text_of as text_of_value}
 use Rattle.oim_fact.specs.Facts.{value_view}
-use Rattle.oim_fact.specs.Texts.{text_of}
+use Rattle.oim_fact.specs.Texts.{text_view}
 use Rattle.oim_fact.specs.declared.fact.FactValue.{FactValue}
 use Rattle.oim_report.specs.Appended.{IsFrontAppended}
 use Rattle.oim_report.proofs.Fronts.{front_pushed}
@@ -21,24 +21,24 @@ is_text dims value links decimals is =
 pub returns-in_err-push_before_value-clause-front : goal.returns-in_err-push_before_value-clause-front
 returns-in_err-push_before_value-clause-front c =
     let fact = c.fact.inside in
-    let is = is_text fact.dims fact.value (text_of fact.links) c.decimals.result c.decimals.ensures ∙ ap fact_text c.fact.view_is in
+    let is = is_text fact.dims fact.value (text_view fact.links) c.decimals.result c.decimals.ensures ∙ ap fact_text c.fact.view_is in
     subst (IsFrontAppended (string_bytes c.args.out.now) (string_bytes c.push_before_value.new.out)) is
-    (front_before_value fact.dims (text_of_value (value_view fact.value)) c.decimals.result (text_of fact.links)
+    (front_before_value fact.dims (text_of_value (value_view fact.value)) c.decimals.result (text_view fact.links)
     c.push_before_value.ensures.front)
 
 pub returns-in_err-push_value-clause-front : goal.returns-in_err-push_value-clause-front
 returns-in_err-push_value-clause-front c =
     let fact = c.fact.inside in
-    let is = is_text fact.dims fact.value (text_of fact.links) c.decimals.result c.decimals.ensures ∙ ap fact_text c.fact.view_is in
+    let is = is_text fact.dims fact.value (text_view fact.links) c.decimals.result c.decimals.ensures ∙ ap fact_text c.fact.view_is in
     subst (IsFrontAppended (string_bytes c.args.out.now) (string_bytes c.push_value.new.out)) is
-    (front_in_value fact.dims (text_of_value (value_view fact.value)) c.decimals.result (text_of fact.links)
+    (front_in_value fact.dims (text_of_value (value_view fact.value)) c.decimals.result (text_view fact.links)
     c.in_ok-push_before_value.ensures.text c.push_value.ensures.front)
 
 pub returns-clause-front : goal.returns-clause-front
 returns-clause-front c =
     let fact = c.fact.inside in
-    let is = is_text fact.dims fact.value (text_of fact.links) c.decimals.result c.decimals.ensures ∙ ap fact_text c.fact.view_is in
+    let is = is_text fact.dims fact.value (text_view fact.links) c.decimals.result c.decimals.ensures ∙ ap fact_text c.fact.view_is in
     subst (IsFrontAppended (string_bytes c.args.out.now) (string_bytes c.push_str.new.self)) is
-    (front_after_value fact.dims (text_of_value (value_view fact.value)) c.decimals.result (text_of fact.links)
+    (front_after_value fact.dims (text_of_value (value_view fact.value)) c.decimals.result (text_view fact.links)
     c.in_ok-push_before_value.ensures.text c.in_ok-push_value.ensures.text
     (front_pushed c.push_str.result (codes "}") c.push_str.ensures.bytes))

@@ -4,7 +4,7 @@ use Rattle.serde_json.specs.Written.{comma_if}
 use Rattle.filing_model.specs.Text.{Text}
 use Rattle.filing_model.specs.Writing.{listed, member_text, nullable_text}
 use Rattle.oim_fact.specs.Dims.{dims_view}
-use Rattle.oim_fact.specs.Texts.{text_of}
+use Rattle.oim_fact.specs.Texts.{text_view}
 use Rattle.oim_report.specs.Appended.{IsFrontAppended}
 use Rattle.oim_report.proofs.Fronts.{front_before, front_behind, front_underway, underway_first, underway_next, listed_next}
 use Rattle.oim_report.proofs.fact_text.push_pairs.Goals as goal
@@ -13,7 +13,7 @@ abbrev Pair : Type 0
 Pair = String Global × Option (String Global)
 
 abbrev pair_text : Pair → Text
-pair_text pair = member_text (string_bytes pair.0) (nullable_text (text_of pair.1))
+pair_text pair = member_text (string_bytes pair.0) (nullable_text (text_view pair.1))
 
 abbrev texts : Bool → List Pair → Text
 texts later pairs = listed later (λ d. member_text d.0 (nullable_text d.1)) (dims_view pairs)
@@ -21,7 +21,7 @@ texts later pairs = listed later (λ d. member_text d.0 (nullable_text d.1)) (di
 next : (later : Bool) (pairs : List Pair) (i : ℕ) (pair : Pair) → i < length pairs → pair ≡ get_or pairs i pair
     → texts later (drop i pairs) ≡ comma_if later ++ (pair_text pair ++ texts true (drop (i + 1) pairs))
 next later pairs i pair below is =
-    listed_next later (λ d. member_text d.0 (nullable_text d.1)) (λ p. (string_bytes p.0, text_of p.1)) pairs i pair below is
+    listed_next later (λ d. member_text d.0 (nullable_text d.1)) (λ p. (string_bytes p.0, text_view p.1)) pairs i pair below is
 
 pub loop-name-init : goal.loop-name-init
 loop-name-init c = underway_first _ _
