@@ -24,7 +24,12 @@ impl Model for RawFact {
     ghost Value = { RawFactValue };
 
     ghost view = { λ r.
-        record { dims = r.dims; value = text_view r.value; decimals = r.decimals; links = text_view r.links } };
+        record {
+          dims = r.dims;
+          value = text_view r.value;
+          decimals = r.decimals;
+          links = text_view r.links;
+        } };
 }
 
 impl Clone for RawFact {
@@ -81,5 +86,6 @@ impl Model for Fact {
     ghost use Rattle.oim_fact.specs.Texts.{text_view};
     ghost use Rattle.oim_fact.specs.Facts.{value_view};
 
-    ghost view = { λ f. record { dims = f.dims; value = value_view f.value; links = text_view f.links } };
+    ghost view = { λ f.
+        record { dims = f.dims; value = value_view f.value; links = text_view f.links } };
 }

@@ -21,7 +21,7 @@ use Rattle.filing_model.specs.declared.duplicates.Allowed.TheVariants.{Never}
 use Rattle.filing_model.proofs.OnLiterals.{filing_on_literals}
 use Rattle.oim_report.specs.JsonValues.{IsJsonValue}
 use Rattle.oim_report.specs.Nesting.{NestsWithin}
-use Rattle.oim_report.specs.Parts.{IsInfo}
+use Rattle.oim_report.specs.Parts.{IsInfo, document_type}
 use Rattle.oim_report.specs.Readable.{IsReadable}
 use Rattle.oim_report.specs.ReadableFact.{IsReadableFact}
 use Rattle.oim_report.proofs.ReadFacts.{readable}
@@ -168,7 +168,7 @@ note_is_fitted = (raw_note, tt, refl)
 
 abbrev info : Members
 info =
-    member (codes "documentType") (string (codes "https://xbrl.org/2021/xbrl-json"))
+    member (codes "documentType") (string document_type)
     (member (codes "features") (object (member (codes "xbrl:allowedDuplicates") (string (codes "none")) no_members))
     (member (codes "namespaces") (object (member (codes "ex") (string (codes "http://e.org/t")) no_members)) no_members))
 
@@ -184,7 +184,7 @@ is_info = record {
     tt,
     (
       is_utf8_text (codes "documentType") refl,
-      is_utf8_text (codes "https://xbrl.org/2021/xbrl-json") refl,
+      is_utf8_text document_type refl,
       (
         is_utf8_text (codes "features") refl,
         (tt, (is_utf8_text (codes "xbrl:allowedDuplicates") refl, is_utf8_text (codes "none") refl, tt)),

@@ -17,12 +17,8 @@ use Rattle.filing_model.specs.ReadReport.{ReportFault, AliasTwice, WrongDocument
 use Rattle.filing_model.specs.declared.duplicates.Allowed.{Allowed}
 use Rattle.filing_model.proofs.Texts.{text_decides}
 use Rattle.oim_fact.specs.Names.{names_of}
-use Rattle.oim_report.specs.Parts.{IsInfo}
+use Rattle.oim_report.specs.Parts.{IsInfo, document_type}
 use Rattle.oim_report.specs.Readings.{Declaration, has_document_type, document_info_at, bound_of, declared_names, report_of_members}
-
--- the document type of xBRL-JSON 1.0
-abbrev right_type : Text
-right_type = codes "https://xbrl.org/2021/xbrl-json"
 
 -- ---- the names
 
@@ -54,8 +50,8 @@ names_by_prefixes table (Some (array ds)) = refl
 -- ---- `documentInfo`
 
 typed : (o : Option Text) (x : Data)
-    → (ok_or o WrongDocumentType >>= λ type. cond (text_eq type right_type) (Ok x) (Err WrongDocumentType))
-    ≡ cond (option_map_or (λ type. text_eq type right_type) o false) (Ok x) (Err WrongDocumentType)
+    → (ok_or o WrongDocumentType >>= λ type. cond (text_eq type document_type) (Ok x) (Err WrongDocumentType))
+    ≡ cond (option_map_or (λ type. text_eq type document_type) o false) (Ok x) (Err WrongDocumentType)
 typed None x = refl
 typed (Some type) x = refl
 
@@ -132,14 +128,14 @@ report_by_members table d =
 
 -- ---- what is known of the info
 
-type_of : (o : Option Text) → option_map_or (λ type. text_eq type right_type) o false ≡ true → o ≡ Some right_type
+type_of : (o : Option Text) → option_map_or (λ type. text_eq type document_type) o false ≡ true → o ≡ Some document_type
 type_of None h = absurd (true≢false (sym h))
-type_of (Some type) h = ap (λ t. Some t) ((text_decides type right_type).0 h)
+type_of (Some type) h = ap (λ t. Some t) ((text_decides type document_type).0 h)
 
 -- a value that is accepted as `documentInfo` is an object of the right type
 pub record IsAccepted (d : Data) : Type 0 where
   pub is_object : is_some (as_object d) ≡ true
-  pub type : option_and_then as_str (get (codes "documentType") d) ≡ Some right_type
+  pub type : option_and_then as_str (get (codes "documentType") d) ≡ Some document_type
 
 if_typed : (b : Bool) (x d : Data) → cond b (Ok x) (Err WrongDocumentType) ≡ Ok d → (b ≡ true) × (x ≡ d)
 if_typed true x d h = (refl, cc)

@@ -1,5 +1,5 @@
 -- The JSON object that stands for a report: what is written of it, and what is read of it.
-use Rattle.std.proofs.Common.{◌≡◌, ℤ, pos, negsuc, T, ◌&&◌, Bool, true, false, cond, int_le, List, [], ◌∷◌, ◌++◌, codes, Option, Some, None, Result, Ok, Err, IfOk, is_lt, refl, sym, ap, ◌∙◌, arith, append_assoc, subst}
+use Rattle.std.proofs.Common.{◌≡◌, ◌-◌, ℤ, pos, negsuc, neg_ℤ, T, ◌&&◌, Bool, true, false, cond, int_le, List, [], ◌∷◌, ◌++◌, codes, Option, Some, None, Result, Ok, Err, IfOk, is_lt, refl, sym, ap, ◌∙◌, arith, append_assoc, subst}
 use Rattle.std.proofs.lemmas.Bool.{leb-true, and_parts}
 use Rattle.std.specs.Option.{option_and_then, ok_or}
 use Rattle.std.specs.FinMap.Entries.{is_sorted, below_all}
@@ -12,7 +12,7 @@ use Rattle.filing_model.specs.Text.{Text, text_cmp, text_eq}
 use Rattle.filing_model.specs.TextMap.{TextMap, from_entries}
 use Rattle.filing_model.specs.Try.{◌>>=◌, each, map_err}
 use Rattle.filing_model.specs.JsonText.{json_of, without_mark, pairs}
-use Rattle.filing_model.specs.Numerals.{number_of}
+use Rattle.filing_model.specs.Numerals.{most_fraction_digits, most_whole_digits, number_of}
 use Rattle.filing_model.specs.Intervals.{accuracy_of, are_decimals}
 use Rattle.filing_model.specs.Dimensions.{AreDims, concept_of}
 use Rattle.filing_model.specs.Facts.{RawFact, Fact, FactValue, Names, fit_of, fit_bound, with_value, value_of, numeric_value, number_with, expanded, are_bound, is_numeric, is_misplaced, written_value}
@@ -30,7 +30,7 @@ use Rattle.filing_model.proofs.FitAgain.{fit_again}
 use Rattle.filing_model.proofs.JsonTexts.{whole-IsWritable}
 use Rattle.filing_model.proofs.TextMaps.{from_entries-entries}
 use Rattle.oim_report.specs.Nesting.{NestsWithin}
-use Rattle.oim_report.specs.Parts.{IsInfo}
+use Rattle.oim_report.specs.Parts.{IsInfo, document_type}
 use Rattle.oim_report.specs.Readable.{AreFitted, IsReadable}
 use Rattle.oim_report.specs.ReadableFact.{AreWholeDecimals, IsReadableFact}
 use Rattle.oim_report.proofs.WrittenValues.{Reads, EachReads, Reads-object, Reads-writable, read_back}
@@ -39,8 +39,12 @@ use Rattle.oim_report.proofs.WrittenFacts.{fact_members, stands_for}
 -- ---- a fitted fact is written as a raw fact that can be read
 
 small_decimals : (z : ℤ) → are_decimals z ≡ true → AreWholeDecimals (Some z)
-small_decimals (pos n) h = let most = leb-true n 12 (and_parts (int_le (negsuc 19) (pos n)) _ h).1 in omega arith
-small_decimals (negsuc n) h = let least = leb-true n 19 (and_parts (int_le (negsuc 19) (negsuc n)) _ h).0 in omega arith
+small_decimals (pos n) h =
+    let most = leb-true n most_fraction_digits (and_parts (int_le (neg_ℤ (pos most_whole_digits)) (pos n)) _ h).1 in
+    omega arith
+small_decimals (negsuc n) h =
+    let least = leb-true n (most_whole_digits - 1) (and_parts (int_le (neg_ℤ (pos most_whole_digits)) (negsuc n)) _ h).0 in
+    omega arith
 
 -- what the definition of a fitted value says of the decimals that are written for it
 abbrev WholeIn : Result FactValue FactFault → Type 0
@@ -158,11 +162,11 @@ unfolding report_text
 no_mark report = refl
 
 document_read : (info facts : Members)
-    → option_and_then as_str (get (codes "documentType") (object info)) ≡ Some (codes "https://xbrl.org/2021/xbrl-json")
+    → option_and_then as_str (get (codes "documentType") (object info)) ≡ Some document_type
     → document_info_of (object (report_members info facts)) ≡ Ok (object info)
 document_read info facts type =
     ap (λ o. ok_or o WrongDocumentType
-    >>= λ type. cond (text_eq type (codes "https://xbrl.org/2021/xbrl-json")) (Ok (object info))
+    >>= λ type. cond (text_eq type document_type) (Ok (object info))
     (Err WrongDocumentType)) type
 
 whole_read : (d : Data) → has_float d ≡ false → whole_text_of d ≡ Ok (compact_text d)

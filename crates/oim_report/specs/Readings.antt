@@ -19,6 +19,7 @@ use Rattle.filing_model.specs.declared.faults.Trouble.{Trouble}
 use Rattle.filing_model.specs.declared.faults.Trouble.TheVariants.{WrongShape, Dims, Fit}
 use Rattle.oim_fact.specs.Names.{names_of}
 use Rattle.oim_fact.specs.Texts.{text_view}
+use Rattle.oim_report.specs.Parts.{document_type}
 
 -- what a value with a model is seen as
 abbrev pub same : {A : Type 0} → A → A
@@ -51,7 +52,7 @@ fitted_of names raw = map_err Fit (fit_of names raw)
 -- its type is that of an xBRL-JSON 1.0 report
 abbrev pub has_document_type : Data → Bool
 has_document_type info =
-    option_map_or (λ type. text_eq type (codes "https://xbrl.org/2021/xbrl-json"))
+    option_map_or (λ type. text_eq type document_type)
     (option_and_then as_str (get (codes "documentType") info)) false
 
 -- the member `documentInfo`, an object of the right document type

@@ -19,7 +19,7 @@ use serde_json::{Map, Value};
 use std::alloc::Global;
 use std::sync::Arc;
 
-/// The document type of xBRL-JSON 1.0.
+/// The document type of a report (xBRL-JSON 1.0), as `document_type` has it.
 const DOCUMENT_TYPE: &str = "https://xbrl.org/2021/xbrl-json";
 
 /// Whether `documentInfo` has the right document type.
@@ -52,7 +52,7 @@ pub(crate) fn document_info(value: Option<Value>) -> Result<Value, ReportFault>
 }
 
 /// The allowed duplicates that a word declares.
-fn allowed_word(word: &str) -> Option<Allowed>
+fn allowed_of_word(word: &str) -> Option<Allowed>
     ensures { result ≡ allowed_of_word word.now }
 {
     if is_same_text(word, "none") {
@@ -85,7 +85,7 @@ pub(crate) fn allowed(info: &Value) -> Result<Allowed, ReportFault>
     let Some(word) = value.as_str() else {
         return Err(ReportFault::BadPolicy);
     };
-    match allowed_word(word) {
+    match allowed_of_word(word) {
         Some(allowed) => Ok(allowed),
         None => Err(ReportFault::BadPolicy),
     }

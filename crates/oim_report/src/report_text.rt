@@ -26,7 +26,8 @@ fn push_entry(out: &mut String, id: &str, fact: &Fact) -> Result<(), AllocError>
 /// Appends facts under their identifiers, with commas between.
 fn push_entries(out: &mut String, facts: &[(String, Arc<Fact>)]) -> Result<(), AllocError>
     ensures text { OnOk result (string_bytes out.new
-        ≡ string_bytes out.old ++ listed false (λ e. member_text e.0 (fact_text e.1)) (facts_view facts.now)) }
+        ≡ string_bytes out.old
+        ++ listed false (λ e. member_text e.0 (fact_text e.1)) (facts_view facts.now)) }
     ensures front { IsFrontPushed out.old out.new
         (listed false (λ e. member_text e.0 (fact_text e.1)) (facts_view facts.now)) }
 {

@@ -51,7 +51,8 @@ pub(crate) fn members_of(value: Value) -> Option<Map<String, Value>>
 pub(crate) fn take_member(members: &mut Map<String, Value>, name: &str) -> Option<Value>
     ensures value { option_map view result ≡ get_member name.now (members_view members.old.entries) }
     ensures others { (other : Text) → text_eq other name.now ≡ false
-        → get_member other (members_view members.new.entries) ≡ get_member other (members_view members.old.entries) }
+        → get_member other (members_view members.new.entries)
+        ≡ get_member other (members_view members.old.entries) }
 {
     members.remove(name)
 }
