@@ -3,8 +3,7 @@ pub mod Texts
 pub mod Dims
 pub mod Tables
 pub mod Names
-pub mod SharedFacts
--- ---- cited within the crate, and where texts of facts are written
 pub mod Facts
+pub mod SharedFacts
 -- ---- cited within the crate alone
 pub mod Tallies

@@ -1,4 +1,5 @@
--- The laws of reading back at a raw fact and at a report with two facts: each premise is met there, and the text and what is read of it compute.
+-- The laws of reading back at a raw fact and at a report with two facts: each premise is met there, and the text and
+-- what is read of it compute.
 use Rattle.std.proofs.Common.{◌≡◌, ◌≤◌, refl, subst, arith, true, pos, negsuc, [], ◌∷◌, ◌++◌, codes, Option, Some, None, Ok, Err}
 use Rattle.std.proofs.lemmas.Str.{IsUtf8-from_is_utf8}
 use Rattle.std.specs.Prelude.{IsUtf8}
@@ -230,7 +231,7 @@ is_whole_text = refl
 
 abbrev json_info : json.Json
 json_info = json.object
-    (json.member (codes "documentType") (json.string (codes "https://xbrl.org/2021/xbrl-json"))
+    (json.member (codes "documentType") (json.string document_type)
     (json.member (codes "features")
     (json.object (json.member (codes "xbrl:allowedDuplicates") (json.string (codes "none")) json.no_members))
     (json.member (codes "namespaces")

@@ -33,7 +33,8 @@ pub record Parts : Type 0 where
 abbrev pub document_type : Text
 document_type = codes "https://xbrl.org/2021/xbrl-json"
 
--- a text is the info of these prefixes and this declared value: the compact text of an object, with whole numbers alone,
+-- a text is the info of these prefixes and this declared value: the compact text of an object, with whole numbers
+-- alone,
 -- that is accepted as `documentInfo` (xBRL-JSON 1.0) and says them
 pub record IsInfo (info : Text) (prefixes : TextMap Text) (allowed : Allowed) : Type 0 where
   pub members : Members
@@ -43,7 +44,8 @@ pub record IsInfo (info : Text) (prefixes : TextMap Text) (allowed : Allowed) : 
   pub declares : allowed_of_features (get (codes "features") (object members)) ≡ Ok allowed
   pub binds : prefixes_of_namespaces (get (codes "namespaces") (object members)) ≡ Ok prefixes
 
--- parts are those of a report: the identifiers strictly rise in byte order, and the info is that of the prefixes and the
+-- parts are those of a report: the identifiers strictly rise in byte order, and the info is that of the prefixes and
+-- the
 -- declared value
 pub record AreParts (parts : Parts) : Type 0 where
   pub rise : T (is_sorted text_cmp parts.facts)

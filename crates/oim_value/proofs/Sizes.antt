@@ -1,4 +1,5 @@
--- Lemmas of the size of a numeral: that the running number of both its parts fits, and is the definition's sum of places.
+-- Lemmas of the size of a numeral: that the running number of both its parts fits, and is the definition's sum of
+-- places.
 use Rattle.std.proofs.Common.{◌≡◌, ℕ, ◌+◌, ◌-◌, ◌*◌, ◌^◌, ◌<◌, ◌≤◌, nat_lt, Bool, true, ℤ, Ok, Err, ◌++◌, length, ap, sym, ◌∙◌, arith, pow-add}
 use Rattle.std.proofs.Math.Nat.{mul-le-mul_right, pow-le-pow_right}
 use Rattle.std.proofs.lemmas.List.Folds.{list_all-append}

@@ -1,6 +1,7 @@
 -- Bounds of numbers and intervals, by which no sum leaves 128 bits.
 --
--- A unit is 10^-12: the last place that a numeral may have behind its point (`most_fraction_digits`). Numbers are counted
+-- A unit is 10^-12: the last place that a numeral may have behind its point (`most_fraction_digits`). Numbers are
+-- counted
 -- in units, so they are whole, and the ends of intervals in half units.
 use Rattle.std.specs.Prelude.{ℕ, ◌+◌, ◌*◌, ◌^◌, ◌<◌, ◌≤◌, ℤ, ◌≤ℤ◌, nat_abs}
 use Rattle.filing_model.specs.Numerals.{most_fraction_digits, most_whole_digits}
