@@ -1,5 +1,5 @@
 -- Lemmas on pieces of which a front was appended.
-use Rattle.std.proofs.Common.{◌≡◌, ℕ, suc, ◌+◌, ◌<◌, Bool, true, List, [], ◌∷◌, ◌++◌, length, drop, get_or, map, Result, Ok, Err, is_ok, refl, sym, ap, subst, ◌∙◌, append_assoc, append-nil, arith}
+use Rattle.std.proofs.Common.{◌≡◌, ℕ, suc, ◌+◌, ◌<◌, Bool, true, List, [], ◌∷◌, ◌++◌, length, drop, get_or, map, OnErr, Result, Ok, Err, is_ok, refl, sym, ap, subst, ◌∙◌, append_assoc, append-nil, arith}
 use Rattle.std.proofs.Math.Seq.{drop-cons}
 use Rattle.std.specs.Bool.{if◌then◌else◌}
 use Rattle.std.proofs.lemmas.List.{append_cancel_left}
@@ -7,6 +7,16 @@ use Rattle.serde_json.specs.Written.{comma_if}
 use Rattle.filing_model.specs.Text.{Text}
 use Rattle.filing_model.specs.Writing.{listed}
 use Rattle.oim_report.specs.Appended.{IsFrontAppended}
+
+-- what holds in any case holds where memory was wanted
+pub on_err : {A E P : Type 0} (r : Result A E) → P → OnErr r P
+on_err (Ok x) h = tt
+on_err (Err e) h = h
+
+-- what follows from a call's answer, which is answered too
+pub on_err_too : {A E P Q : Type 0} (r : Result A E) → (P → Q) → OnErr r P → OnErr r Q
+on_err_too (Ok x) f h = tt
+on_err_too (Err e) f h = f h
 
 -- what was appended, by another name
 pub appended_as : {new piece same : Text} (old : Text) → new ≡ old ++ piece → piece ≡ same → new ≡ old ++ same

@@ -1,6 +1,6 @@
 //! Facts as compact JSON (xBRL-JSON 1.0, the fact object).
 
-ghost use Rattle.std.specs.Prelude.{◌≡◌, ◌++◌, OnOk, IfOk, string_bytes};
+ghost use Rattle.std.specs.Prelude.{◌≡◌, ◌++◌, OnOk, OnErr, IfOk, string_bytes};
 ghost use Rattle.filing_model.specs.Writing.{decimals_in, dims_text, fact_text, links_text, member_text, nullable_text, raw_fact_text, text_of as text_of_value};
 ghost use Rattle.oim_fact.specs.Texts.{text_view};
 ghost use Rattle.oim_fact.specs.Dims.{dims_view};
@@ -17,8 +17,8 @@ use std::alloc::{AllocError, Global};
 fn push_dim(out: &mut String, name: &str, value: &Option<String>) -> Result<(), AllocError>
     ensures text { OnOk result (string_bytes out.new
         ≡ string_bytes out.old ++ member_text name.now (nullable_text (text_view value.now))) }
-    ensures front { IsFrontPushed out.old out.new
-        (member_text name.now (nullable_text (text_view value.now))) }
+    ensures front { OnErr result (IsFrontPushed out.old out.new
+        (member_text name.now (nullable_text (text_view value.now)))) }
 {
     push_quoted(out, name)?;
     out.push_str(":")?;
@@ -29,7 +29,7 @@ fn push_dim(out: &mut String, name: &str, value: &Option<String>) -> Result<(), 
 fn push_pairs(out: &mut String, pairs: &[(String, Option<String>)]) -> Result<(), AllocError>
     ensures text { OnOk result (string_bytes out.new
         ≡ string_bytes out.old ++ dims_text (dims_view pairs.now)) }
-    ensures front { IsFrontPushed out.old out.new (dims_text (dims_view pairs.now)) }
+    ensures front { OnErr result (IsFrontPushed out.old out.new (dims_text (dims_view pairs.now))) }
 {
     out.push_str("{")?;
     let mut later = false;
@@ -44,7 +44,7 @@ fn push_pairs(out: &mut String, pairs: &[(String, Option<String>)]) -> Result<()
 /// Appends a dimension set as an object, in byte order of the names.
 pub fn push_dims(out: &mut String, dims: &DimSet) -> Result<(), AllocError>
     ensures text { OnOk result (string_bytes out.new ≡ string_bytes out.old ++ dims_text dims.now) }
-    ensures front { IsFrontPushed out.old out.new (dims_text dims.now) }
+    ensures front { OnErr result (IsFrontPushed out.old out.new (dims_text dims.now)) }
 {
     push_pairs(out, dims.pairs())
 }
@@ -53,7 +53,7 @@ pub fn push_dims(out: &mut String, dims: &DimSet) -> Result<(), AllocError>
 fn push_links(out: &mut String, links: &Option<String>) -> Result<(), AllocError>
     ensures text { OnOk result (string_bytes out.new
         ≡ string_bytes out.old ++ links_text (text_view links.now)) }
-    ensures front { IsFrontPushed out.old out.new (links_text (text_view links.now)) }
+    ensures front { OnErr result (IsFrontPushed out.old out.new (links_text (text_view links.now))) }
 {
     match links {
         None => Ok(()),
@@ -73,8 +73,8 @@ fn push_before_value(
 ) -> Result<(), AllocError>
     ensures text { OnOk result (string_bytes out.new
         ≡ string_bytes out.old ++ before_value decimals.now dims.now (text_view links.now)) }
-    ensures front { IsFrontPushed out.old out.new
-        (before_value decimals.now dims.now (text_view links.now)) }
+    ensures front { OnErr result (IsFrontPushed out.old out.new
+        (before_value decimals.now dims.now (text_view links.now))) }
 {
     out.push_str("{")?;
     push_decimals(out, decimals)?;
@@ -101,8 +101,8 @@ fn decimals(value: &FactValue) -> Option<i64>
 fn push_value(out: &mut String, value: &FactValue) -> Result<(), AllocError>
     ensures text { OnOk result (string_bytes out.new
         ≡ string_bytes out.old ++ nullable_text (text_of_value (value_view value.now))) }
-    ensures front { IsFrontPushed out.old out.new
-        (nullable_text (text_of_value (value_view value.now))) }
+    ensures front { OnErr result (IsFrontPushed out.old out.new
+        (nullable_text (text_of_value (value_view value.now)))) }
 {
     match value {
         FactValue::Nil => out.push_str("null"),
@@ -114,7 +114,7 @@ fn push_value(out: &mut String, value: &FactValue) -> Result<(), AllocError>
 #[tactic(auto, using(crate::proofs::WrittenPieces::fact_written))]
 pub fn push_fact(out: &mut String, fact: &Fact) -> Result<(), AllocError>
     ensures text { OnOk result (string_bytes out.new ≡ string_bytes out.old ++ fact_text fact.now) }
-    ensures front { IsFrontPushed out.old out.new (fact_text fact.now) }
+    ensures front { OnErr result (IsFrontPushed out.old out.new (fact_text fact.now)) }
 {
     push_before_value(out, &decimals(&fact.value), &fact.dims, &fact.links)?;
     push_value(out, &fact.value)?;
@@ -135,7 +135,7 @@ pub fn write_fact(alloc: Global, fact: &Fact) -> Result<String, AllocError>
 pub fn push_raw(out: &mut String, raw: &RawFact) -> Result<(), AllocError>
     ensures text { OnOk result (string_bytes out.new
         ≡ string_bytes out.old ++ raw_fact_text raw.now) }
-    ensures front { IsFrontPushed out.old out.new (raw_fact_text raw.now) }
+    ensures front { OnErr result (IsFrontPushed out.old out.new (raw_fact_text raw.now)) }
 {
     push_before_value(out, &raw.decimals, &raw.dims, &raw.links)?;
     push_nullable(out, &raw.value)?;

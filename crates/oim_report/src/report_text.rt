@@ -1,6 +1,6 @@
 //! Reports as compact JSON (xBRL-JSON 1.0).
 
-ghost use Rattle.std.specs.Prelude.{◌≡◌, ◌++◌, OnOk, IfOk, false, string_bytes};
+ghost use Rattle.std.specs.Prelude.{◌≡◌, ◌++◌, OnOk, OnErr, IfOk, false, string_bytes};
 ghost use Rattle.filing_model.specs.Writing.{fact_text, listed, member_text, report_text};
 ghost use Rattle.oim_report.specs.Parts.{facts_view};
 ghost use Rattle.oim_report.specs.Appended.{IsFrontPushed};
@@ -16,7 +16,7 @@ use std::sync::Arc;
 fn push_entry(out: &mut String, id: &str, fact: &Fact) -> Result<(), AllocError>
     ensures text { OnOk result (string_bytes out.new
         ≡ string_bytes out.old ++ member_text id.now (fact_text fact.now)) }
-    ensures front { IsFrontPushed out.old out.new (member_text id.now (fact_text fact.now)) }
+    ensures front { OnErr result (IsFrontPushed out.old out.new (member_text id.now (fact_text fact.now))) }
 {
     push_quoted(out, id)?;
     out.push_str(":")?;
@@ -28,8 +28,8 @@ fn push_entries(out: &mut String, facts: &[(String, Arc<Fact>)]) -> Result<(), A
     ensures text { OnOk result (string_bytes out.new
         ≡ string_bytes out.old
         ++ listed false (λ e. member_text e.0 (fact_text e.1)) (facts_view facts.now)) }
-    ensures front { IsFrontPushed out.old out.new
-        (listed false (λ e. member_text e.0 (fact_text e.1)) (facts_view facts.now)) }
+    ensures front { OnErr result (IsFrontPushed out.old out.new
+        (listed false (λ e. member_text e.0 (fact_text e.1)) (facts_view facts.now))) }
 {
     let mut later = false;
     for (id, fact) in facts {
@@ -44,7 +44,7 @@ fn push_entries(out: &mut String, facts: &[(String, Arc<Fact>)]) -> Result<(), A
 pub fn push_report(out: &mut String, report: &Report) -> Result<(), AllocError>
     ensures text { OnOk result (string_bytes out.new
         ≡ string_bytes out.old ++ report_text report.now) }
-    ensures front { IsFrontPushed out.old out.new (report_text report.now) }
+    ensures front { OnErr result (IsFrontPushed out.old out.new (report_text report.now)) }
 {
     out.push_str("{\"documentInfo\":")?;
     out.push_str(report.info())?;

@@ -2,7 +2,7 @@ use Rattle.std.proofs.Common.{codes, string_bytes}
 use Rattle.filing_model.specs.Writing.{decimals_text, dims_text, links_text}
 use Rattle.oim_fact.specs.Texts.{text_view}
 use Rattle.oim_report.specs.Pieces.{before_value}
-use Rattle.oim_report.proofs.Fronts.{front_before, front_behind, front_pushed}
+use Rattle.oim_report.proofs.Fronts.{on_err, front_before, front_behind, front_pushed}
 use Rattle.oim_report.proofs.WrittenPieces.{once_appended, six_pieces}
 use Rattle.oim_report.proofs.fact_text.push_before_value.Goals as goal
 
@@ -23,38 +23,43 @@ returns-clause-text c =
 pub returns-in_err-push_decimals-clause-front : goal.returns-in_err-push_decimals-clause-front
 unfolding before_value
 returns-in_err-push_decimals-clause-front c =
-    front_behind (codes "{") c.in_ok-push_str.ensures.bytes (front_before _ c.push_decimals.ensures.front)
+    on_err c.from_residual-in_err-push_decimals.result
+    (front_behind (codes "{") c.in_ok-push_str.ensures.bytes (front_before _ c.in_err-push_decimals.ensures.front))
 
 pub returns-in_err-push_str-2-clause-front : goal.returns-in_err-push_str-2-clause-front
 unfolding before_value
 returns-in_err-push_str-2-clause-front c =
     let name = front_pushed c.push_str-2.result (codes "\"dimensions\":") c.push_str-2.ensures.bytes in
-    front_behind (codes "{") c.in_ok-push_str.ensures.bytes
-    (front_behind (decimals_text c.args.decimals.now) c.in_ok-push_decimals.ensures.text (front_before _ name))
+    on_err c.from_residual-in_err-push_str-2.result
+    (front_behind (codes "{") c.in_ok-push_str.ensures.bytes
+    (front_behind (decimals_text c.args.decimals.now) c.in_ok-push_decimals.ensures.text (front_before _ name)))
 
 pub returns-in_err-push_dims-clause-front : goal.returns-in_err-push_dims-clause-front
 unfolding before_value
 returns-in_err-push_dims-clause-front c =
-    front_behind (codes "{") c.in_ok-push_str.ensures.bytes
+    on_err c.from_residual-in_err-push_dims.result
+    (front_behind (codes "{") c.in_ok-push_str.ensures.bytes
     (front_behind (decimals_text c.args.decimals.now) c.in_ok-push_decimals.ensures.text
     (front_behind (codes "\"dimensions\":") c.in_ok-push_str-2.ensures.bytes
-    (front_before _ c.push_dims.ensures.front)))
+    (front_before _ c.in_err-push_dims.ensures.front))))
 
 pub returns-in_err-push_links-clause-front : goal.returns-in_err-push_links-clause-front
 unfolding before_value
 returns-in_err-push_links-clause-front c =
-    front_behind (codes "{") c.in_ok-push_str.ensures.bytes
+    on_err c.from_residual-in_err-push_links.result
+    (front_behind (codes "{") c.in_ok-push_str.ensures.bytes
     (front_behind (decimals_text c.args.decimals.now) c.in_ok-push_decimals.ensures.text
     (front_behind (codes "\"dimensions\":") c.in_ok-push_str-2.ensures.bytes
     (front_behind (dims_text c.args.dims.now) c.in_ok-push_dims.ensures.text
-    (front_before _ c.push_links.ensures.front))))
+    (front_before _ c.in_err-push_links.ensures.front)))))
 
 pub returns-clause-front : goal.returns-clause-front
 unfolding before_value
 returns-clause-front c =
     let name = front_pushed c.push_str-3.result (codes ",\"value\":") c.push_str-3.ensures.bytes in
-    front_behind (codes "{") c.in_ok-push_str.ensures.bytes
+    on_err c.push_str-3.result
+    (front_behind (codes "{") c.in_ok-push_str.ensures.bytes
     (front_behind (decimals_text c.args.decimals.now) c.in_ok-push_decimals.ensures.text
     (front_behind (codes "\"dimensions\":") c.in_ok-push_str-2.ensures.bytes
     (front_behind (dims_text c.args.dims.now) c.in_ok-push_dims.ensures.text
-    (front_behind (links_text (text_view c.args.links.now)) c.in_ok-push_links.ensures.text name))))
+    (front_behind (links_text (text_view c.args.links.now)) c.in_ok-push_links.ensures.text name)))))

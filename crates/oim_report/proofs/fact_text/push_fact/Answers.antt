@@ -7,7 +7,7 @@ use Rattle.oim_fact.specs.Facts.{value_view}
 use Rattle.oim_fact.specs.Texts.{text_view}
 use Rattle.oim_fact.specs.declared.fact.FactValue.{FactValue}
 use Rattle.oim_report.specs.Appended.{IsFrontAppended}
-use Rattle.oim_report.proofs.Fronts.{front_pushed}
+use Rattle.oim_report.proofs.Fronts.{on_err, front_pushed}
 use Rattle.oim_report.proofs.WrittenPieces.{front_before_value, front_in_value, front_after_value}
 use Rattle.oim_report.proofs.fact_text.push_fact.Goals as goal
 
@@ -22,23 +22,26 @@ pub returns-in_err-push_before_value-clause-front : goal.returns-in_err-push_bef
 returns-in_err-push_before_value-clause-front c =
     let fact = c.fact.inside in
     let is = is_text fact.dims fact.value (text_view fact.links) c.decimals.result c.decimals.ensures ∙ ap fact_text c.fact.view_is in
-    subst (IsFrontAppended (string_bytes c.args.out.now) (string_bytes c.push_before_value.new.out)) is
+    on_err c.from_residual.result
+    (subst (IsFrontAppended (string_bytes c.args.out.now) (string_bytes c.push_before_value.new.out)) is
     (front_before_value fact.dims (text_of_value (value_view fact.value)) c.decimals.result (text_view fact.links)
-    c.push_before_value.ensures.front)
+    c.in_err-push_before_value.ensures.front))
 
 pub returns-in_err-push_value-clause-front : goal.returns-in_err-push_value-clause-front
 returns-in_err-push_value-clause-front c =
     let fact = c.fact.inside in
     let is = is_text fact.dims fact.value (text_view fact.links) c.decimals.result c.decimals.ensures ∙ ap fact_text c.fact.view_is in
-    subst (IsFrontAppended (string_bytes c.args.out.now) (string_bytes c.push_value.new.out)) is
+    on_err c.from_residual-in_err-push_value.result
+    (subst (IsFrontAppended (string_bytes c.args.out.now) (string_bytes c.push_value.new.out)) is
     (front_in_value fact.dims (text_of_value (value_view fact.value)) c.decimals.result (text_view fact.links)
-    c.in_ok-push_before_value.ensures.text c.push_value.ensures.front)
+    c.in_ok-push_before_value.ensures.text c.in_err-push_value.ensures.front))
 
 pub returns-clause-front : goal.returns-clause-front
 returns-clause-front c =
     let fact = c.fact.inside in
     let is = is_text fact.dims fact.value (text_view fact.links) c.decimals.result c.decimals.ensures ∙ ap fact_text c.fact.view_is in
-    subst (IsFrontAppended (string_bytes c.args.out.now) (string_bytes c.push_str.new.self)) is
+    on_err c.push_str.result
+    (subst (IsFrontAppended (string_bytes c.args.out.now) (string_bytes c.push_str.new.self)) is
     (front_after_value fact.dims (text_of_value (value_view fact.value)) c.decimals.result (text_view fact.links)
     c.in_ok-push_before_value.ensures.text c.in_ok-push_value.ensures.text
-    (front_pushed c.push_str.result (codes "}") c.push_str.ensures.bytes))
+    (front_pushed c.push_str.result (codes "}") c.push_str.ensures.bytes)))

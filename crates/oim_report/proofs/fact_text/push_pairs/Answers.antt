@@ -6,7 +6,7 @@ use Rattle.filing_model.specs.Writing.{listed, member_text, nullable_text}
 use Rattle.oim_fact.specs.Dims.{dims_view}
 use Rattle.oim_fact.specs.Texts.{text_view}
 use Rattle.oim_report.specs.Appended.{IsFrontAppended}
-use Rattle.oim_report.proofs.Fronts.{front_before, front_behind, front_underway, underway_first, underway_next, listed_next}
+use Rattle.oim_report.proofs.Fronts.{on_err, front_before, front_behind, front_underway, underway_first, underway_next, listed_next}
 use Rattle.oim_report.proofs.fact_text.push_pairs.Goals as goal
 
 abbrev Pair : Type 0
@@ -35,8 +35,9 @@ loop-name-preserved c =
 pub returns-in_err-push_comma-clause-front : goal.returns-in_err-push_comma-clause-front
 returns-in_err-push_comma-clause-front c =
     let left = next c.loop-name.later c.args.pairs.now c.loop-name.name-index _ c.loop-name-test.true c.loop-name-item.is in
-    front_behind (codes "{") c.in_ok-push_str.ensures.bytes
-    (front_before (codes "}") (front_underway _ c.loop-name.invariant left c.push_comma.ensures.front))
+    on_err c.from_residual-in_err-push_comma.result
+    (front_behind (codes "{") c.in_ok-push_str.ensures.bytes
+    (front_before (codes "}") (front_underway _ c.loop-name.invariant left c.in_err-push_comma.ensures.front)))
 
 pub returns-in_err-push_dim-clause-front : goal.returns-in_err-push_dim-clause-front
 returns-in_err-push_dim-clause-front c =
@@ -44,4 +45,5 @@ returns-in_err-push_dim-clause-front c =
     let dim : IsFrontAppended (string_bytes c.push_comma.new.out) (string_bytes c.push_dim.new.out)
     (pair_text c.loop-name-item.result) = search rules in
     let comma = underway_next (comma_if c.loop-name.later) c.loop-name.invariant left c.in_ok-push_comma.ensures.text in
-    front_behind (codes "{") c.in_ok-push_str.ensures.bytes (front_before (codes "}") (front_underway _ comma refl dim))
+    on_err c.from_residual-in_err-push_dim.result
+    (front_behind (codes "{") c.in_ok-push_str.ensures.bytes (front_before (codes "}") (front_underway _ comma refl dim)))

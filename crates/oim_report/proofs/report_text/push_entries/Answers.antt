@@ -7,7 +7,7 @@ use Rattle.filing_model.specs.Facts.{Fact}
 use Rattle.filing_model.specs.Writing.{fact_text, listed, member_text}
 use Rattle.oim_report.specs.Appended.{IsFrontAppended}
 use Rattle.oim_report.specs.Parts.{fact_view, facts_view}
-use Rattle.oim_report.proofs.Fronts.{front_underway, underway_first, underway_next, listed_next}
+use Rattle.oim_report.proofs.Fronts.{on_err, front_underway, underway_first, underway_next, listed_next}
 use Rattle.oim_report.proofs.report_text.push_entries.Goals as goal
 
 abbrev Entry : Type 0
@@ -35,11 +35,13 @@ loop-id-preserved c =
 pub returns-in_err-push_comma-clause-front : goal.returns-in_err-push_comma-clause-front
 returns-in_err-push_comma-clause-front c =
     let left = next c.loop-id.later c.args.facts.now c.loop-id.id-index _ c.loop-id-test.true c.loop-id-item.is in
-    front_underway _ c.loop-id.invariant left c.push_comma.ensures.front
+    on_err c.from_residual.result
+    (front_underway _ c.loop-id.invariant left c.in_err-push_comma.ensures.front)
 
 pub returns-in_err-push_entry-clause-front : goal.returns-in_err-push_entry-clause-front
 returns-in_err-push_entry-clause-front c =
     let left = next c.loop-id.later c.args.facts.now c.loop-id.id-index _ c.loop-id-test.true c.loop-id-item.is in
     let entry : IsFrontAppended (string_bytes c.push_comma.new.out) (string_bytes c.push_entry.new.out)
     (entry_text c.loop-id-item.result) = search rules in
-    front_underway _ (underway_next (comma_if c.loop-id.later) c.loop-id.invariant left c.in_ok-push_comma.ensures.text) refl entry
+    on_err c.from_residual-in_err-push_entry.result
+    (front_underway _ (underway_next (comma_if c.loop-id.later) c.loop-id.invariant left c.in_ok-push_comma.ensures.text) refl entry)
