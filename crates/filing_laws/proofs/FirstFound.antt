@@ -1,4 +1,4 @@
--- What is found first_holds in maps that answer alike is the same.
+-- What is found first in maps that answer alike is the same.
 use Rattle.std.proofs.Common.{◌≡◌, ◌∙◌, ap, sym, refl, Bool, true, false, cond, T, List, [], ◌∷◌, filter_map, Option, Some, None, option_map, option_and_then, is_lt}
 use Rattle.std.specs.List.{cons_option, list_all}
 use Rattle.std.specs.Option.{option_or}
@@ -88,7 +88,7 @@ module _ {X B : Type 0} (f : Text → X → Option B) where
       by false other None is later = later
       by false other (Some x) is later = ap (λ b. cond b (Some x) (find text_cmp q (made es))) other ∙ later
 
--- ---- the first_holds
+-- ---- the first
 
 abbrev front : {A : Type 0} → List A → Option A
 front [] = None

@@ -56,7 +56,7 @@ pub pairs_always : {A : Type 0} (test : A → A → Bool) → ((x y : A) → tes
 pairs_always test always [] = refl
 pairs_always test always (x ∷ xs) = and_from (list_all (test x) xs) (every_pair test xs) (all_always (test x) (always x) xs) (pairs_always test always xs)
 
--- a test that two elements pass where and_parts pass it with a third: every pair passes where all pass it with the first
+-- a test that two elements pass where both pass it with a third: every pair passes where all pass it with the first
 module _ {A : Type 0} (test : A → A → Bool) (through : (x y z : A) → test x y ≡ true → test x z ≡ true → test y z ≡ true) where
   all_with_one : (x : A) (xs : List A) → list_all (test x) xs ≡ true → every_pair test xs ≡ true
   all_with_one x [] holds = refl

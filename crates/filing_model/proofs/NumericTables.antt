@@ -1,4 +1,4 @@
--- A numeric table has the rows that it is made of, in byte order, none asked_twice.
+-- A numeric table has the rows that it is made of, in byte order, none twice.
 use Rattle.std.proofs.Common.{◌≡◌, Bool, true, false, ◌||◌, [], ◌∷◌, fold, Less, Equal, Greater, ap, sym, ◌∙◌, refl}
 use Rattle.std.specs.Cmp.{IsTotalOrder, on_total, then_total}
 use Rattle.std.specs.Cmp.Lexicographic.{nat_list_cmp_total}

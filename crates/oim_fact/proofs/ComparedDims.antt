@@ -12,7 +12,7 @@ use Rattle.std.specs.declared.alloc.Global.{Global}
 use Rattle.std.specs.Cmp.{tied_then}
 use Rattle.filing_model.specs.Text.{text_cmp}
 use Rattle.filing_model.specs.Dimensions.{dims_cmp, dims_eq}
-use Rattle.oim_fact.specs.Texts.{text_of}
+use Rattle.oim_fact.specs.Texts.{text_view}
 use Rattle.oim_fact.specs.Dims.{dims_view, dims_hash}
 
 -- a dimension as the program holds it
@@ -28,7 +28,7 @@ held_eq p q = string_eq p.0 q.0 && option_eq string_eq p.1 q.1
 abbrev pub held_hash : Held → HashWrites
 held_hash p = fed.str (string_bytes p.0) ++ fed.option (λ s. fed.str (string_bytes s)) p.1
 
-nullable_cmp : (x y : Option (String Global)) → option_cmp string_cmp x y ≡ option_cmp text_cmp (text_of x) (text_of y)
+nullable_cmp : (x y : Option (String Global)) → option_cmp string_cmp x y ≡ option_cmp text_cmp (text_view x) (text_view y)
 nullable_cmp None None = refl
 nullable_cmp None (Some y) = refl
 nullable_cmp (Some x) None = refl
@@ -47,12 +47,14 @@ nullable_eq (Some x) None = refl
 nullable_eq (Some x) (Some y) = texts_ties (string_bytes x) (string_bytes y)
 
 held_ties : (p q : Held) → held_eq p q ≡ is_eq (held_cmp p q)
-held_ties p q = (λ i. texts_ties (string_bytes p.0) (string_bytes q.0) i && nullable_eq p.1 q.1 i) ∙ tied_then (string_cmp p.0 q.0) (option_cmp string_cmp p.1 q.1)
+held_ties p q =
+    (λ i. texts_ties (string_bytes p.0) (string_bytes q.0) i && nullable_eq p.1 q.1 i)
+    ∙ tied_then (string_cmp p.0 q.0) (option_cmp string_cmp p.1 q.1)
 
 pub equal : (ps qs : List Held) → pointwise held_eq ps qs ≡ dims_eq (dims_view ps) (dims_view qs)
 equal ps qs = lists_ties held_cmp held_ties ps qs ∙ ap is_eq (compared ps qs)
 
-nullable_fed : (x : Option (String Global)) → fed.option (λ s. fed.str (string_bytes s)) x ≡ fed.option fed.str (text_of x)
+nullable_fed : (x : Option (String Global)) → fed.option (λ s. fed.str (string_bytes s)) x ≡ fed.option fed.str (text_view x)
 nullable_fed None = refl
 nullable_fed (Some x) = refl
 
@@ -61,4 +63,6 @@ each_fed [] = refl
 each_fed (p ∷ ps) = λ i. (fed.str (string_bytes p.0) ++ nullable_fed p.1 i) ++ each_fed ps i
 
 pub hashed : (ps : List Held) → fed.slice held_hash ps ≡ dims_hash (dims_view ps)
-hashed ps = let long : length ps ≡ length (dims_view ps) = sym (length-map ps (λ p. (string_bytes p.0, text_of p.1))) in λ i. fed.usize (long i) ++ each_fed ps i
+hashed ps =
+    let long : length ps ≡ length (dims_view ps) = sym (length-map ps (λ p. (string_bytes p.0, text_view p.1))) in
+    λ i. fed.usize (long i) ++ each_fed ps i

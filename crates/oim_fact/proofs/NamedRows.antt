@@ -47,13 +47,19 @@ named_by c (row ∷ rows) = ap (λ ts. text_in c row ∷ ts) (named_by c rows)
 
 repeated : (c : Column) (rows : List (Text × Text)) → NoneFalls (column c rows) → has_repeats (column c rows) ≡ has_neighbours (column c rows)
 repeated c rows h =
-    subst (λ ts. has_repeats ts ≡ has_neighbours ts) (named_by c rows) (repeated_are_neighbours (map (λ r. (text_in c r, r)) rows) (subst NoneFalls (sym (named_by c rows)) h))
+    subst (λ ts. has_repeats ts ≡ has_neighbours ts) (named_by c rows)
+    (repeated_are_neighbours (map (λ r. (text_in c r, r)) rows) (subst NoneFalls (sym (named_by c rows)) h))
 
-pub same_repeats : (c : Column) (rows sorted : List Held) → IsPermutation rows sorted → has_repeats (column c (rows_view rows)) ≡ has_repeats (column c (rows_view sorted))
-same_repeats c rows sorted moved = has_repeats-IsPermutation _ _ (IsPermutation-map (text_in c) (rows_view rows) (rows_view sorted) (IsPermutation-map row_of rows sorted moved))
+pub same_repeats : (c : Column) (rows sorted : List Held) → IsPermutation rows sorted
+    → has_repeats (column c (rows_view rows)) ≡ has_repeats (column c (rows_view sorted))
+same_repeats c rows sorted moved =
+    has_repeats-IsPermutation _ _ (IsPermutation-map (text_in c) (rows_view rows) (rows_view sorted)
+    (IsPermutation-map row_of rows sorted moved))
 
 -- the test on what was sorted is that on what it was sorted from
-pub repeats_from_sorted : (c : Column) (rows sorted : List Held) → IsPermutation rows sorted → NoneFalls (column c (rows_view sorted)) → has_neighbours (column c (rows_view sorted)) ≡ has_repeats (column c (rows_view rows))
+pub repeats_from_sorted : (c : Column) (rows sorted : List Held) → IsPermutation rows sorted
+    → NoneFalls (column c (rows_view sorted))
+    → has_neighbours (column c (rows_view sorted)) ≡ has_repeats (column c (rows_view rows))
 repeats_from_sorted c rows sorted moved h = sym (repeated c (rows_view sorted) h) ∙ sym (same_repeats c rows sorted moved)
 
 -- ---- the names
@@ -68,17 +74,24 @@ unaliased is_aliased bound = cond is_aliased (Err AliasTwice) (Ok (from_entries 
 pub name_twice : (bound : List (Text × Text)) (table : Table) → has_repeats (column Prefix bound) ≡ true → Err NameTwice ≡ names_of bound table
 name_twice bound table h = sym (ap (λ b. named table (cond b (Err NameTwice) (unaliased (has_repeats (column Uri bound)) bound))) h)
 
-pub alias_twice : (bound : List (Text × Text)) (table : Table) → has_repeats (column Prefix bound) ≡ false → has_repeats (column Uri bound) ≡ true → Err AliasTwice ≡ names_of bound table
+pub alias_twice : (bound : List (Text × Text)) (table : Table) → has_repeats (column Prefix bound) ≡ false
+    → has_repeats (column Uri bound) ≡ true → Err AliasTwice ≡ names_of bound table
 alias_twice bound table h k = sym (λ i. named table (cond (h i) (Err NameTwice) (unaliased (k i) bound)))
 
-pub names_of-sorted : (rows sorted : List Held) (table : Table) → IsPermutation rows sorted → has_repeats (column Prefix (rows_view rows)) ≡ false → has_repeats (column Uri (rows_view rows)) ≡ false
+pub names_of-sorted : (rows sorted : List Held) (table : Table) → IsPermutation rows sorted
+    → has_repeats (column Prefix (rows_view rows)) ≡ false → has_repeats (column Uri (rows_view rows)) ≡ false
     → Ok (record { prefixes = from_entries (rows_view sorted); table = table }) ≡ names_of (rows_view rows) table
 names_of-sorted rows sorted table moved h k =
     sym (ap (named table) (prefixes_of-IsPermutation (rows_view rows) (rows_view sorted) (IsPermutation-map row_of rows sorted moved))
-    ∙ (λ i. named table (cond ((sym (same_repeats Prefix rows sorted moved) ∙ h) i) (Err NameTwice) (unaliased ((sym (same_repeats Uri rows sorted moved) ∙ k) i) (rows_view sorted)))))
+    ∙ (λ i. named table (cond ((sym (same_repeats Prefix rows sorted moved) ∙ h) i) (Err NameTwice)
+    (unaliased ((sym (same_repeats Uri rows sorted moved) ∙ k) i) (rows_view sorted)))))
 
-pub is_sorted-rows : (rows sorted : List Held) → IsPermutation rows sorted → NoneFalls (column Prefix (rows_view sorted)) → has_repeats (column Prefix (rows_view rows)) ≡ false → T (is_sorted text_cmp (rows_view sorted))
-is_sorted-rows rows sorted moved rises once = sorted_from_rises (rows_view sorted) (Rises-names (rows_view sorted) rises) (sym (same_repeats Prefix rows sorted moved) ∙ once)
+pub is_sorted-rows : (rows sorted : List Held) → IsPermutation rows sorted
+    → NoneFalls (column Prefix (rows_view sorted)) → has_repeats (column Prefix (rows_view rows)) ≡ false
+    → T (is_sorted text_cmp (rows_view sorted))
+is_sorted-rows rows sorted moved rises once =
+    sorted_from_rises (rows_view sorted) (Rises-names (rows_view sorted) rises)
+    (sym (same_repeats Prefix rows sorted moved) ∙ once)
 
 -- ---- a binary search
 
@@ -86,7 +99,12 @@ abbrev bound_to : List Held → Text → Option Text
 bound_to rows prefix = get (from_entries (rows_view rows)) prefix
 
 -- it finds the URI that the prefix is bound to
-pub searched_prefix : (rows : List Held) (prefix : Text) (r : Result ℕ ℕ) → T (is_sorted text_cmp (rows_view rows)) → IsSearchInRange r (length rows) → IsBinarySearchResult (λ row. text_cmp (row_of row).0 prefix) rows r
+pub searched_prefix : (rows : List Held) (prefix : Text) (r : Result ℕ ℕ) → T (is_sorted text_cmp (rows_view rows))
+    → IsSearchInRange r (length rows) → IsBinarySearchResult (λ row. text_cmp (row_of row).0 prefix) rows r
     → MatchResult r (λ i. (d : Held) → bound_to rows prefix ≡ Some (string_bytes (get_or rows i d).1)) (λ i. bound_to rows prefix ≡ None)
-searched_prefix rows prefix (Ok i) h range at = λ d. get-from_entries (rows_view rows) prefix ∙ searched text_cmp nat_list_cmp_total row_of prefix rows (Ok i) h range at d
-searched_prefix rows prefix (Err i) h range split = get-from_entries (rows_view rows) prefix ∙ searched text_cmp nat_list_cmp_total row_of prefix rows (Err i) h range split
+searched_prefix rows prefix (Ok i) h range at =
+    λ d. get-from_entries (rows_view rows) prefix
+    ∙ searched text_cmp nat_list_cmp_total row_of prefix rows (Ok i) h range at d
+searched_prefix rows prefix (Err i) h range split =
+    get-from_entries (rows_view rows) prefix
+    ∙ searched text_cmp nat_list_cmp_total row_of prefix rows (Err i) h range split

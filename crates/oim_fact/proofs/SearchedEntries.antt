@@ -20,7 +20,7 @@ module _ {P K X : Type 0} (R : K → K → Ordering) (o : IsTotalOrder R) (entry
   turned : (x y : K) → R x y ≡ Less → R y x ≡ Greater
   turned x y l = o.antisymm y x ∙ ap ordering_reverse l
 
-  -- no element is less_from_is_lt than the one before it
+  -- no element is less than the one before it
   pub IsSortedBy-entries : (ps : List P) → T (is_sorted R (entries ps)) → IsSortedBy (λ a b. is_lt (R (entry a).0 (entry b).0)) ps
   IsSortedBy-entries [] h k d low high = absurd (omega arith)
   IsSortedBy-entries (p ∷ ps) h zero d low high = ap is_lt (turned _ _ (below_at (entry p).0 ps 0 d (first_holds _ _ h) (omega arith)))
@@ -29,18 +29,24 @@ module _ {P K X : Type 0} (R : K → K → Ordering) (o : IsTotalOrder R) (entry
       rw next (IsSortedBy-entries ps (second_holds _ _ h) k d (omega arith) (omega arith))
 
   module _ (q : K) where
-    found_at : (ps : List P) (i : ℕ) (d : P) → T (is_sorted R (entries ps)) → i < length ps → R (entry (get_or ps i d)).0 q ≡ Equal → find R q (entries ps) ≡ Some (entry (get_or ps i d)).1
+    found_at : (ps : List P) (i : ℕ) (d : P) → T (is_sorted R (entries ps)) → i < length ps
+        → R (entry (get_or ps i d)).0 q ≡ Equal → find R q (entries ps) ≡ Some (entry (get_or ps i d)).1
     found_at [] i d h low e = absurd (omega arith)
     found_at (p ∷ ps) zero d h low e = ap (λ r. cond (is_eq r) (Some (entry p).1) (find R q (entries ps))) (tied_back o _ _ e)
     found_at (p ∷ ps) (suc i) d h low e =
-        let apart : R q (entry p).0 ≡ Greater = sym (o.congr _ q (entry p).0 e) ∙ turned _ _ (below_at (entry p).0 ps i d (first_holds _ _ h) (omega arith)) in
+        let apart : R q (entry p).0 ≡ Greater =
+        sym (o.congr _ q (entry p).0 e)
+        ∙ turned _ _ (below_at (entry p).0 ps i d (first_holds _ _ h) (omega arith)) in
         ap (λ r. cond (is_eq r) (Some (entry p).1) (find R q (entries ps))) apart ∙ found_at ps i d (second_holds _ _ h) (omega arith) e
 
     none_found : (ps : List P) → ((k : ℕ) (d : P) → k < length ps → is_eq (R q (entry (get_or ps k d)).0) ≡ false) → find R q (entries ps) ≡ None
     none_found [] h = refl
-    none_found (p ∷ ps) h = ap (λ b. cond b (Some (entry p).1) (find R q (entries ps))) (h 0 p (omega arith)) ∙ none_found ps (λ k d low. h (suc k) d (omega arith))
+    none_found (p ∷ ps) h =
+        ap (λ b. cond b (Some (entry p).1) (find R q (entries ps))) (h 0 p (omega arith))
+        ∙ none_found ps (λ k d low. h (suc k) d (omega arith))
 
-    pub searched : (ps : List P) (r : Result ℕ ℕ) → T (is_sorted R (entries ps)) → IsSearchInRange r (length ps) → IsBinarySearchResult (λ p. R (entry p).0 q) ps r
+    pub searched : (ps : List P) (r : Result ℕ ℕ) → T (is_sorted R (entries ps)) → IsSearchInRange r (length ps)
+        → IsBinarySearchResult (λ p. R (entry p).0 q) ps r
         → MatchResult r (λ i. (d : P) → find R q (entries ps) ≡ Some (entry (get_or ps i d)).1) (λ i. find R q (entries ps) ≡ None)
     searched ps (Ok i) h range at = λ d. found_at ps i d h range (at d)
     searched ps (Err i) h range split =
@@ -50,7 +56,8 @@ module _ {P K X : Type 0} (R : K → K → Ordering) (o : IsTotalOrder R) (entry
           | inr after ↦ ap is_eq (o.antisymm _ _ ∙ ap ordering_reverse (parts.1 k d after low))
         ])
 
-    pub search_finds : (ps : List P) (r : Result ℕ ℕ) → T (is_sorted R (entries ps)) → IsSearchInRange r (length ps) → IsBinarySearchResult (λ p. R (entry p).0 q) ps r → is_ok r ≡ is_some (find R q (entries ps))
+    pub search_finds : (ps : List P) (r : Result ℕ ℕ) → T (is_sorted R (entries ps)) → IsSearchInRange r (length ps)
+        → IsBinarySearchResult (λ p. R (entry p).0 q) ps r → is_ok r ≡ is_some (find R q (entries ps))
     search_finds [] (Ok i) h range result = absurd (omega arith)
     search_finds (p ∷ ps) (Ok i) h range result = sym (ap is_some (searched (p ∷ ps) (Ok i) h range result p))
     search_finds ps (Err i) h range result = sym (ap is_some (searched ps (Err i) h range result))

@@ -56,7 +56,8 @@ complete_decides (Number s n d) (Number t m e) =
 complete_decides v w = (λ h. absurd (cc), λ h. absurd (cc))
 
 -- values that are complete with one are complete with each other
-pub complete_with_one : (u v w : FactValue) → is_complete (value_pair u v) ≡ true → is_complete (value_pair u w) ≡ true → is_complete (value_pair v w) ≡ true
+pub complete_with_one : (u v w : FactValue) → is_complete (value_pair u v) ≡ true → is_complete (value_pair u w) ≡ true
+    → is_complete (value_pair v w) ≡ true
 complete_with_one u v w p q = (complete_decides v w).1 (sym ((complete_decides u v).0 p) ∙ (complete_decides u w).0 q)
 
 -- ---- consistent values
@@ -77,7 +78,9 @@ either_holds false b follows e = e
 meets_itself : (n m : ℤ) (d e : Option ℤ) → n ≡ m → d ≡ e → meets (interval_of n d) (interval_of m e) ≡ true
 meets_itself n m d e p q =
     let filled = numbers_have_their_interval n d in
-    let at_itself : meets (interval_of n d) (interval_of n d) ≡ true = (meets_where_a_number_is_shared (interval_of n d) (interval_of n d) filled filled).1 ((interval_of n d).low, (omega (arith, ints), filled), (omega (arith, ints), filled)) in
+    let at_itself : meets (interval_of n d) (interval_of n d) ≡ true =
+    (meets_where_a_number_is_shared (interval_of n d) (interval_of n d) filled filled).1
+    ((interval_of n d).low, (omega (arith, ints), filled), (omega (arith, ints), filled)) in
     (λ i. meets (interval_of n d) (interval_of (sym p i) (sym q i))) ∙ at_itself
 
 pub consistent_meet : (v w : FactValue) → is_consistent (value_pair v w) ≡ true → meets (interval_for v) (interval_for w) ≡ true
@@ -85,15 +88,19 @@ consistent_meet Nil Nil h = refl
 consistent_meet (Written s) (Written t) h = refl
 consistent_meet (Number s n d) (Number t m e) h =
     either_holds (int_eq n m && option_eq int_eq d e) (meets (interval_of n d) (interval_of m e))
-    (λ same. let parts = and_parts (int_eq n m) (option_eq int_eq d e) same in meets_itself n m d e ((Decides-int_eq n m).0 parts.0) ((decimals_decide d e).0 parts.1))
+    (λ same. let parts = and_parts (int_eq n m) (option_eq int_eq d e) same in
+    meets_itself n m d e ((Decides-int_eq n m).0 parts.0) ((decimals_decide d e).0 parts.1))
     (sym (consistent_if (int_eq n m && option_eq int_eq d e) (meets (interval_of n d) (interval_of m e))) ∙ h)
 consistent_meet v w h = absurd (cc)
 
 -- values with a number in common are consistent
 pub consistent_at : (v w : FactValue) (x : ℤ) → IsIn (interval_in v) x → IsIn (interval_in w) x → is_consistent (value_pair v w) ≡ true
 consistent_at (Number s n d) (Number t m e) x p q =
-    let met = (meets_where_a_number_is_shared (interval_of n d) (interval_of m e) (numbers_have_their_interval n d) (numbers_have_their_interval m e)).1 (x, p, q) in
-    consistent_if (int_eq n m && option_eq int_eq d e) (meets (interval_of n d) (interval_of m e)) ∙ or_right (int_eq n m && option_eq int_eq d e) (meets (interval_of n d) (interval_of m e)) met
+    let met =
+    (meets_where_a_number_is_shared (interval_of n d) (interval_of m e) (numbers_have_their_interval n d)
+    (numbers_have_their_interval m e)).1 (x, p, q) in
+    consistent_if (int_eq n m && option_eq int_eq d e) (meets (interval_of n d) (interval_of m e))
+    ∙ or_right (int_eq n m && option_eq int_eq d e) (meets (interval_of n d) (interval_of m e)) met
 consistent_at (Number s n d) w x p q = absurd q
 consistent_at v w x p q = absurd p
 
@@ -103,7 +110,8 @@ in_its_interval (Number t n d) i x e p = p
 in_its_interval v i x e p = absurd (cc)
 
 -- what is consistent with a number is one
-pub number_with_number : (v w : FactValue) (i : Interval) (x : ℤ) → interval_in v ≡ Some i → is_consistent (value_pair v w) ≡ true → IsWithin (interval_for w) x → IsIn (interval_in w) x
+pub number_with_number : (v w : FactValue) (i : Interval) (x : ℤ) → interval_in v ≡ Some i
+    → is_consistent (value_pair v w) ≡ true → IsWithin (interval_for w) x → IsIn (interval_in w) x
 number_with_number (Number s n d) (Number t m c) i x e h p = p
 number_with_number (Number s n d) w i x e h p = absurd (cc)
 number_with_number v w i x e h p = absurd (cc)

@@ -5,10 +5,10 @@ use Rattle.std.specs.Hash.{HashWrites}
 use Rattle.std.specs.declared.alloc.Global.{Global}
 use Rattle.filing_model.specs.Dimensions.{Dims}
 use Rattle.filing_model.specs.declared.faults.DimFault.{DimFault}
-use Rattle.oim_fact.specs.Texts.{text_of}
+use Rattle.oim_fact.specs.Texts.{text_view}
 
 abbrev pub dims_view : List (String Global × Option (String Global)) → Dims
-dims_view pairs = map (λ p. (string_bytes p.0, text_of p.1)) pairs
+dims_view pairs = map (λ p. (string_bytes p.0, text_view p.1)) pairs
 
 -- what a hasher is fed of a set: as of its list
 abbrev pub dims_hash : Dims → HashWrites

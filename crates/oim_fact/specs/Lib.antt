@@ -1,7 +1,9 @@
+-- ---- cited by the contracts of public calls, and by models
 pub mod Texts
 pub mod Dims
 pub mod Tables
 pub mod Names
 pub mod Facts
-pub mod Tallies
 pub mod SharedFacts
+-- ---- cited within the crate alone
+pub mod Tallies

@@ -10,7 +10,8 @@ use Rattle.oim_fact.specs.declared.names.Column.TheVariants.{Prefix, Uri}
 
 -- the names of prefixes with their URIs, or the first fault
 abbrev pub names_of : List (Text × Text) → Table → Result Names NamesFault
-names_of bound table = result_map_both (λ prefixes. record { prefixes = prefixes; table = table }) (λ fault. fault) (prefixes_of bound)
+names_of bound table =
+    result_map_both (λ prefixes. record { prefixes = prefixes; table = table }) (λ fault. fault) (prefixes_of bound)
 
 abbrev pub text_in : Column → Text × Text → Text
 text_in Prefix row = row.0

@@ -6,9 +6,9 @@ use Rattle.filing_model.specs.Facts.{Table}
 use Rattle.filing_model.specs.Tables.{row_cmp}
 
 -- rows as the keys of a map to nothing
-abbrev pub keyed : Table → List ((Text × Text) × Unit {0})
-keyed rows = map (λ r. (r, tt)) rows
+abbrev pub row_entries : Table → List ((Text × Text) × Unit {0})
+row_entries rows = map (λ r. (r, tt)) rows
 
 -- in byte order, none twice
 abbrev pub is_table : Table → Bool
-is_table rows = is_sorted row_cmp (keyed rows)
+is_table rows = is_sorted row_cmp (row_entries rows)

@@ -4,9 +4,9 @@ use Rattle.std.specs.Ordering.{is_lt}
 use Rattle.std.specs.declared.alloc.Global.{Global}
 use Rattle.filing_model.specs.Text.{Text, text_cmp, text_eq}
 
--- a text that may be null
-abbrev pub text_of : Option (String Global) → Option Text
-text_of text = option_map string_bytes text
+-- a text that may be null, as the definitions have it
+abbrev pub text_view : Option (String Global) → Option Text
+text_view text = option_map string_bytes text
 
 abbrev pub row_of : String Global × String Global → Text × Text
 row_of row = (string_bytes row.0, string_bytes row.1)

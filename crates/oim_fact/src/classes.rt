@@ -22,7 +22,8 @@ pub fn class_of(facts: &[Arc<Fact>]) -> Class
 pub fn class_over<'a, I: Iterator<Item = &'a Arc<Fact>> + Drop>(mut facts: I) -> Class
     requires can { I.can_next facts }
     requires ends { IsFinite (I.remaining facts) }
-    ensures { (given : List FactRef) × Drains I.next_gives facts given × (result ≡ class_of (facts_behind given)) }
+    ensures { (given : List FactRef)
+        × Drains I.next_gives facts given × (result ≡ class_of (facts_behind given)) }
 {
     let Some(first) = facts.next() else {
         return Class::Empty;

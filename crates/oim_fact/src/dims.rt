@@ -1,6 +1,8 @@
+//! Dimension sets (Open Information Model 1.0).
+
 ghost use Rattle.std.specs.Prelude.{◌≡◌, Option, option_map, is_some, IfOk};
 ghost use Rattle.std.specs.List.{list_any};
-ghost use Rattle.oim_fact.specs.Texts.{text_of, names_in, NoneFalls, begins_with, has_neighbours};
+ghost use Rattle.oim_fact.specs.Texts.{text_view, names_in, NoneFalls, begins_with, has_neighbours};
 ghost use Rattle.oim_fact.specs.Dims.{dims_view, unless};
 ghost use Rattle.filing_model.specs.Dimensions.{AreDims, core_value, concept_of, period_of, unit_of, dims_of, is_core, is_null_core, is_concept, is_long_dim};
 
@@ -42,7 +44,7 @@ impl Clone for DimSet {
 
 /// The clone of a text that may be null.
 pub(crate) fn clone_text(text: &Option<String>) -> Result<Option<String>, AllocError>
-    ensures { IfOk result (λ t. text_of t ≡ text_of text.now) }
+    ensures { IfOk result (λ t. text_view t ≡ text_view text.now) }
 {
     match text {
         None => Ok(None),
@@ -86,7 +88,6 @@ fn has_neighbours(pairs: &[(String, Option<String>)]) -> bool
     false
 }
 
-/// Whether some core dimension is null.
 fn has_null_core(pairs: &[(String, Option<String>)]) -> bool
     ensures { result ≡ list_any is_null_core (dims_view pairs.now) }
 {
@@ -98,7 +99,6 @@ fn has_null_core(pairs: &[(String, Option<String>)]) -> bool
     false
 }
 
-/// Whether some dimension is the concept.
 fn has_concept(pairs: &[(String, Option<String>)]) -> bool
     ensures { result ≡ list_any is_concept (dims_view pairs.now) }
 {
@@ -110,9 +110,9 @@ fn has_concept(pairs: &[(String, Option<String>)]) -> bool
     false
 }
 
-/// Whether a name or a value is longer than it may be.
+/// Whether a name or a value is longer than `LONGEST`.
 fn is_long(name: &str, value: &Option<String>) -> bool
-    ensures { result ≡ is_long_dim (name.now, text_of value.now) }
+    ensures { result ≡ is_long_dim (name.now, text_view value.now) }
 {
     match value {
         Some(text) => name.len() > LONGEST || text.len() > LONGEST,

@@ -1,3 +1,5 @@
+//! Facts as they are read, and facts that fit the names of their report.
+
 ghost use Rattle.std.specs.Prelude.{◌≡◌};
 ghost use Rattle.filing_model.specs.Facts.{is_misplaced};
 
@@ -17,11 +19,17 @@ pub struct RawFact {
 
 impl Model for RawFact {
     ghost use Rattle.filing_model.specs.Facts.{RawFact as RawFactValue};
-    ghost use Rattle.oim_fact.specs.Texts.{text_of};
+    ghost use Rattle.oim_fact.specs.Texts.{text_view};
 
     ghost Value = { RawFactValue };
 
-    ghost view = { λ r. record { dims = r.dims; value = text_of r.value; decimals = r.decimals; links = text_of r.links } };
+    ghost view = { λ r.
+        record {
+          dims = r.dims;
+          value = text_view r.value;
+          decimals = r.decimals;
+          links = text_view r.links;
+        } };
 }
 
 impl Clone for RawFact {
@@ -75,8 +83,9 @@ impl Model for Fact {
 
     ghost Value = { PlainFact };
 
-    ghost use Rattle.oim_fact.specs.Texts.{text_of};
+    ghost use Rattle.oim_fact.specs.Texts.{text_view};
     ghost use Rattle.oim_fact.specs.Facts.{value_view};
 
-    ghost view = { λ f. record { dims = f.dims; value = value_view f.value; links = text_of f.links } };
+    ghost view = { λ f.
+        record { dims = f.dims; value = value_view f.value; links = text_view f.links } };
 }

@@ -1,6 +1,8 @@
+//! The way from a raw fact to a fact by the names of its report.
+
 ghost use Rattle.std.specs.Prelude.{◌≡◌};
 ghost use Rattle.filing_model.specs.Facts.{are_bound, fit_of, number_fault, numeric_value, written_value};
-ghost use Rattle.oim_fact.specs.Texts.{text_of};
+ghost use Rattle.oim_fact.specs.Texts.{text_view};
 ghost use Rattle.oim_fact.specs.Facts.{value_view, value_given};
 
 use crate::dims::{DimSet, is_core_name};
@@ -51,7 +53,7 @@ fn are_bound(names: &Names, dims: &DimSet) -> bool
 
 /// The value of a numeric concept. Beside null, decimals are dropped and not looked at.
 fn numeric_value(value: Option<String>, decimals: Option<i64>) -> Result<FactValue, FactFault>
-    ensures { value_given result ≡ numeric_value (text_of value) decimals }
+    ensures { value_given result ≡ numeric_value (text_view value) decimals }
 {
     let Some(text) = value else {
         return Ok(FactValue::Nil);
@@ -83,7 +85,7 @@ fn number_fault(fault: NumberFault) -> FactFault
 
 /// The value of any other concept.
 fn written_value(value: Option<String>) -> FactValue
-    ensures { value_view result ≡ written_value (text_of value) }
+    ensures { value_view result ≡ written_value (text_view value) }
 {
     match value {
         None => FactValue::Nil,

@@ -1,3 +1,5 @@
+//! The names of a report: its prefixes, and the numeric table by which it is read.
+
 ghost use Rattle.std.specs.Prelude.{◌≡◌, option_map, is_some, IsPermutation};
 ghost use Rattle.filing_model.specs.Facts.{uri_of, expanded, is_numeric};
 ghost use Rattle.std.specs.Arc.{arc_value};
@@ -30,7 +32,8 @@ impl Model for Names {
 
     ghost Value = { PlainNames };
 
-    ghost view = { λ n. record { prefixes = from_entries (rows_view n.prefixes.items); table = arc_value n.table } };
+    ghost view = { λ n.
+        record { prefixes = from_entries (rows_view n.prefixes.items); table = arc_value n.table } };
 
     ghost invariant = { λ n. T (is_sorted text_cmp (rows_view n.prefixes.items)) };
 }

@@ -1,6 +1,6 @@
 //! What two facts are to one another.
 
-ghost use Rattle.std.specs.Prelude.{◌≡◌, cond};
+ghost use Rattle.std.specs.Prelude.{◌≡◌, if◌then◌else◌};
 ghost use Rattle.filing_model.specs.Text.{text_eq};
 ghost use Rattle.filing_model.specs.Duplicates.{pair_of, value_pair, number_pair};
 ghost use Rattle.oim_value.specs.Accuracies.{decimals_of};
@@ -46,7 +46,7 @@ pub(crate) fn compare_values(one: &FactValue, other: &FactValue) -> Pair
 }
 
 fn compare_texts(text: &str, other: &str) -> Pair
-    ensures { result ≡ cond (text_eq text.now other.now) Pair.Complete Pair.Inconsistent }
+    ensures { result ≡ (if text_eq text.now other.now then Pair.Complete else Pair.Inconsistent) }
 {
     if is_same_text(text, other) {
         Pair::Complete

@@ -1,3 +1,5 @@
+//! Numeric tables: which concepts are numeric.
+
 ghost use Rattle.std.specs.Prelude.{◌≡◌, Ok, string_bytes};
 ghost use Rattle.filing_model.specs.Tables.{row_cmp, table_of};
 ghost use Rattle.filing_model.specs.Facts.{is_numeric};

@@ -39,7 +39,8 @@ impl Tally {
 
     /// Counts one more fact in, beside the same first one.
     pub(crate) fn add(&mut self, first: &Fact, fact: &Fact)
-        ensures { (others : List PlainFact) → Describes self.old first.now others → Describes self.new first.now (others ++ fact.now ∷ []) }
+        ensures { (others : List PlainFact) → Describes self.old first.now others
+            → Describes self.new first.now (others ++ fact.now ∷ []) }
     {
         self.alone = false;
         self.together = self.together && first.dims == fact.dims;
@@ -49,7 +50,8 @@ impl Tally {
 
     /// The class of all facts that were counted in.
     pub(crate) fn class(self) -> Class
-        ensures { (first : PlainFact) (others : List PlainFact) → Describes self first others → result ≡ class_of (first ∷ others) }
+        ensures { (first : PlainFact) (others : List PlainFact) → Describes self first others
+            → result ≡ class_of (first ∷ others) }
     {
         if self.alone {
             Class::Single

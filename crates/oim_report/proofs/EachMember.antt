@@ -17,7 +17,8 @@ Entry = String Global × Value
 abbrev pub read_on : {P X E : Type 0} → (P → X) → (Text × Data → Result X E) → List P → List Entry → Result (List X) E
 read_on seen f before left = with_front (map seen before) (each f (pairs (members_view left)))
 
-pub read_turn : {P X E : Type 0} (seen : P → X) (f : Text × Data → Result X E) (left rest : List Entry) (k : String Global) (v : Value) (before later : List P) (p : P) (goal : Result (List X) E)
+pub read_turn : {P X E : Type 0} (seen : P → X) (f : Text × Data → Result X E) (left rest : List Entry)
+    (k : String Global) (v : Value) (before later : List P) (p : P) (goal : Result (List X) E)
     → left ≡ (k, v) ∷ rest → later ≡ before ++ p ∷ [] → f (string_bytes k, view v) ≡ Ok (seen p)
     → read_on seen f before left ≡ goal → read_on seen f later rest ≡ goal
 read_turn seen f left rest k v before later p goal left_is later_is read h =
@@ -27,12 +28,14 @@ read_turn seen f left rest k v before later p goal left_is later_is read h =
     ∙ h
 
 -- the first member that is refused is the fault of all
-pub read_refused : {P X E : Type 0} (seen : P → X) (f : Text × Data → Result X E) (left rest : List Entry) (k : String Global) (v : Value) (before : List P) (goal : Result (List X) E) (fault : Option E)
+pub read_refused : {P X E : Type 0} (seen : P → X) (f : Text × Data → Result X E) (left rest : List Entry)
+    (k : String Global) (v : Value) (before : List P) (goal : Result (List X) E) (fault : Option E)
     → left ≡ (k, v) ∷ rest → Fails fault (f (string_bytes k, view v))
     → read_on seen f before left ≡ goal → Fails fault goal
 read_refused seen f left rest k v before goal None left_is fails h = tt
 read_refused seen f left rest k v before goal (Some e) left_is fails h =
-    sym h ∙ ap (λ es. read_on seen f before es) left_is ∙ each_refused f (map seen before) (string_bytes k, view v) e (pairs (members_view rest)) fails
+    sym h ∙ ap (λ es. read_on seen f before es) left_is
+    ∙ each_refused f (map seen before) (string_bytes k, view v) e (pairs (members_view rest)) fails
 
 -- nothing is left
 pub read_all : {P X E : Type 0} (seen : P → X) (f : Text × Data → Result X E) (left : List Entry) (before : List P) (goal : Result (List X) E)

@@ -44,14 +44,17 @@ entry_refused names id d raw (Some t) fault read fails h =
 
 -- ---- each fact that was read is fitted
 
-fitted_grows : (names : Names) (es : List (Text × Fact)) (e : Text × Fact) → AreFitted names es → AreDims e.1.dims → IsFitted names e.1 → AreFitted names (es ++ e ∷ [])
+fitted_grows : (names : Names) (es : List (Text × Fact)) (e : Text × Fact) → AreFitted names es → AreDims e.1.dims
+    → IsFitted names e.1 → AreFitted names (es ++ e ∷ [])
 fitted_grows names [] e h dims fitted = (dims, fitted, tt)
 fitted_grows names (f ∷ es) e h dims fitted = (h.0, h.1, fitted_grows names es e h.2 dims fitted)
 
 pub fitted_turn : (names : Names) (before later : List (String Global × Arc Fact Global)) (p : String Global × Arc Fact Global)
-    → later ≡ before ++ p ∷ [] → AreDims (arc_value p.1).dims → IsFitted names (arc_value p.1) → AreFitted names (facts_view before) → AreFitted names (facts_view later)
+    → later ≡ before ++ p ∷ [] → AreDims (arc_value p.1).dims → IsFitted names (arc_value p.1)
+    → AreFitted names (facts_view before) → AreFitted names (facts_view later)
 fitted_turn names before later p later_is dims fitted h =
-    subst (AreFitted names) (sym (ap facts_view later_is ∙ map-append fact_view before (p ∷ []))) (fitted_grows names (facts_view before) (fact_view p) h dims fitted)
+    subst (AreFitted names) (sym (ap facts_view later_is ∙ map-append fact_view before (p ∷ [])))
+    (fitted_grows names (facts_view before) (fact_view p) h dims fitted)
 
 -- ---- facts stand in the order of their members
 
@@ -74,7 +77,8 @@ rise_names (e ∷ es) = λ i. below_names e.0 es i && rise_names es i
 abbrev KeepsName : {X E : Type 0} → (Text × Data → Result (Text × X) E) → Type 0
 KeepsName {X} f = (m : Text × Data) (e : Text × X) → f m ≡ Ok e → e.0 ≡ m.0
 
-names_stay : {X E : Type 0} (f : Text × Data → Result (Text × X) E) → KeepsName f → (ms : List (Text × Data)) (es : List (Text × X)) → each f ms ≡ Ok es → names es ≡ names ms
+names_stay : {X E : Type 0} (f : Text × Data → Result (Text × X) E) → KeepsName f
+    → (ms : List (Text × Data)) (es : List (Text × X)) → each f ms ≡ Ok es → names es ≡ names ms
 names_stay f keeps [] es h = let none : es ≡ [] = cc in ap names none
 names_stay {X} f keeps (m ∷ ms) es h =
     elim (f m) as (λ r. f m ≡ r → (r >>= λ y. each f ms >>= λ ys. Ok (y ∷ ys)) ≡ Ok es → names es ≡ names (m ∷ ms)) [
@@ -97,6 +101,7 @@ entry_of-name names m e h =
       ] h
     ] h
 
-pub sorted_facts : (names : Names) (ms : List (Text × Data)) (es : List (Text × Fact)) → each (entry_of names) ms ≡ Ok es → T (is_sorted text_cmp ms) → T (is_sorted text_cmp es)
+pub sorted_facts : (names : Names) (ms : List (Text × Data)) (es : List (Text × Fact))
+    → each (entry_of names) ms ≡ Ok es → T (is_sorted text_cmp ms) → T (is_sorted text_cmp es)
 sorted_facts table ms es h sorted =
     subst T (rise_names ms ∙ ap rise (sym (names_stay (entry_of table) (entry_of-name table) ms es h)) ∙ sym (rise_names es)) sorted

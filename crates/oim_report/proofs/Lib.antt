@@ -9,6 +9,7 @@ pub mod FactList
 pub mod ReportsByParts
 pub mod TableLines
 -- ---- what is written, and read back
+pub mod Fronts
 pub mod WrittenPieces
 pub mod WrittenValues
 pub mod WrittenFacts

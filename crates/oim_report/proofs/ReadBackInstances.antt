@@ -1,5 +1,6 @@
--- The laws of reading back at a raw fact and at a small report: each premise is met there, and the text and what is read of it compute.
-use Rattle.std.proofs.Common.{◌≡◌, ◌≤◌, sym, refl, subst, arith, true, pos, negsuc, [], ◌∷◌, ◌++◌, codes, Option, Some, None, Ok}
+-- The laws of reading back at a raw fact and at a report with two facts: each premise is met there, and the text and
+-- what is read of it compute.
+use Rattle.std.proofs.Common.{◌≡◌, ◌≤◌, refl, subst, arith, true, pos, negsuc, [], ◌∷◌, ◌++◌, codes, Option, Some, None, Ok, Err}
 use Rattle.std.proofs.lemmas.Str.{IsUtf8-from_is_utf8}
 use Rattle.std.specs.Prelude.{IsUtf8}
 use Rattle.std.specs.Str.{is_utf8}
@@ -11,17 +12,17 @@ use Rattle.filing_model.specs.Text.{Text}
 use Rattle.filing_model.specs.TextMap.{from_entries}
 use Rattle.filing_model.specs.JsonText.{json_of}
 use Rattle.filing_model.specs.Dimensions.{Dims, AreDims}
-use Rattle.filing_model.specs.Facts.{RawFact, Fact, Names, Number}
+use Rattle.filing_model.specs.Facts.{RawFact, Fact, Names, Number, Written}
 use Rattle.filing_model.specs.Fitted.{AreLinks, IsFitted}
 use Rattle.filing_model.specs.Reports.{Report}
 use Rattle.filing_model.specs.ReadFact.{raw_fact_of}
-use Rattle.filing_model.specs.ReadReport.{read_report_of}
+use Rattle.filing_model.specs.ReadReport.{NotJson, read_report_of}
 use Rattle.filing_model.specs.Writing.{raw_fact_text, report_text}
 use Rattle.filing_model.specs.declared.duplicates.Allowed.TheVariants.{Never}
 use Rattle.filing_model.proofs.OnLiterals.{filing_on_literals}
 use Rattle.oim_report.specs.JsonValues.{IsJsonValue}
 use Rattle.oim_report.specs.Nesting.{NestsWithin}
-use Rattle.oim_report.specs.Parts.{IsInfo}
+use Rattle.oim_report.specs.Parts.{IsInfo, document_type}
 use Rattle.oim_report.specs.Readable.{IsReadable}
 use Rattle.oim_report.specs.ReadableFact.{IsReadableFact}
 use Rattle.oim_report.proofs.ReadFacts.{readable}
@@ -69,13 +70,18 @@ json_links = json.object (json.member (codes "a") (json.number (codes "1")) json
 abbrev json_fact : json.Json
 json_fact = json.object
     (json.member (codes "decimals") (json.number (codes "-3"))
-    (json.member (codes "dimensions") (json.object (json.member (codes "concept") (json.string (codes "ex:Assets")) (json.member (codes "ex:axis") json.null json.no_members)))
+    (json.member (codes "dimensions")
+    (json.object (json.member (codes "concept") (json.string (codes "ex:Assets"))
+    (json.member (codes "ex:axis") json.null json.no_members)))
     (json.member (codes "links") json_links
     (json.member (codes "value") (json.string (codes "1000")) json.no_members))))
 
 raw_nests : NestsWithin max_depth (raw_fact_text raw)
 unfolding filing_on_literals
-raw_nests = record { utf8 = is_utf8_text raw_text refl; json = json_fact; tokens = refl; shallow = omega arith }
+raw_nests = record {
+  utf8 = is_utf8_text raw_text refl;
+  shallow = λ json is. subst (λ j. depth j ≤ max_depth) (same_json json_fact json is) (omega arith);
+}
 
 pub the_raw_fact_is_read_back : (d : Data) × (json_of (raw_fact_text raw) ≡ Some d) × (raw_fact_of d ≡ Ok raw)
 the_raw_fact_is_read_back = raw_fact_back raw is_readable raw_nests
@@ -125,27 +131,51 @@ is_read = refl
 pub what_is_read_is_readable : IsReadableFact raw
 what_is_read_is_readable = readable value raw is_json_value is_read
 
--- ---- a report with one fact
+-- ---- a report with two facts: a number and a text with a comma and quotes in it
 
 abbrev names : Names
-names = record { prefixes = from_entries ((codes "ex", codes "http://e.org/t") ∷ []); table = (codes "http://e.org/t", codes "Assets") ∷ [] }
+names = record {
+  prefixes = from_entries ((codes "ex", codes "http://e.org/t") ∷ []);
+  table = (codes "http://e.org/t", codes "Assets") ∷ [];
+}
 
 abbrev thousand : Fact
-thousand = record { dims = dims; value = Number (codes "1000") (pos 1000000000000000) (Some (negsuc 2)); links = links_text }
+thousand = record {
+  dims = dims;
+  value = Number (codes "1000") (pos 1000000000000000) (Some (negsuc 2));
+  links = links_text;
+}
 
 -- the axis is a name of the taxonomy, with the prefix that is bound
-is_fitted : IsFitted names thousand
+thousand_is_fitted : IsFitted names thousand
 unfolding filing_on_literals
-is_fitted = (raw, are_links, refl)
+thousand_is_fitted = (raw, are_links, refl)
+
+abbrev note_dims : Dims
+note_dims = (codes "concept", Some (codes "ex:Note")) ∷ []
+
+are_note_dims : AreDims note_dims
+are_note_dims = record { rise = tt; no_null = refl; concept = refl; short = refl }
+
+abbrev raw_note : RawFact
+raw_note = record { dims = note_dims; value = Some (codes "so, \"it\" is"); decimals = None; links = None }
+
+abbrev note : Fact
+note = record { dims = note_dims; value = Written (codes "so, \"it\" is"); links = None }
+
+note_is_fitted : IsFitted names note
+unfolding filing_on_literals
+note_is_fitted = (raw_note, tt, refl)
 
 abbrev info : Members
 info =
-    member (codes "documentType") (string (codes "https://xbrl.org/2021/xbrl-json"))
+    member (codes "documentType") (string document_type)
     (member (codes "features") (object (member (codes "xbrl:allowedDuplicates") (string (codes "none")) no_members))
     (member (codes "namespaces") (object (member (codes "ex") (string (codes "http://e.org/t")) no_members)) no_members))
 
 abbrev info_text : Text
-info_text = codes "{\"documentType\":\"https://xbrl.org/2021/xbrl-json\",\"features\":{\"xbrl:allowedDuplicates\":\"none\"},\"namespaces\":{\"ex\":\"http://e.org/t\"}}"
+info_text =
+    codes "{\"documentType\":\"https://xbrl.org/2021/xbrl-json\",\"features\":{\"xbrl:allowedDuplicates\":\"none\"},\"namespaces\":{\"ex\":\"http://e.org/t\"}}"
 
 is_info : IsInfo info_text names.prefixes Never
 unfolding filing_on_literals
@@ -155,7 +185,7 @@ is_info = record {
     tt,
     (
       is_utf8_text (codes "documentType") refl,
-      is_utf8_text (codes "https://xbrl.org/2021/xbrl-json") refl,
+      is_utf8_text document_type refl,
       (
         is_utf8_text (codes "features") refl,
         (tt, (is_utf8_text (codes "xbrl:allowedDuplicates") refl, is_utf8_text (codes "none") refl, tt)),
@@ -174,13 +204,26 @@ is_info = record {
 }
 
 abbrev report : Report
-report = record { info = info_text; names = names; allowed = Never; facts = from_entries ((codes "f1", thousand) ∷ []) }
+report = record {
+  info = info_text;
+  names = names;
+  allowed = Never;
+  facts = from_entries ((codes "f1", thousand) ∷ (codes "f2", note) ∷ []);
+}
 
 is_readable_report : IsReadable report
-is_readable_report = record { facts = (are_dims, is_fitted, tt); info = is_info }
+is_readable_report = record {
+  facts = (are_dims, thousand_is_fitted, (are_note_dims, note_is_fitted, tt));
+  info = is_info;
+}
+
+abbrev note_text : Text
+note_text = codes "{\"dimensions\":{\"concept\":\"ex:Note\"},\"value\":\"so, \\\"it\\\" is\"}"
 
 abbrev whole_text : Text
-whole_text = codes "{\"documentInfo\":" ++ (info_text ++ (codes ",\"facts\":{\"f1\":" ++ (raw_text ++ codes "}}")))
+whole_text =
+    codes "{\"documentInfo\":"
+    ++ (info_text ++ (codes ",\"facts\":{\"f1\":" ++ (raw_text ++ (codes ",\"f2\":" ++ (note_text ++ codes "}}")))))
 
 is_whole_text : report_text report ≡ whole_text
 unfolding filing_on_literals
@@ -188,26 +231,46 @@ is_whole_text = refl
 
 abbrev json_info : json.Json
 json_info = json.object
-    (json.member (codes "documentType") (json.string (codes "https://xbrl.org/2021/xbrl-json"))
-    (json.member (codes "features") (json.object (json.member (codes "xbrl:allowedDuplicates") (json.string (codes "none")) json.no_members))
-    (json.member (codes "namespaces") (json.object (json.member (codes "ex") (json.string (codes "http://e.org/t")) json.no_members)) json.no_members)))
+    (json.member (codes "documentType") (json.string document_type)
+    (json.member (codes "features")
+    (json.object (json.member (codes "xbrl:allowedDuplicates") (json.string (codes "none")) json.no_members))
+    (json.member (codes "namespaces")
+    (json.object (json.member (codes "ex") (json.string (codes "http://e.org/t")) json.no_members))
+    json.no_members)))
+
+abbrev json_note : json.Json
+json_note = json.object
+    (json.member (codes "dimensions")
+    (json.object (json.member (codes "concept") (json.string (codes "ex:Note")) json.no_members))
+    (json.member (codes "value") (json.string (codes "so, \"it\" is")) json.no_members))
+
+abbrev json_facts : json.Json
+json_facts = json.object (json.member (codes "f1") json_fact (json.member (codes "f2") json_note json.no_members))
 
 abbrev json_report : json.Json
-json_report = json.object (json.member (codes "documentInfo") json_info (json.member (codes "facts") (json.object (json.member (codes "f1") json_fact json.no_members)) json.no_members))
+json_report = json.object
+    (json.member (codes "documentInfo") json_info (json.member (codes "facts") json_facts json.no_members))
 
 report_nests : NestsWithin max_depth (report_text report)
 unfolding filing_on_literals
-report_nests = record { utf8 = is_utf8_text whole_text refl; json = json_report; tokens = refl; shallow = omega arith }
+report_nests = record {
+  utf8 = is_utf8_text whole_text refl;
+  shallow = λ json is. subst (λ j. depth j ≤ max_depth) (same_json json_report json is) (omega arith);
+}
 
 pub the_report_is_read_back : read_report_of names.table (report_text report) ≡ Ok report
 the_report_is_read_back = report_back report is_readable_report report_nests
+
+-- the same report with the comma between its facts lost is no report
+pub the_report_needs_its_comma : read_report_of names.table
+    (codes "{\"documentInfo\":"
+    ++ (info_text ++ (codes ",\"facts\":{\"f1\":" ++ (raw_text ++ (codes "\"f2\":" ++ (note_text ++ codes "}}")))))) ≡ Err NotJson
+unfolding filing_on_literals
+the_report_needs_its_comma = refl
 
 -- ---- texts that nest too deep
 
 -- its objects nest four deep, and not three
 pub the_report_nests_deeper : NestsWithin 3 (report_text report) → ⊥
 unfolding filing_on_literals
-the_report_nests_deeper nests =
-    let same : nests.json ≡ json_report = same_json nests.json json_report (sym nests.tokens) in
-    let deep : depth json_report ≤ 3 = subst (λ j. depth j ≤ 3) same nests.shallow in
-    omega arith
+the_report_nests_deeper nests = let deep : depth json_report ≤ 3 = nests.shallow json_report refl in omega arith

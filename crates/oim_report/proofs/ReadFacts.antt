@@ -41,11 +41,15 @@ mutual
 
   are_writable : (ds : Items) → AreJsonValues ds → items_have_float ds ≡ false → AreWritable ds
   are_writable no_items h whole = tt
-  are_writable (item d ds) h whole = let parts = or_parts (has_float d) (items_have_float ds) whole in (writable d h.0 parts.0, are_writable ds h.1 parts.1)
+  are_writable (item d ds) h whole =
+      let parts = or_parts (has_float d) (items_have_float ds) whole in
+      (writable d h.0 parts.0, are_writable ds h.1 parts.1)
 
   members_writable : (ms : Members) → AreJsonMembers ms → members_have_float ms ≡ false → AreMembersWritable ms
   members_writable no_members h whole = tt
-  members_writable (member name d ms) h whole = let parts = or_parts (has_float d) (members_have_float ms) whole in (h.0, writable d h.1 parts.0, members_writable ms h.2 parts.1)
+  members_writable (member name d ms) h whole =
+      let parts = or_parts (has_float d) (members_have_float ms) whole in
+      (h.0, writable d h.1 parts.0, members_writable ms h.2 parts.1)
 
 -- ---- what is found in a value is one
 
@@ -74,7 +78,9 @@ found k (object ms) h = member_found k ms h.1
 
 integer_whole : (n : Num) → IsJsonNumber n → IfOk (ok_or (as_i64 n) trouble.NotWhole >>= λ z. Ok (Some z)) AreWholeDecimals
 integer_whole (unsigned n) h =
-    elim (nat_lt n (2 ^ 63)) as (λ b. nat_lt n (2 ^ 63) ≡ b → IfOk {E = Trouble} (ok_or (cond b (Some (pos n)) None) trouble.NotWhole >>= λ z. Ok (Some z)) AreWholeDecimals) [
+    elim (nat_lt n (2 ^ 63)) as (λ b. nat_lt n (2 ^ 63) ≡ b
+    → IfOk {E = Trouble} (ok_or (cond b (Some (pos n)) None) trouble.NotWhole >>= λ z. Ok (Some z))
+    AreWholeDecimals) [
       | true ↦ λ below. ltb-true n _ below
       | false ↦ λ _. tt
     ] refl
@@ -94,7 +100,8 @@ decimals_whole (Some (object ms)) h = tt
 links_kept : (o : Option Data) → IfFound o → IfOk (links_of o) AreLinks
 links_kept None h = tt
 links_kept (Some (object ms)) h =
-    elim (has_float (object ms)) as (λ b. has_float (object ms) ≡ b → IfOk {E = Trouble} (cond b (Err trouble.NotWhole) (Ok (Some (compact_text (object ms))))) AreLinks) [
+    elim (has_float (object ms)) as (λ b. has_float (object ms) ≡ b
+    → IfOk {E = Trouble} (cond b (Err trouble.NotWhole) (Ok (Some (compact_text (object ms))))) AreLinks) [
       | true ↦ λ _. tt
       | false ↦ λ whole. (ms, writable (object ms) h whole, refl)
     ] refl
@@ -105,7 +112,8 @@ links_kept (Some (string text)) h = tt
 links_kept (Some (array ds)) h = tt
 
 -- what holds of each step's value holds of the last
-then_ok : {A B E : Type 0} (P : A → Type 0) (Q : B → Type 0) (r : Result A E) (f : A → Result B E) → IfOk r P → ((x : A) → P x → IfOk (f x) Q) → IfOk (r >>= f) Q
+then_ok : {A B E : Type 0} (P : A → Type 0) (Q : B → Type 0) (r : Result A E) (f : A → Result B E) → IfOk r P
+    → ((x : A) → P x → IfOk (f x) Q) → IfOk (r >>= f) Q
 then_ok P Q (Ok x) f h each = each x h
 then_ok P Q (Err e) f h each = tt
 
@@ -121,7 +129,8 @@ made : (d : Data) → IsJsonValue d → IfOk (raw_fact_of d) IsReadableFact
 made d h =
     then_ok (λ _. ⊤) IsReadableFact (named_dims d) _ (any_ok _) (λ named _.
     then_ok (λ _. ⊤) IsReadableFact (ok_or (option_and_then as_nullable (get (codes "value") d)) trouble.WrongShape) _ (any_ok _) (λ value _.
-    then_ok AreWholeDecimals IsReadableFact (decimals_of (get (codes "decimals") d)) _ (decimals_whole _ (found (codes "decimals") d h)) (λ decimals whole.
+    then_ok AreWholeDecimals IsReadableFact (decimals_of (get (codes "decimals") d)) _
+    (decimals_whole _ (found (codes "decimals") d h)) (λ decimals whole.
     then_ok AreLinks IsReadableFact (links_of (get (codes "links") d)) _ (links_kept _ (found (codes "links") d h)) (λ links are.
     then_ok AreDims IsReadableFact (map_err trouble.Dims (dims_of named)) _ (are_dims named (dims_of named) refl) (λ dims set.
     record { dims = set; decimals = whole; links = are })))))

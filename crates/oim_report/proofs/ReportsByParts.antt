@@ -17,27 +17,29 @@ use Rattle.filing_model.specs.ReadReport.{ReportFault, AliasTwice, WrongDocument
 use Rattle.filing_model.specs.declared.duplicates.Allowed.{Allowed}
 use Rattle.filing_model.proofs.Texts.{text_decides}
 use Rattle.oim_fact.specs.Names.{names_of}
-use Rattle.oim_report.specs.Parts.{IsInfo}
-use Rattle.oim_report.specs.Readings.{Declaration, has_document_type, document_info_at, bound_of, names_in, report_at}
-
--- the document type of xBRL-JSON 1.0
-abbrev right_type : Text
-right_type = codes "https://xbrl.org/2021/xbrl-json"
+use Rattle.oim_report.specs.Parts.{IsInfo, document_type}
+use Rattle.oim_report.specs.Readings.{Declaration, has_document_type, document_info_at, bound_of, declared_names, report_of_members}
 
 -- ---- the names
 
 abbrev named : Table → TextMap Text → Names
 named table prefixes = record { prefixes = prefixes; table = table }
 
-names_by_prefixes : (table : Table) (o : Option Data) → (bound_of o >>= λ bound. map_err (λ _. AliasTwice) (names_of bound table)) ≡ (prefixes_of_namespaces o >>= λ prefixes. Ok (named table prefixes))
+names_by_prefixes : (table : Table) (o : Option Data)
+    → (bound_of o >>= λ bound. map_err (λ _. AliasTwice) (names_of bound table))
+    ≡ (prefixes_of_namespaces o >>= λ prefixes. Ok (named table prefixes))
 names_by_prefixes table None = refl
 names_by_prefixes table (Some (object ms)) =
-    elim (each prefix_of (pairs ms)) as (λ r. (r >>= λ bound. map_err (λ _. AliasTwice) (names_of bound table)) ≡ ((r >>= λ bound. map_err (λ _. AliasTwice) (prefixes_of bound)) >>= λ prefixes. Ok (named table prefixes))) [
+    elim (each prefix_of (pairs ms))
+    as (λ r. (r >>= λ bound. map_err (λ _. AliasTwice) (names_of bound table))
+    ≡ ((r >>= λ bound. map_err (λ _. AliasTwice) (prefixes_of bound)) >>= λ prefixes. Ok (named table prefixes))) [
       | Err fault ↦ refl
-      | Ok bound ↦ elim (prefixes_of bound) as (λ r. map_err (λ _. AliasTwice) (result_map_both (named table) (λ fault. fault) r) ≡ (map_err (λ _. AliasTwice) r >>= λ prefixes. Ok (named table prefixes))) [
-        | Ok prefixes ↦ refl
-        | Err fault ↦ refl
-      ]
+      | Ok bound ↦
+          elim (prefixes_of bound) as (λ r. map_err (λ _. AliasTwice) (result_map_both (named table) (λ fault. fault) r)
+          ≡ (map_err (λ _. AliasTwice) r >>= λ prefixes. Ok (named table prefixes))) [
+            | Ok prefixes ↦ refl
+            | Err fault ↦ refl
+          ]
     ]
 names_by_prefixes table (Some null) = refl
 names_by_prefixes table (Some (boolean b)) = refl
@@ -47,13 +49,16 @@ names_by_prefixes table (Some (array ds)) = refl
 
 -- ---- `documentInfo`
 
-typed : (o : Option Text) (x : Data) → (ok_or o WrongDocumentType >>= λ type. cond (text_eq type right_type) (Ok x) (Err WrongDocumentType)) ≡ cond (option_map_or (λ type. text_eq type right_type) o false) (Ok x) (Err WrongDocumentType)
+typed : (o : Option Text) (x : Data)
+    → (ok_or o WrongDocumentType >>= λ type. cond (text_eq type document_type) (Ok x) (Err WrongDocumentType))
+    ≡ cond (option_map_or (λ type. text_eq type document_type) o false) (Ok x) (Err WrongDocumentType)
 typed None x = refl
 typed (Some type) x = refl
 
 info_by_member : (d : Data) → document_info_of d ≡ document_info_at (get (codes "documentInfo") d)
 info_by_member d =
-    ap (λ f. ok_or (object_at (codes "documentInfo") d) report.WrongShape >>= f) (λ i info. typed (option_and_then as_str (get (codes "documentType") info)) info i)
+    ap (λ f. ok_or (object_at (codes "documentInfo") d) report.WrongShape >>= f)
+    (λ i info. typed (option_and_then as_str (get (codes "documentType") info)) info i)
 
 -- ---- the whole
 
@@ -76,7 +81,7 @@ of_info table facts document_info = do
 abbrev declared_from : Table → Data → Result Declaration ReportFault
 declared_from table document_info = do
   allowed ← allowed_of_features (get (codes "features") document_info)
-  names ← names_in table document_info
+  names ← declared_names table document_info
   info ← whole_text_of document_info
   ok_declaration info names allowed
 
@@ -88,13 +93,17 @@ with_facts facts declared = do
 report_by_info : (table : Table) (facts : Option Data) (d : Data) → of_info table facts d ≡ (declared_from table d >>= with_facts facts)
 report_by_info table facts d =
     elim (allowed_of_features (get (codes "features") d)) as (λ r.
-    (r >>= λ allowed. prefixes_of_namespaces (get (codes "namespaces") d) >>= λ prefixes. whole_text_of d >>= λ info. facts_of (named table prefixes) facts >>= λ facts. ok_report info (named table prefixes) allowed facts)
-    ≡ ((r >>= λ allowed. names_in table d >>= λ names. whole_text_of d >>= λ info. ok_declaration info names allowed) >>= with_facts facts)) [
+    (r >>= λ allowed. prefixes_of_namespaces (get (codes "namespaces") d) >>= λ prefixes. whole_text_of d
+    >>= λ info. facts_of (named table prefixes) facts
+    >>= λ facts. ok_report info (named table prefixes) allowed facts)
+    ≡ ((r >>= λ allowed. declared_names table d >>= λ names. whole_text_of d >>= λ info. ok_declaration info names allowed) >>= with_facts facts)) [
       | Err fault ↦ refl
       | Ok allowed ↦
           ap (λ r. r) (elim (prefixes_of_namespaces (get (codes "namespaces") d)) as (λ r.
-          (r >>= λ prefixes. whole_text_of d >>= λ info. facts_of (named table prefixes) facts >>= λ facts. ok_report info (named table prefixes) allowed facts)
-          ≡ (((r >>= λ prefixes. Ok (named table prefixes)) >>= λ names. whole_text_of d >>= λ info. ok_declaration info names allowed) >>= with_facts facts)) [
+          (r >>= λ prefixes. whole_text_of d >>= λ info. facts_of (named table prefixes) facts
+          >>= λ facts. ok_report info (named table prefixes) allowed facts)
+          ≡ (((r >>= λ prefixes. Ok (named table prefixes)) >>= λ names. whole_text_of d
+          >>= λ info. ok_declaration info names allowed) >>= with_facts facts)) [
             | Err fault ↦ refl
             | Ok prefixes ↦ elim (whole_text_of d) as (λ r.
                 (r >>= λ info. facts_of (named table prefixes) facts >>= λ facts. ok_report info (named table prefixes) allowed facts)
@@ -103,27 +112,30 @@ report_by_info table facts d =
                   | Ok info ↦ refl
                 ]
           ])
-          ∙ ap (λ names. (names >>= λ names. whole_text_of d >>= λ info. ok_declaration info names allowed) >>= with_facts facts) (sym (names_by_prefixes table (get (codes "namespaces") d)))
+          ∙ ap (λ names. (names >>= λ names. whole_text_of d >>= λ info. ok_declaration info names allowed)
+          >>= with_facts facts) (sym (names_by_prefixes table (get (codes "namespaces") d)))
     ]
 
-pub report_by_members : (table : Table) (d : Data) → report_of table d ≡ report_at table (get (codes "documentInfo") d) (get (codes "facts") d)
+pub report_by_members : (table : Table) (d : Data) → report_of table d ≡ report_of_members table (get (codes "documentInfo") d) (get (codes "facts") d)
 report_by_members table d =
     ap (λ r. r >>= of_info table (get (codes "facts") d)) (info_by_member d)
-    ∙ elim (document_info_at (get (codes "documentInfo") d)) as (λ r. (r >>= of_info table (get (codes "facts") d)) ≡ ((r >>= declared_from table) >>= with_facts (get (codes "facts") d))) [
+    ∙ elim (document_info_at (get (codes "documentInfo") d))
+    as (λ r. (r >>= of_info table (get (codes "facts") d))
+    ≡ ((r >>= declared_from table) >>= with_facts (get (codes "facts") d))) [
       | Err fault ↦ refl
       | Ok info ↦ report_by_info table (get (codes "facts") d) info
     ]
 
 -- ---- what is known of the info
 
-type_of : (o : Option Text) → option_map_or (λ type. text_eq type right_type) o false ≡ true → o ≡ Some right_type
+type_of : (o : Option Text) → option_map_or (λ type. text_eq type document_type) o false ≡ true → o ≡ Some document_type
 type_of None h = absurd (true≢false (sym h))
-type_of (Some type) h = ap (λ t. Some t) ((text_decides type right_type).0 h)
+type_of (Some type) h = ap (λ t. Some t) ((text_decides type document_type).0 h)
 
 -- a value that is accepted as `documentInfo` is an object of the right type
 pub record IsAccepted (d : Data) : Type 0 where
   pub is_object : is_some (as_object d) ≡ true
-  pub type : option_and_then as_str (get (codes "documentType") d) ≡ Some right_type
+  pub type : option_and_then as_str (get (codes "documentType") d) ≡ Some document_type
 
 if_typed : (b : Bool) (x d : Data) → cond b (Ok x) (Err WrongDocumentType) ≡ Ok d → (b ≡ true) × (x ≡ d)
 if_typed true x d h = (refl, cc)
@@ -147,19 +159,23 @@ text_if : (b : Bool) (t info : Text) → cond b (Err report.NotWhole) (Ok t) ≡
 text_if true t info h = cc
 text_if false t info h = cc
 
-bound_by : (table : Table) (r : Result (TextMap Text) ReportFault) (names : Names) → (r >>= λ prefixes. Ok (named table prefixes)) ≡ Ok names → r ≡ Ok names.prefixes
+bound_by : (table : Table) (r : Result (TextMap Text) ReportFault) (names : Names)
+    → (r >>= λ prefixes. Ok (named table prefixes)) ≡ Ok names → r ≡ Ok names.prefixes
 bound_by table (Ok prefixes) names h = let same : named table prefixes ≡ names = cc in ap (λ n. Ok n.prefixes) same
 bound_by table (Err fault) names h = cc
 
 info_of_object : (table : Table) (d : Data) (info : Text) (names : Names) (allowed : Allowed) → IsAccepted d
-    → allowed_of_features (get (codes "features") d) ≡ Ok allowed → names_in table d ≡ Ok names → whole_text_of d ≡ Ok info → IsWritable d → IsInfo info names.prefixes allowed
+    → allowed_of_features (get (codes "features") d) ≡ Ok allowed → declared_names table d ≡ Ok names
+    → whole_text_of d ≡ Ok info → IsWritable d → IsInfo info names.prefixes allowed
 info_of_object table (object ms) info names allowed is declares named_by text writable = record {
   members = ms;
   writable = writable;
   text = text_if (has_float (object ms)) (compact_text (object ms)) info text;
   type = is.type;
   declares = declares;
-  binds = bound_by table (prefixes_of_namespaces (get (codes "namespaces") (object ms))) names (sym (names_by_prefixes table (get (codes "namespaces") (object ms))) ∙ named_by);
+  binds =
+      bound_by table (prefixes_of_namespaces (get (codes "namespaces") (object ms))) names
+      (sym (names_by_prefixes table (get (codes "namespaces") (object ms))) ∙ named_by);
 }
 info_of_object table null info names allowed is declares named_by text writable = absurd (true≢false (sym is.is_object))
 info_of_object table (boolean b) info names allowed is declares named_by text writable = absurd (true≢false (sym is.is_object))
@@ -168,5 +184,6 @@ info_of_object table (string s) info names allowed is declares named_by text wri
 info_of_object table (array ds) info names allowed is declares named_by text writable = absurd (true≢false (sym is.is_object))
 
 pub info_of_declared : (table : Table) (o : Option Data) (d : Data) (info : Text) (names : Names) (allowed : Allowed) → document_info_at o ≡ Ok d
-    → allowed_of_features (get (codes "features") d) ≡ Ok allowed → names_in table d ≡ Ok names → whole_text_of d ≡ Ok info → IsWritable d → IsInfo info names.prefixes allowed
+    → allowed_of_features (get (codes "features") d) ≡ Ok allowed → declared_names table d ≡ Ok names
+    → whole_text_of d ≡ Ok info → IsWritable d → IsInfo info names.prefixes allowed
 info_of_declared table o d info names allowed h = info_of_object table d info names allowed (accepted o d h)

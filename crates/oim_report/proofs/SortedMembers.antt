@@ -11,7 +11,8 @@ use Rattle.filing_model.specs.JsonText.{pairs}
 use Rattle.filing_model.proofs.Tests.{both_hold}
 use Rattle.oim_report.proofs.EachMember.{Entry}
 
-below_members : (k : Text) (es : List Entry) → AllByRecursion (λ y. text_cmp k (string_bytes y) ≡ Less) (keys_of es) → T (below_all text_cmp k (pairs (members_view es)))
+below_members : (k : Text) (es : List Entry) → AllByRecursion (λ y. text_cmp k (string_bytes y) ≡ Less) (keys_of es)
+    → T (below_all text_cmp k (pairs (members_view es)))
 below_members k [] h = tt
 below_members k (e ∷ es) (less, rest) = both_hold _ _ (subst (λ o. T (is_lt o)) (sym less) tt) (below_members k es rest)
 

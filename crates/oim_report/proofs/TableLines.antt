@@ -19,7 +19,8 @@ abbrev pub size_left : Option Text → ℕ
 size_left None = 0
 size_left (Some text) = suc (length text)
 
-uncut_rest : {X : Type 0} (p : X → Bool) (x : X) (xs : List X) (b : Bool) → p x ≡ b → cond (not b) (1 + position_or_len p xs) 0 ≡ suc (length xs) → (position_or_len p xs ≡ length xs) × (b ≡ false)
+uncut_rest : {X : Type 0} (p : X → Bool) (x : X) (xs : List X) (b : Bool) → p x ≡ b
+    → cond (not b) (1 + position_or_len p xs) 0 ≡ suc (length xs) → (position_or_len p xs ≡ length xs) × (b ≡ false)
 uncut_rest p x xs true e h = absurd (omega (arith, h))
 uncut_rest p x xs false e h = (omega (arith, h), refl)
 
@@ -61,21 +62,26 @@ last_is line n size h =
 pub not_returned : (line : Text) → ((front : Text) → line ≢ front ++ 13 ∷ []) → line ≡ strip_carriage_return line
 not_returned [] h = refl
 not_returned (b ∷ text) h =
-    let other : get_or (b ∷ text) (length (b ∷ text) - 1) 0 ≢ 13 = λ e. h (take (length (b ∷ text) - 1) (b ∷ text)) (last_is (b ∷ text) (length (b ∷ text) - 1) (omega arith) e) in
+    let other : get_or (b ∷ text) (length (b ∷ text) - 1) 0 ≢ 13 =
+    λ e. h (take (length (b ∷ text) - 1) (b ∷ text)) (last_is (b ∷ text) (length (b ∷ text) - 1) (omega arith) e) in
     sym (ap (λ t. cond t (take (length (b ∷ text) - 1) (b ∷ text)) (b ∷ text)) (ne_eqb _ 13 other))
 
 -- ---- one turn
 
 -- the first line that is left, in front of the others
-pub numbered_turn : (n : ℕ) (left : Option Text) (rest line stripped : Text) (later : Option Text) → left ≡ Some rest → slice_split is_newline rest ≡ line ∷ lines_left later → stripped ≡ strip_carriage_return line
+pub numbered_turn : (n : ℕ) (left : Option Text) (rest line stripped : Text) (later : Option Text) → left ≡ Some rest
+    → slice_split is_newline rest ≡ line ∷ lines_left later → stripped ≡ strip_carriage_return line
     → numbered_from n left ≡ cond (nat_lt 0 (length stripped)) ((n, stripped) ∷ numbered_from (n + 1) later) (numbered_from (n + 1) later)
 numbered_turn n left rest line stripped later left_is split stripped_is =
     ap (λ o. numbered_from n o) left_is
     ∙ ap (λ ls. filter (λ l. nat_lt 0 (length l.1)) (enumerate_from n (map strip_carriage_return ls))) split
     ∙ ap (λ l. cond (nat_lt 0 (length l)) ((n, l) ∷ numbered_from (n + 1) later) (numbered_from (n + 1) later)) (sym stripped_is)
 
-pub row_turn : (n : ℕ) (line : Text) (left lines : List (ℕ × Text)) (before later : List (String Global × String Global)) (row : String Global × String Global) (goal : Result (List (Text × Text)) TableFault)
-    → left ≡ cond (nat_lt 0 (length line)) ((n, line) ∷ lines) lines → nat_lt 0 (length line) ≡ true → row_at (n, line) ≡ Ok (row_of row) → later ≡ before ++ row ∷ []
+pub row_turn : (n : ℕ) (line : Text) (left lines : List (ℕ × Text))
+    (before later : List (String Global × String Global)) (row : String Global × String Global)
+    (goal : Result (List (Text × Text)) TableFault)
+    → left ≡ cond (nat_lt 0 (length line)) ((n, line) ∷ lines) lines → nat_lt 0 (length line) ≡ true
+    → row_at (n, line) ≡ Ok (row_of row) → later ≡ before ++ row ∷ []
     → with_front (rows_view before) (each row_at left) ≡ goal → with_front (rows_view later) (each row_at lines) ≡ goal
 row_turn n line left lines before later row goal left_is some read later_is h =
     ap (λ rs. with_front rs (each row_at lines)) (ap rows_view later_is ∙ map-append row_of before (row ∷ []))
@@ -83,7 +89,8 @@ row_turn n line left lines before later row goal left_is some read later_is h =
     ∙ ap (λ ls. with_front (rows_view before) (each row_at ls)) (sym (left_is ∙ ap (λ b. cond b ((n, line) ∷ lines) lines) some))
     ∙ h
 
-pub empty_turn : (n : ℕ) (line : Text) (left lines : List (ℕ × Text)) (before later : List (String Global × String Global)) (goal : Result (List (Text × Text)) TableFault)
+pub empty_turn : (n : ℕ) (line : Text) (left lines : List (ℕ × Text))
+    (before later : List (String Global × String Global)) (goal : Result (List (Text × Text)) TableFault)
     → left ≡ cond (nat_lt 0 (length line)) ((n, line) ∷ lines) lines → nat_lt 0 (length line) ≡ false → later ≡ before
     → with_front (rows_view before) (each row_at left) ≡ goal → with_front (rows_view later) (each row_at lines) ≡ goal
 empty_turn n line left lines before later goal left_is none later_is h =
@@ -91,7 +98,8 @@ empty_turn n line left lines before later goal left_is none later_is h =
     ∙ ap (λ ls. with_front (rows_view before) (each row_at ls)) (sym (left_is ∙ ap (λ b. cond b ((n, line) ∷ lines) lines) none))
     ∙ h
 
-pub counted_turn : (n size : ℕ) (left : Option Text) (rest : Text) (later : Option (Bor (List ℕ))) → left ≡ Some rest → IfSome later (λ t. length t.now < length rest)
+pub counted_turn : (n size : ℕ) (left : Option Text) (rest : Text) (later : Option (Bor (List ℕ))) → left ≡ Some rest
+    → IfSome later (λ t. length t.now < length rest)
     → n + size_left left ≤ size → n + 1 + size_left (option_map (λ t. t.now) later) ≤ size
 counted_turn n size left rest None left_is shorter h = let now : size_left left ≡ suc (length rest) = ap size_left left_is in omega arith
 counted_turn n size left rest (Some t) left_is shorter h = let now : size_left left ≡ suc (length rest) = ap size_left left_is in omega arith

@@ -11,9 +11,11 @@ use Rattle.filing_model.proofs.Texts.{text_cmp-Equal}
 use Rattle.oim_report.proofs.EachMember.{Entry}
 
 -- a member of another name is passed over
-passed_over : (other name : Text) (d : Data) (ms : Members) → text_eq other name ≡ false → get_member other ms ≡ match_ordering (text_cmp other name) (get_member other ms) (Some d) (get_member other ms)
+passed_over : (other name : Text) (d : Data) (ms : Members) → text_eq other name ≡ false
+    → get_member other ms ≡ match_ordering (text_cmp other name) (get_member other ms) (Some d) (get_member other ms)
 passed_over other name d ms h =
-    elim (text_cmp other name) as (λ o. is_eq o ≡ false → get_member other ms ≡ match_ordering o (get_member other ms) (Some d) (get_member other ms)) [
+    elim (text_cmp other name) as (λ o. is_eq o ≡ false
+    → get_member other ms ≡ match_ordering o (get_member other ms) (Some d) (get_member other ms)) [
       | Less ↦ λ _. refl
       | Equal ↦ λ tie. absurd (true≢false tie)
       | Greater ↦ λ _. refl
@@ -26,8 +28,13 @@ others_stay other name h [] = refl
 others_stay other name h (e ∷ es) =
     let rest = others_stay other name h es in
     let removed = remove_entry (is_at (λ k. text_cmp name (string_bytes k))) es in
-    elim (text_cmp name (string_bytes e.0)) as (λ o. text_cmp name (string_bytes e.0) ≡ o → get_member other (members_view (cond (is_eq o) es (e ∷ removed))) ≡ get_member other (members_view (e ∷ es))) [
+    elim (text_cmp name (string_bytes e.0))
+    as (λ o. text_cmp name (string_bytes e.0) ≡ o
+    → get_member other (members_view (cond (is_eq o) es (e ∷ removed)))
+    ≡ get_member other (members_view (e ∷ es))) [
       | Less ↦ λ _. ap (λ m. match_ordering (text_cmp other (string_bytes e.0)) m (Some (view e.1)) m) rest
-      | Equal ↦ λ tie. passed_over other (string_bytes e.0) (view e.1) (members_view es) (ap (λ k. text_eq other k) (sym (text_cmp-Equal name (string_bytes e.0) tie)) ∙ h)
+      | Equal ↦
+          λ tie. passed_over other (string_bytes e.0) (view e.1) (members_view es)
+          (ap (λ k. text_eq other k) (sym (text_cmp-Equal name (string_bytes e.0) tie)) ∙ h)
       | Greater ↦ λ _. ap (λ m. match_ordering (text_cmp other (string_bytes e.0)) m (Some (view e.1)) m) rest
     ] refl

@@ -43,7 +43,9 @@ with_decimals None ms = ms
 with_decimals (Some z) ms = member (codes "decimals") (number (of_integer z)) ms
 
 abbrev pub fact_members : Option ℤ → Dims → Option Members → Option Text → Members
-fact_members decimals dims links value = with_decimals decimals (member (codes "dimensions") (object (dims_members dims)) (with_links links (member (codes "value") (nullable value) no_members)))
+fact_members decimals dims links value =
+    with_decimals decimals (member (codes "dimensions") (object (dims_members dims))
+    (with_links links (member (codes "value") (nullable value) no_members)))
 
 abbrev compact_links : Option Members → Option Text
 compact_links links = option_map (λ ms. compact_text (object ms)) links
@@ -61,7 +63,8 @@ nullable_written (Some text) = refl
 regrouped : (comma q v rest : Text) → comma ++ (q ++ 58 ∷ (v ++ rest)) ≡ comma ++ ((q ++ 58 ∷ v) ++ rest)
 regrouped comma q v rest = ap (λ t. comma ++ t) (sym (append_assoc q (58 ∷ v) rest))
 
-dims_listed : (later : Bool) (ds : Dims) → members_text later (dims_members ds) ≡ listed later (λ d. member_text d.0 (nullable_text d.1)) ds ++ codes "}"
+dims_listed : (later : Bool) (ds : Dims)
+    → members_text later (dims_members ds) ≡ listed later (λ d. member_text d.0 (nullable_text d.1)) ds ++ codes "}"
 dims_listed later [] = refl
 dims_listed later (d ∷ ds) =
     let rest = listed true (λ d. member_text d.0 (nullable_text d.1)) ds in
@@ -69,24 +72,30 @@ dims_listed later (d ∷ ds) =
     ∙ simp append_assoc
 
 tail_written : (links : Option Members) (value : Option Text)
-    → members_text true (with_links links (member (codes "value") (nullable value) no_members)) ≡ links_text (compact_links links) ++ (codes ",\"value\":" ++ (nullable_text value ++ codes "}"))
+    → members_text true (with_links links (member (codes "value") (nullable value) no_members))
+    ≡ links_text (compact_links links) ++ (codes ",\"value\":" ++ (nullable_text value ++ codes "}"))
 unfolding escape_byte
 tail_written None value = ap (λ t. codes ",\"value\":" ++ (t ++ codes "}")) (nullable_written value)
-tail_written (Some ms) value = ap (λ t. codes ",\"links\":" ++ (compact_text (object ms) ++ (codes ",\"value\":" ++ (t ++ codes "}")))) (nullable_written value)
+tail_written (Some ms) value =
+    ap (λ t. codes ",\"links\":" ++ (compact_text (object ms) ++ (codes ",\"value\":" ++ (t ++ codes "}"))))
+    (nullable_written value)
 
 integer_written : (z : ℤ) → number_text (of_integer z) ≡ signed_decimal z
 integer_written (pos n) = refl
 integer_written (negsuc n) = refl
 
 head_written : (decimals : Option ℤ) (dims : Dims) (rest : Members) (text : Text) → members_text true rest ≡ text
-    → compact_text (object (with_decimals decimals (member (codes "dimensions") (object (dims_members dims)) rest))) ≡ codes "{" ++ (decimals_text decimals ++ (codes "\"dimensions\":" ++ (dims_text dims ++ text)))
+    → compact_text (object (with_decimals decimals (member (codes "dimensions") (object (dims_members dims)) rest)))
+    ≡ codes "{" ++ (decimals_text decimals ++ (codes "\"dimensions\":" ++ (dims_text dims ++ text)))
 unfolding escape_byte
 head_written None dims rest text h = λ i. codes "{\"dimensions\":{" ++ (dims_listed false dims i ++ h i)
 head_written (Some z) dims rest text h =
     (λ i. codes "{\"decimals\":" ++ (integer_written z i ++ (codes ",\"dimensions\":{" ++ (dims_listed false dims i ++ h i))))
     ∙ ap (λ t. codes "{\"decimals\":" ++ t) (sym (append_assoc (signed_decimal z) (codes ",") (codes "\"dimensions\":" ++ (dims_text dims ++ text))))
 
-pub fact_written : (decimals : Option ℤ) (dims : Dims) (links : Option Members) (value : Option Text) → raw_fact_text (raw_with decimals dims links value) ≡ compact_text (object (fact_members decimals dims links value))
+pub fact_written : (decimals : Option ℤ) (dims : Dims) (links : Option Members) (value : Option Text)
+    → raw_fact_text (raw_with decimals dims links value)
+    ≡ compact_text (object (fact_members decimals dims links value))
 unfolding raw_fact_text
 fact_written decimals dims links value = sym (head_written decimals dims _ _ (tail_written links value))
 
@@ -120,12 +129,22 @@ abbrev pub AreWritableLinks : Option Members → Type 0
 AreWritableLinks None = ⊤
 AreWritableLinks (Some ms) = IsWritable (object ms)
 
-pub reads_fact : (decimals : Option ℤ) (dims : Dims) (links : Option Members) (value : Option Text) → AreWholeDecimals decimals → AreDims dims → AreWritableLinks links → Reads (object (fact_members decimals dims links value))
+pub reads_fact : (decimals : Option ℤ) (dims : Dims) (links : Option Members) (value : Option Text)
+    → AreWholeDecimals decimals → AreDims dims → AreWritableLinks links
+    → Reads (object (fact_members decimals dims links value))
 reads_fact None dims None value whole are writable = Reads-object _ tt (reads_dims dims are, (reads_nullable value, tt))
-reads_fact None dims (Some ms) value whole are writable = Reads-object _ tt (reads_dims dims are, (Reads-writable (object ms) writable, (reads_nullable value, tt)))
-reads_fact (Some z) dims None value whole are writable = Reads-object _ tt (Reads-number (of_integer z) (whole_decimals z whole), (reads_dims dims are, (reads_nullable value, tt)))
+reads_fact None dims (Some ms) value whole are writable =
+    Reads-object _ tt (reads_dims dims are, (Reads-writable (object ms) writable, (reads_nullable value, tt)))
+reads_fact (Some z) dims None value whole are writable =
+    Reads-object _ tt (
+      Reads-number (of_integer z) (whole_decimals z whole),
+      (reads_dims dims are, (reads_nullable value, tt)),
+    )
 reads_fact (Some z) dims (Some ms) value whole are writable =
-    Reads-object _ tt (Reads-number (of_integer z) (whole_decimals z whole), (reads_dims dims are, (Reads-writable (object ms) writable, (reads_nullable value, tt))))
+    Reads-object _ tt (
+      Reads-number (of_integer z) (whole_decimals z whole),
+      (reads_dims dims are, (Reads-writable (object ms) writable, (reads_nullable value, tt))),
+    )
 
 -- ---- what is read
 
@@ -141,17 +160,21 @@ integer_read : (z : ℤ) → AreWholeDecimals (Some z) → as_i64 (of_integer z)
 integer_read (pos n) h = ap (λ b. cond b (Some (pos n)) None) (lt-ltb n _ h)
 integer_read (negsuc n) h = refl
 
-named_read : (decimals : Option ℤ) (dims : Dims) (links : Option Members) (value : Option Text) → named_dims (object (fact_members decimals dims links value)) ≡ Ok dims
+named_read : (decimals : Option ℤ) (dims : Dims) (links : Option Members) (value : Option Text)
+    → named_dims (object (fact_members decimals dims links value)) ≡ Ok dims
 named_read None dims links value = dims_read dims
 named_read (Some z) dims links value = dims_read dims
 
-value_read : (decimals : Option ℤ) (dims : Dims) (links : Option Members) (value : Option Text) → option_and_then as_nullable (get (codes "value") (object (fact_members decimals dims links value))) ≡ Some value
+value_read : (decimals : Option ℤ) (dims : Dims) (links : Option Members) (value : Option Text)
+    → option_and_then as_nullable (get (codes "value") (object (fact_members decimals dims links value))) ≡ Some value
 value_read None dims None value = nullable_read value
 value_read None dims (Some ms) value = nullable_read value
 value_read (Some z) dims None value = nullable_read value
 value_read (Some z) dims (Some ms) value = nullable_read value
 
-decimals_read : (decimals : Option ℤ) (dims : Dims) (links : Option Members) (value : Option Text) → AreWholeDecimals decimals → decimals_of (get (codes "decimals") (object (fact_members decimals dims links value))) ≡ Ok decimals
+decimals_read : (decimals : Option ℤ) (dims : Dims) (links : Option Members) (value : Option Text)
+    → AreWholeDecimals decimals → decimals_of (get (codes "decimals") (object (fact_members decimals dims links value)))
+    ≡ Ok decimals
 decimals_read None dims None value whole = refl
 decimals_read None dims (Some ms) value whole = refl
 decimals_read (Some z) dims links value whole = ap (λ o. ok_or o trouble.NotWhole >>= λ decimals. Ok (Some decimals)) (integer_read z whole)
@@ -159,13 +182,15 @@ decimals_read (Some z) dims links value whole = ap (λ o. ok_or o trouble.NotWho
 kept_links : (ms : Members) → IsWritable (object ms) → links_of (Some (object ms)) ≡ Ok (Some (compact_text (object ms)))
 kept_links ms writable = ap (λ b. cond b (Err trouble.NotWhole) (Ok (Some (compact_text (object ms))))) (whole-IsWritable (object ms) writable)
 
-links_read : (decimals : Option ℤ) (dims : Dims) (links : Option Members) (value : Option Text) → AreWritableLinks links → links_of (get (codes "links") (object (fact_members decimals dims links value))) ≡ Ok (compact_links links)
+links_read : (decimals : Option ℤ) (dims : Dims) (links : Option Members) (value : Option Text) → AreWritableLinks links
+    → links_of (get (codes "links") (object (fact_members decimals dims links value))) ≡ Ok (compact_links links)
 links_read None dims None value writable = refl
 links_read (Some z) dims None value writable = refl
 links_read None dims (Some ms) value writable = kept_links ms writable
 links_read (Some z) dims (Some ms) value writable = kept_links ms writable
 
-pub fact_read : (decimals : Option ℤ) (dims : Dims) (links : Option Members) (value : Option Text) → AreWholeDecimals decimals → AreDims dims → AreWritableLinks links
+pub fact_read : (decimals : Option ℤ) (dims : Dims) (links : Option Members) (value : Option Text)
+    → AreWholeDecimals decimals → AreDims dims → AreWritableLinks links
     → raw_fact_of (object (fact_members decimals dims links value)) ≡ Ok (raw_with decimals dims links value)
 fact_read decimals dims links value whole are writable =
     (λ i.
@@ -174,7 +199,9 @@ fact_read decimals dims links value whole are writable =
     decimals_read decimals dims links value whole i >>= λ d.
     links_read decimals dims links value writable i >>= λ l.
     map_err trouble.Dims (dims_of named) >>= λ set. Ok (record { dims = set; value = v; decimals = d; links = l }))
-    ∙ ap (λ r. map_err trouble.Dims r >>= λ set. Ok (record { dims = set; value = value; decimals = decimals; links = compact_links links })) (Ok-from_AreDims dims are)
+    ∙ ap (λ r. map_err trouble.Dims r
+    >>= λ set. Ok (record { dims = set; value = value; decimals = decimals; links = compact_links links }))
+    (Ok-from_AreDims dims are)
 
 -- ---- any raw fact
 
@@ -192,7 +219,8 @@ pub record StandsFor (raw : RawFact) : Type 0 where
 pub stands_for : (raw : RawFact) → IsReadableFact raw → StandsFor raw
 stands_for raw is =
     let kept = links_in raw.links is.links in
-    let same : raw_with raw.decimals raw.dims kept.0 raw.value ≡ raw = λ i. record { dims = raw.dims; value = raw.value; decimals = raw.decimals; links = sym kept.2 i } in
+    let same : raw_with raw.decimals raw.dims kept.0 raw.value ≡ raw =
+    λ i. record { dims = raw.dims; value = raw.value; decimals = raw.decimals; links = sym kept.2 i } in
     record {
       links = kept.0;
       reads = reads_fact raw.decimals raw.dims kept.0 raw.value is.decimals is.dims kept.1;
@@ -200,7 +228,8 @@ stands_for raw is =
       read = fact_read raw.decimals raw.dims kept.0 raw.value is.decimals is.dims kept.1 ∙ ap (λ r. Ok r) same;
     }
 
-pub raw_fact_back : (raw : RawFact) → IsReadableFact raw → NestsWithin max_depth (raw_fact_text raw) → (d : Data) × (json_of (raw_fact_text raw) ≡ Some d) × (raw_fact_of d ≡ Ok raw)
+pub raw_fact_back : (raw : RawFact) → IsReadableFact raw → NestsWithin max_depth (raw_fact_text raw)
+    → (d : Data) × (json_of (raw_fact_text raw) ≡ Some d) × (raw_fact_of d ≡ Ok raw)
 raw_fact_back raw is nests =
     let stands = stands_for raw is in
     let value = object (fact_members raw.decimals raw.dims stands.links raw.value) in

@@ -1,5 +1,5 @@
 -- The JSON object that stands for a report: what is written of it, and what is read of it.
-use Rattle.std.proofs.Common.{◌≡◌, ℤ, pos, negsuc, T, ◌&&◌, Bool, true, false, cond, int_le, List, [], ◌∷◌, ◌++◌, codes, Option, Some, None, Result, Ok, Err, IfOk, is_lt, refl, sym, ap, ◌∙◌, arith, append_assoc, subst}
+use Rattle.std.proofs.Common.{◌≡◌, ◌-◌, ℤ, pos, negsuc, neg_ℤ, T, ◌&&◌, Bool, true, false, cond, int_le, List, [], ◌∷◌, ◌++◌, codes, Option, Some, None, Result, Ok, Err, IfOk, is_lt, refl, sym, ap, ◌∙◌, arith, append_assoc, subst}
 use Rattle.std.proofs.lemmas.Bool.{leb-true, and_parts}
 use Rattle.std.specs.Option.{option_and_then, ok_or}
 use Rattle.std.specs.FinMap.Entries.{is_sorted, below_all}
@@ -12,7 +12,7 @@ use Rattle.filing_model.specs.Text.{Text, text_cmp, text_eq}
 use Rattle.filing_model.specs.TextMap.{TextMap, from_entries}
 use Rattle.filing_model.specs.Try.{◌>>=◌, each, map_err}
 use Rattle.filing_model.specs.JsonText.{json_of, without_mark, pairs}
-use Rattle.filing_model.specs.Numerals.{number_of}
+use Rattle.filing_model.specs.Numerals.{most_fraction_digits, most_whole_digits, number_of}
 use Rattle.filing_model.specs.Intervals.{accuracy_of, are_decimals}
 use Rattle.filing_model.specs.Dimensions.{AreDims, concept_of}
 use Rattle.filing_model.specs.Facts.{RawFact, Fact, FactValue, Names, fit_of, fit_bound, with_value, value_of, numeric_value, number_with, expanded, are_bound, is_numeric, is_misplaced, written_value}
@@ -30,7 +30,7 @@ use Rattle.filing_model.proofs.FitAgain.{fit_again}
 use Rattle.filing_model.proofs.JsonTexts.{whole-IsWritable}
 use Rattle.filing_model.proofs.TextMaps.{from_entries-entries}
 use Rattle.oim_report.specs.Nesting.{NestsWithin}
-use Rattle.oim_report.specs.Parts.{IsInfo}
+use Rattle.oim_report.specs.Parts.{IsInfo, document_type}
 use Rattle.oim_report.specs.Readable.{AreFitted, IsReadable}
 use Rattle.oim_report.specs.ReadableFact.{AreWholeDecimals, IsReadableFact}
 use Rattle.oim_report.proofs.WrittenValues.{Reads, EachReads, Reads-object, Reads-writable, read_back}
@@ -39,8 +39,12 @@ use Rattle.oim_report.proofs.WrittenFacts.{fact_members, stands_for}
 -- ---- a fitted fact is written as a raw fact that can be read
 
 small_decimals : (z : ℤ) → are_decimals z ≡ true → AreWholeDecimals (Some z)
-small_decimals (pos n) h = let most = leb-true n 12 (and_parts (int_le (negsuc 19) (pos n)) _ h).1 in omega arith
-small_decimals (negsuc n) h = let least = leb-true n 19 (and_parts (int_le (negsuc 19) (negsuc n)) _ h).0 in omega arith
+small_decimals (pos n) h =
+    let most = leb-true n most_fraction_digits (and_parts (int_le (neg_ℤ (pos most_whole_digits)) (pos n)) _ h).1 in
+    omega arith
+small_decimals (negsuc n) h =
+    let least = leb-true n (most_whole_digits - 1) (and_parts (int_le (neg_ℤ (pos most_whole_digits)) (negsuc n)) _ h).0 in
+    omega arith
 
 -- what the definition of a fitted value says of the decimals that are written for it
 abbrev WholeIn : Result FactValue FactFault → Type 0
@@ -82,14 +86,18 @@ with_value_kept raw (Err fault) h = tt
 bound_kept : (names : Names) (raw : RawFact) (concept : Option (Text × Text)) → IfOk (fit_bound names raw concept) (IsKept raw)
 bound_kept names raw None = tt
 bound_kept names raw (Some concept) =
-    elim (are_bound names.prefixes raw.dims) as (λ b. IfOk (cond b (with_value raw (value_of (is_numeric names.table concept) raw)) (Err UnboundPrefix)) (IsKept raw)) [
+    elim (are_bound names.prefixes raw.dims)
+    as (λ b. IfOk (cond b (with_value raw (value_of (is_numeric names.table concept) raw)) (Err UnboundPrefix))
+    (IsKept raw)) [
       | true ↦ with_value_kept raw _ (value_whole (is_numeric names.table concept) raw)
       | false ↦ tt
     ]
 
 pub IsReadableFact-fitted : (names : Names) (fact : Fact) → AreDims fact.dims → IsFitted names fact → IsReadableFact (raw_of fact)
 IsReadableFact-fitted names fact dims fitted =
-    let kept = subst (λ r. IfOk r (IsKept fitted.0)) fitted.2 (bound_kept names fitted.0 (option_and_then (expanded names.prefixes) (concept_of fitted.0.dims))) in
+    let kept =
+    subst (λ r. IfOk r (IsKept fitted.0)) fitted.2
+    (bound_kept names fitted.0 (option_and_then (expanded names.prefixes) (concept_of fitted.0.dims))) in
     record { dims = dims; decimals = kept.1; links = subst AreLinks kept.0 fitted.1 }
 
 -- ---- the members of `facts`
@@ -103,12 +111,14 @@ record StandFor (names : Names) (es : List (Text × Fact)) : Type 0 where
   written : (later : Bool) → members_text later members ≡ listed later (λ e. member_text e.0 (fact_text e.1)) es ++ codes "}"
   read : each (entry_of names) (pairs members) ≡ Ok es
 
-entry_read : (names : Names) (id : Text) (fact : Fact) (d : Data) → raw_fact_of d ≡ Ok (raw_of fact) → fit_of names (raw_of fact) ≡ Ok fact → entry_of names (id, d) ≡ Ok (id, fact)
+entry_read : (names : Names) (id : Text) (fact : Fact) (d : Data) → raw_fact_of d ≡ Ok (raw_of fact)
+    → fit_of names (raw_of fact) ≡ Ok fact → entry_of names (id, d) ≡ Ok (id, fact)
 entry_read names id fact d read fits =
     ap (λ r. map_err (BadFact id) r >>= λ raw. map_err (λ fault. BadFact id (trouble.Fit fault)) (fit_of names raw) >>= λ fact. Ok (id, fact)) read
     ∙ ap (λ r. map_err (λ fault. BadFact id (trouble.Fit fault)) r >>= λ fact. Ok (id, fact)) fits
 
-regrouped : (comma name value rest : Text) → comma ++ (name ++ 58 ∷ (value ++ (rest ++ codes "}"))) ≡ (comma ++ ((name ++ 58 ∷ value) ++ rest)) ++ codes "}"
+regrouped : (comma name value rest : Text)
+    → comma ++ (name ++ 58 ∷ (value ++ (rest ++ codes "}"))) ≡ (comma ++ ((name ++ 58 ∷ value) ++ rest)) ++ codes "}"
 regrouped comma name value rest = simp append_assoc
 
 stand_for : (names : Names) (es : List (Text × Fact)) → AreFitted names es → StandFor names es
@@ -142,24 +152,33 @@ text_written : (report : Report) (info facts : Members) → report.info ≡ comp
     → report_text report ≡ compact_text (object (report_members info facts))
 unfolding report_text escape_byte
 text_written report info facts info_is facts_are =
-    (λ i. codes "{\"documentInfo\":" ++ (info_is i ++ (codes ",\"facts\":{" ++ sym (close_both (listed false (λ e. member_text e.0 (fact_text e.1)) report.facts.entries)) i)))
+    (λ i. codes "{\"documentInfo\":"
+    ++ (info_is i ++ (codes ",\"facts\":{"
+    ++ sym (close_both (listed false (λ e. member_text e.0 (fact_text e.1)) report.facts.entries)) i)))
     ∙ (λ i. codes "{\"documentInfo\":" ++ (compact_text (object info) ++ (codes ",\"facts\":{" ++ (sym facts_are i ++ codes "}"))))
 
 no_mark : (report : Report) → without_mark (report_text report) ≡ report_text report
 unfolding report_text
 no_mark report = refl
 
-document_read : (info facts : Members) → option_and_then as_str (get (codes "documentType") (object info)) ≡ Some (codes "https://xbrl.org/2021/xbrl-json") → document_info_of (object (report_members info facts)) ≡ Ok (object info)
-document_read info facts type = ap (λ o. ok_or o WrongDocumentType >>= λ type. cond (text_eq type (codes "https://xbrl.org/2021/xbrl-json")) (Ok (object info)) (Err WrongDocumentType)) type
+document_read : (info facts : Members)
+    → option_and_then as_str (get (codes "documentType") (object info)) ≡ Some document_type
+    → document_info_of (object (report_members info facts)) ≡ Ok (object info)
+document_read info facts type =
+    ap (λ o. ok_or o WrongDocumentType
+    >>= λ type. cond (text_eq type document_type) (Ok (object info))
+    (Err WrongDocumentType)) type
 
 whole_read : (d : Data) → has_float d ≡ false → whole_text_of d ≡ Ok (compact_text d)
 whole_read d whole = ap (λ b. cond b (Err NotWhole) (Ok (compact_text d))) whole
 
-facts_read : (names : Names) (facts : Members) (all : TextMap Fact) → each (entry_of names) (pairs facts) ≡ Ok all.entries → facts_of names (Some (object facts)) ≡ Ok all
+facts_read : (names : Names) (facts : Members) (all : TextMap Fact)
+    → each (entry_of names) (pairs facts) ≡ Ok all.entries → facts_of names (Some (object facts)) ≡ Ok all
 facts_read names facts all read = ap (λ r. r >>= λ entries. Ok (from_entries entries)) read ∙ ap (λ m. Ok m) (from_entries-entries all)
 
 report_read : (report : Report) (is : IsInfo report.info report.names.prefixes report.allowed) (facts : Members)
-    → each (entry_of report.names) (pairs facts) ≡ Ok report.facts.entries → report_of report.names.table (object (report_members is.members facts)) ≡ Ok report
+    → each (entry_of report.names) (pairs facts) ≡ Ok report.facts.entries
+    → report_of report.names.table (object (report_members is.members facts)) ≡ Ok report
 report_read report is facts read =
     (λ i.
     document_read is.members facts is.type i >>= λ document_info.
@@ -178,12 +197,19 @@ report_read report is facts read =
     facts_read report.names facts report.facts read i >>= λ facts.
     Ok (record { info = sym is.text i; names = report.names; allowed = report.allowed; facts = facts }))
 
-pub report_back : (report : Report) → IsReadable report → NestsWithin max_depth (report_text report) → read_report_of report.names.table (report_text report) ≡ Ok report
+pub report_back : (report : Report) → IsReadable report → NestsWithin max_depth (report_text report)
+    → read_report_of report.names.table (report_text report) ≡ Ok report
 report_back report is nests =
     let facts = stand_for report.names report.facts.entries is.facts in
     let value = object (report_members is.info.members facts.members) in
     let sorted : T (is_sorted text_cmp (pairs facts.members)) = subst T (sym facts.sorted) report.facts.sorted in
-    let reads : Reads value = Reads-object (report_members is.info.members facts.members) tt (Reads-writable (object is.info.members) is.info.writable, (Reads-object facts.members sorted facts.reads, tt)) in
+    let reads : Reads value =
+    Reads-object (report_members is.info.members facts.members) tt (
+      Reads-writable (object is.info.members) is.info.writable,
+      (Reads-object facts.members sorted facts.reads, tt),
+    ) in
     ap (λ text. ok_or (json_of text) NotJson >>= λ d. report_of report.names.table d) (no_mark report)
-    ∙ ap (λ o. ok_or o NotJson >>= λ d. report_of report.names.table d) (read_back value (report_text report) reads (text_written report is.info.members facts.members is.info.text (facts.written false)) nests)
+    ∙ ap (λ o. ok_or o NotJson >>= λ d. report_of report.names.table d)
+    (read_back value (report_text report) reads
+    (text_written report is.info.members facts.members is.info.text (facts.written false)) nests)
     ∙ report_read report is.info facts.members facts.read

@@ -103,12 +103,14 @@ before_more : (ns : Members) (l : Text) (e : Data) (k : Text) → AllBefore ns k
 before_more no_members l e k h below = (below, tt)
 before_more (member m f ns) l e k h below = (h.0, before_more ns l e k h.1 below)
 
-precede_more : (ns : Members) (l : Text) (e : Data) (ms : Members) → Precede ns ms → T (below_all text_cmp l (pairs ms)) → Precede (joined ns (member l e no_members)) ms
+precede_more : (ns : Members) (l : Text) (e : Data) (ms : Members) → Precede ns ms → T (below_all text_cmp l (pairs ms))
+    → Precede (joined ns (member l e no_members)) ms
 precede_more ns l e no_members h below = tt
 precede_more ns l e (member k d ms) h below =
     (before_more ns l e k h.0 (less_from_is_lt _ (first_holds _ _ below)), precede_more ns l e ms h.1 (second_holds _ _ below))
 
-members_back : (ns ms : Members) → Precede ns ms → T (is_sorted text_cmp (pairs ms)) → EachReads ms → of_members (members_outline ms) ns ≡ Some (joined ns ms)
+members_back : (ns ms : Members) → Precede ns ms → T (is_sorted text_cmp (pairs ms)) → EachReads ms
+    → of_members (members_outline ms) ns ≡ Some (joined ns ms)
 members_back ns no_members h sorted each = ap Some (sym (joined_none ns))
 members_back ns (member k d ms) h sorted each =
     ap (option_and_then (λ d. of_members (members_outline ms) (put k d ns))) each.0.back
@@ -125,7 +127,11 @@ members_numbers no_members h = tt
 members_numbers (member k d ms) h = (h.0.numbers, members_numbers ms h.1)
 
 pub Reads-object : (ms : Members) → T (is_sorted text_cmp (pairs ms)) → EachReads ms → Reads (object ms)
-Reads-object ms sorted each = record { numbers = members_numbers ms each; back = ap (option_map object) (members_back no_members ms (none_precede ms) sorted each) }
+Reads-object ms sorted each =
+    record {
+      numbers = members_numbers ms each;
+      back = ap (option_map object) (members_back no_members ms (none_precede ms) sorted each);
+    }
 
 -- ---- values with whole numbers alone
 
@@ -163,9 +169,17 @@ same_json i j h =
     let same : ◌≡◌ {A = Option (json.Json × List Token)} (Some (i, [])) (Some (j, [])) = sym one ∙ ap (λ ts. json.value n (ts ++ [])) h ∙ other in
     ap (λ o. elim o as (λ _. json.Json) [ None ↦ i | Some p ↦ p.0 ]) same
 
-pub read_back : (d : Data) (text : Text) → Reads d → text ≡ compact_text d → NestsWithin max_depth text → json_of text ≡ Some d
+-- the text of a value is JSON: its tokens are those of the value's outline, which is read to its end
+pub read_back : (d : Data) (text : Text) → Reads d → text ≡ compact_text d → NestsWithin max_depth text
+    → json_of text ≡ Some d
 read_back d text reads is nests =
-    let written : tokens text ≡ json_tokens (outline d) = ap tokens (is ∙ sym (print-outline d)) ∙ tokens-print (json_tokens (outline d)) (ArePrintable-json_tokens (outline d) reads.numbers) in
-    let same : nests.json ≡ outline d = same_json _ _ (sym nests.tokens ∙ written) in
-    let value : json.value max_depth (tokens text) ≡ Some (nests.json, []) = ap (json.value max_depth) (nests.tokens ∙ sym (append-nil (json_tokens nests.json))) ∙ value-json_tokens nests.json max_depth [] nests.shallow in
-    json_of-Some text d (nests.utf8, ap (λ o. option_and_then of_json (option_and_then (λ p. json.if_last p.0 p.1) o)) value ∙ ap of_json same ∙ reads.back)
+    let written : tokens text ≡ json_tokens (outline d) =
+    ap tokens (is ∙ sym (print-outline d))
+    ∙ tokens-print (json_tokens (outline d)) (ArePrintable-json_tokens (outline d) reads.numbers) in
+    let value : json.value max_depth (tokens text) ≡ Some (outline d, []) =
+    ap (json.value max_depth) (written ∙ sym (append-nil (json_tokens (outline d))))
+    ∙ value-json_tokens (outline d) max_depth [] (nests.shallow (outline d) written) in
+    json_of-Some text d (
+      nests.utf8,
+      ap (λ o. option_and_then of_json (option_and_then (λ p. json.if_last p.0 p.1) o)) value ∙ reads.back,
+    )

@@ -1,10 +1,14 @@
-pub mod Faults
-pub mod Lines
+-- ---- cited by the contracts of public calls, and by models
 pub mod Parts
 pub mod Readable
-pub mod Readings
-pub mod ReadableFact
-pub mod Nesting
-pub mod JsonValues
+pub mod Faults
+pub mod Appended
+-- ---- the laws of reading back, and their premises
 pub mod ReadBack
+pub mod Nesting
+pub mod ReadableFact
+pub mod JsonValues
+-- ---- cited within the crate alone, but for `same`
+pub mod Readings
+pub mod Lines
 pub mod Pieces

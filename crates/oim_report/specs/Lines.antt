@@ -12,4 +12,5 @@ lines_left (Some text) = slice_split is_newline text
 
 -- of these the ones that are not empty, without a carriage return at their end, numbered from n
 abbrev pub numbered_from : ℕ → Option Text → List (ℕ × Text)
-numbered_from n left = filter (λ line. nat_lt 0 (length line.1)) (enumerate_from n (map strip_carriage_return (lines_left left)))
+numbered_from n left =
+    filter (λ line. nat_lt 0 (length line.1)) (enumerate_from n (map strip_carriage_return (lines_left left)))

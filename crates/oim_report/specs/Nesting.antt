@@ -5,9 +5,9 @@ use Rattle.json.specs.Json.{Json}
 use Rattle.json.specs.Tree.{json_tokens, depth}
 use Rattle.filing_model.specs.Text.{Text}
 
--- the text is UTF-8, and its tokens are those of a JSON value whose arrays and objects nest no deeper than this
+-- the text is UTF-8, and a JSON value whose tokens are those of the text nests its arrays and objects no deeper than
+-- this.
+-- That there is such a value is not said: a text that is no JSON nests within each number.
 pub record NestsWithin (most : ℕ) (text : Text) : Type 0 where
   pub utf8 : IsUtf8 text
-  pub json : Json
-  pub tokens : lex.tokens text ≡ json_tokens json
-  pub shallow : depth json ≤ most
+  pub shallow : (json : Json) → lex.tokens text ≡ json_tokens json → depth json ≤ most

@@ -29,24 +29,42 @@ pub record Parts : Type 0 where
   pub allowed : Allowed
   pub facts : List (Text × Fact)
 
--- a text is the info of these prefixes and this declared value: the compact text of an object, with whole numbers alone, that is accepted as `documentInfo` (xBRL-JSON 1.0) and says them
+-- the document type of a report (xBRL-JSON 1.0)
+abbrev pub document_type : Text
+document_type = codes "https://xbrl.org/2021/xbrl-json"
+
+-- a text is the info of these prefixes and this declared value: the compact text of an object, with whole numbers
+-- alone,
+-- that is accepted as `documentInfo` (xBRL-JSON 1.0) and says them
 pub record IsInfo (info : Text) (prefixes : TextMap Text) (allowed : Allowed) : Type 0 where
   pub members : Members
   pub writable : IsWritable (object members)
   pub text : info ≡ compact_text (object members)
-  pub type : option_and_then as_str (get (codes "documentType") (object members)) ≡ Some (codes "https://xbrl.org/2021/xbrl-json")
+  pub type : option_and_then as_str (get (codes "documentType") (object members)) ≡ Some document_type
   pub declares : allowed_of_features (get (codes "features") (object members)) ≡ Ok allowed
   pub binds : prefixes_of_namespaces (get (codes "namespaces") (object members)) ≡ Ok prefixes
 
--- parts are those of a report: the identifiers strictly rise in byte order, and the info is that of the prefixes and the declared value
+-- parts are those of a report: the identifiers strictly rise in byte order, and the info is that of the prefixes and
+-- the
+-- declared value
 pub record AreParts (parts : Parts) : Type 0 where
   pub rise : T (is_sorted text_cmp parts.facts)
   pub info : IsInfo parts.info parts.names.prefixes parts.allowed
 
 -- the report of these parts
 abbrev pub whole : Parts → Report
-whole parts = record { info = parts.info; names = parts.names; allowed = parts.allowed; facts = from_entries parts.facts }
+whole parts = record {
+  info = parts.info;
+  names = parts.names;
+  allowed = parts.allowed;
+  facts = from_entries parts.facts;
+}
 
 -- the parts of this report
 abbrev pub parts_of : Report → Parts
-parts_of report = record { info = report.info; names = report.names; allowed = report.allowed; facts = report.facts.entries }
+parts_of report = record {
+  info = report.info;
+  names = report.names;
+  allowed = report.allowed;
+  facts = report.facts.entries;
+}

@@ -6,4 +6,7 @@ use Rattle.filing_model.specs.Writing.{decimals_text, dims_text, links_text}
 
 -- what stands in the text of a fact before its value
 unfoldable pub before_value : Option ℤ → Dims → Option Text → Text
-before_value decimals dims links = codes "{" ++ (decimals_text decimals ++ (codes "\"dimensions\":" ++ (dims_text dims ++ (links_text links ++ codes ",\"value\":"))))
+before_value decimals dims links =
+    codes "{" ++ (decimals_text decimals
+    ++ (codes "\"dimensions\":" ++ (dims_text dims
+    ++ (links_text links ++ codes ",\"value\":"))))

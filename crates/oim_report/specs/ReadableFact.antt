@@ -10,7 +10,8 @@ AreWholeDecimals None = ⊤
 AreWholeDecimals (Some (pos n)) = n < 2 ^ 63
 AreWholeDecimals (Some (negsuc n)) = n < 2 ^ 63
 
--- its dimensions are a set, its decimals a whole number, and its links the compact text of an object with whole numbers alone
+-- its dimensions are a set, its decimals a whole number, and its links the compact text of an object with whole
+-- numbers alone
 pub record IsReadableFact (raw : RawFact) : Type 0 where
   pub dims : AreDims raw.dims
   pub decimals : AreWholeDecimals raw.decimals

@@ -5,6 +5,7 @@ use Rattle.std.specs.declared.alloc.Global.{Global}
 use Rattle.serde_json.specs.Data.{Data}
 use Rattle.serde_json.specs.Find.{get, as_str, as_object}
 use Rattle.filing_model.specs.Text.{Text, text_eq}
+use Rattle.filing_model.specs.TextMap.{TextMap}
 use Rattle.filing_model.specs.Try.{◌>>=◌, each, map_err}
 use Rattle.filing_model.specs.JsonText.{pairs, an_object, as_nullable}
 use Rattle.filing_model.specs.Dimensions.{dims_of}
@@ -17,7 +18,8 @@ use Rattle.filing_model.specs.declared.duplicates.Allowed.{Allowed}
 use Rattle.filing_model.specs.declared.faults.Trouble.{Trouble}
 use Rattle.filing_model.specs.declared.faults.Trouble.TheVariants.{WrongShape, Dims, Fit}
 use Rattle.oim_fact.specs.Names.{names_of}
-use Rattle.oim_fact.specs.Texts.{text_of}
+use Rattle.oim_fact.specs.Texts.{text_view}
+use Rattle.oim_report.specs.Parts.{document_type}
 
 -- what a value with a model is seen as
 abbrev pub same : {A : Type 0} → A → A
@@ -25,7 +27,7 @@ same x = x
 
 -- a name with a text or null
 abbrev pub dim_view : String Global × Option (String Global) → Text × Option Text
-dim_view pair = (string_bytes pair.0, text_of pair.1)
+dim_view pair = (string_bytes pair.0, text_view pair.1)
 
 -- the dimensions as they stand in the member `dimensions`
 abbrev pub dims_at : Option Data → Result (List (Text × Option Text)) Trouble
@@ -34,7 +36,7 @@ dims_at dimensions = do
   each dim_of (pairs members)
 
 -- the raw fact of these members of an object
-abbrev pub raw_fact_at : Option Data → Option Data → Option Data → Option Data → Result RawFact Trouble
+abbrev pub raw_fact_at : (dimensions value decimals links : Option Data) → Result RawFact Trouble
 raw_fact_at dimensions value decimals links = do
   named ← dims_at dimensions
   value ← ok_or (option_and_then as_nullable value) WrongShape
@@ -49,7 +51,9 @@ fitted_of names raw = map_err Fit (fit_of names raw)
 
 -- its type is that of an xBRL-JSON 1.0 report
 abbrev pub has_document_type : Data → Bool
-has_document_type info = option_map_or (λ type. text_eq type (codes "https://xbrl.org/2021/xbrl-json")) (option_and_then as_str (get (codes "documentType") info)) false
+has_document_type info =
+    option_map_or (λ type. text_eq type document_type)
+    (option_and_then as_str (get (codes "documentType") info)) false
 
 -- the member `documentInfo`, an object of the right document type
 abbrev pub document_info_at : Option Data → Result Data ReportFault
@@ -65,8 +69,8 @@ bound_of (Some namespaces) = do
   each prefix_of (pairs members)
 
 -- the names that `documentInfo` declares, by this numeric table
-abbrev pub names_in : Table → Data → Result Names ReportFault
-names_in table info = do
+abbrev pub declared_names : Table → Data → Result Names ReportFault
+declared_names table info = do
   bound ← bound_of (get (codes "namespaces") info)
   map_err (λ _. AliasTwice) (names_of bound table)
 
@@ -76,18 +80,23 @@ pub record Declaration : Type 0 where
   pub names : Names
   pub allowed : Allowed
 
+-- the report that says this of itself and has these facts
+abbrev pub of_declared : Declaration → TextMap Fact → Report
+of_declared declared facts =
+    record { info = declared.info; names = declared.names; allowed = declared.allowed; facts = facts }
+
 -- what the member `documentInfo` declares, by this numeric table
 abbrev pub declared_by : Table → Option Data → Result Declaration ReportFault
 declared_by table value = do
   document_info ← document_info_at value
   allowed ← allowed_of_features (get (codes "features") document_info)
-  names ← names_in table document_info
+  names ← declared_names table document_info
   info ← whole_text_of document_info
   Ok (record { info = info; names = names; allowed = allowed })
 
 -- the report of these members at its top, by this numeric table
-abbrev pub report_at : Table → Option Data → Option Data → Result Report ReportFault
-report_at table document_info facts = do
+abbrev pub report_of_members : Table → Option Data → Option Data → Result Report ReportFault
+report_of_members table document_info facts = do
   declared ← declared_by table document_info
   facts ← facts_of declared.names facts
-  Ok (record { info = declared.info; names = declared.names; allowed = declared.allowed; facts = facts })
+  Ok (of_declared declared facts)

@@ -11,7 +11,7 @@ ghost use Rattle.filing_model.specs.JsonText.{pairs, as_nullable};
 ghost use Rattle.filing_model.specs.ReadFact.{dim_of, decimals_of, links_of, raw_fact_of};
 ghost use Rattle.filing_model.specs.declared.faults.Trouble.TheVariants as trouble;
 ghost use Rattle.oim_fact.specs.Dims.{dims_view};
-ghost use Rattle.oim_fact.specs.Texts.{text_of};
+ghost use Rattle.oim_fact.specs.Texts.{text_view};
 ghost use Rattle.oim_report.specs.Readings.{dim_view, dims_at, raw_fact_at, same};
 
 use crate::values::{members_of, take_member, whole_text};
@@ -71,7 +71,8 @@ fn dims_in(
     alloc: Global,
     members: Map<String, Value>,
 ) -> Result<Vec<(String, Option<String>)>, Trouble>
-    ensures { Gives fact_trouble (λ v. dims_view v.items) result (each dim_of (pairs (members_view members.entries))) }
+    ensures { Gives fact_trouble (λ v. dims_view v.items) result
+        (each dim_of (pairs (members_view members.entries))) }
 {
     let Ok(mut dims) = Vec::with_capacity(alloc, members.len()) else {
         return Err(Trouble::NoMemory);
@@ -86,7 +87,8 @@ fn dims_in(
 
 /// The dimensions as they stand in the object.
 fn dims(alloc: Global, dimensions: Option<Value>) -> Result<Vec<(String, Option<String>)>, Trouble>
-    ensures { Gives fact_trouble (λ v. dims_view v.items) result (dims_at (option_map view dimensions)) }
+    ensures { Gives fact_trouble (λ v. dims_view v.items) result
+        (dims_at (option_map view dimensions)) }
 {
     let Some(dimensions) = dimensions else {
         return Err(Trouble::WrongShape);
@@ -99,7 +101,8 @@ fn dims(alloc: Global, dimensions: Option<Value>) -> Result<Vec<(String, Option<
 
 /// A text or null.
 fn nullable(value: Option<Value>) -> Result<Option<String>, Trouble>
-    ensures { Gives fact_trouble text_of result (ok_or (option_and_then as_nullable (option_map view value)) trouble.WrongShape) }
+    ensures { Gives fact_trouble text_view result
+        (ok_or (option_and_then as_nullable (option_map view value)) trouble.WrongShape) }
 {
     match value {
         Some(Value::Null) => Ok(None),
@@ -123,8 +126,8 @@ fn decimals(value: Option<Value>) -> Result<Option<i64>, Trouble>
 
 /// Links as compact text.
 fn links(alloc: Global, value: Option<Value>) -> Result<Option<String>, Trouble>
-    ensures text { Gives fact_trouble text_of result (links_of (option_map view value)) }
-    ensures links { IfOk result (λ links. AreLinks (text_of links)) }
+    ensures text { Gives fact_trouble text_view result (links_of (option_map view value)) }
+    ensures links { IfOk result (λ links. AreLinks (text_view links)) }
 {
     let Some(value) = value else {
         return Ok(None);
@@ -141,7 +144,9 @@ fn links(alloc: Global, value: Option<Value>) -> Result<Option<String>, Trouble>
 
 /// The raw fact of these members, or the first fault.
 fn fact_of_members(alloc: Global, members: FactMembers) -> Result<RawFact, Trouble>
-    ensures fact { Gives fact_trouble same result (raw_fact_at (option_map view members.dimensions) (option_map view members.value) (option_map view members.decimals) (option_map view members.links)) }
+    ensures fact { Gives fact_trouble same result
+        (raw_fact_at (option_map view members.dimensions) (option_map view members.value)
+        (option_map view members.decimals) (option_map view members.links)) }
     ensures links { IfOk result (λ raw. AreLinks raw.links) }
 {
     let named = dims(alloc, members.dimensions)?;

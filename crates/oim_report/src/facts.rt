@@ -58,7 +58,8 @@ fn entry(
     id: String,
     value: Value,
 ) -> Result<(String, Arc<Fact>), ReportFault>
-    ensures entry { Gives report_fault fact_view result (entry_of names.now (string_bytes id, view value)) }
+    ensures entry { Gives report_fault fact_view result
+        (entry_of names.now (string_bytes id, view value)) }
     ensures dims { IfOk result (λ e. AreDims (arc_value e.1).dims) }
     ensures fitted { IfOk result (λ e. IsFitted names.now (arc_value e.1)) }
 {
@@ -72,14 +73,15 @@ fn entry(
     }
 }
 
-/// The same of members that stay.
+/// As `entry`, of a member that stays.
 fn entry_copied(
     alloc: Global,
     names: &Names,
     id: &String,
     value: &Value,
 ) -> Result<(String, Arc<Fact>), ReportFault>
-    ensures entry { Gives report_fault fact_view result (entry_of names.now (string_bytes id.now, view value.now)) }
+    ensures entry { Gives report_fault fact_view result
+        (entry_of names.now (string_bytes id.now, view value.now)) }
     ensures dims { IfOk result (λ e. AreDims (arc_value e.1).dims) }
     ensures fitted { IfOk result (λ e. IsFitted names.now (arc_value e.1)) }
 {
@@ -92,7 +94,8 @@ fn facts_in(
     names: &Names,
     members: Map<String, Value>,
 ) -> Result<Vec<(String, Arc<Fact>)>, ReportFault>
-    ensures facts { Gives report_fault (λ v. facts_view v.items) result (each (entry_of names.now) (pairs (members_view members.entries))) }
+    ensures facts { Gives report_fault (λ v. facts_view v.items) result
+        (each (entry_of names.now) (pairs (members_view members.entries))) }
     ensures rise { IfOk result (λ v. T (is_sorted text_cmp (facts_view v.items))) }
     ensures fitted { IfOk result (λ v. AreFitted names.now (facts_view v.items)) }
 {
@@ -109,7 +112,8 @@ pub(crate) fn facts(
     names: &Names,
     value: Option<Value>,
 ) -> Result<Vec<(String, Arc<Fact>)>, ReportFault>
-    ensures facts { Gives report_fault (λ v. from_entries (facts_view v.items)) result (facts_of names.now (option_map view value)) }
+    ensures facts { Gives report_fault (λ v. from_entries (facts_view v.items)) result
+        (facts_of names.now (option_map view value)) }
     ensures rise { IfOk result (λ v. T (is_sorted text_cmp (facts_view v.items))) }
     ensures fitted { IfOk result (λ v. AreFitted names.now (facts_view v.items)) }
 {
@@ -128,7 +132,8 @@ fn facts_among(
     names: &Names,
     members: &Map<String, Value>,
 ) -> Result<Vec<(String, Arc<Fact>)>, ReportFault>
-    ensures facts { Gives report_fault (λ v. facts_view v.items) result (each (entry_of names.now) (pairs (members_view members.now.entries))) }
+    ensures facts { Gives report_fault (λ v. facts_view v.items) result
+        (each (entry_of names.now) (pairs (members_view members.now.entries))) }
     ensures rise { IfOk result (λ v. T (is_sorted text_cmp (facts_view v.items))) }
     ensures fitted { IfOk result (λ v. AreFitted names.now (facts_view v.items)) }
 {
@@ -145,7 +150,8 @@ pub(crate) fn facts_at(
     names: &Names,
     value: &Value,
 ) -> Result<Vec<(String, Arc<Fact>)>, ReportFault>
-    ensures facts { Gives report_fault (λ v. from_entries (facts_view v.items)) result (facts_of names.now (get (codes "facts") (view value.now))) }
+    ensures facts { Gives report_fault (λ v. from_entries (facts_view v.items)) result
+        (facts_of names.now (get (codes "facts") (view value.now))) }
     ensures rise { IfOk result (λ v. T (is_sorted text_cmp (facts_view v.items))) }
     ensures fitted { IfOk result (λ v. AreFitted names.now (facts_view v.items)) }
 {

@@ -1,3 +1,5 @@
+//! Why a text is no report.
+
 use filing_model::Trouble;
 use std::alloc::{AllocError, AllocFailed};
 use thiserror::Error;

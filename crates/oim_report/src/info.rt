@@ -9,7 +9,7 @@ ghost use Rattle.filing_model.specs.JsonText.{pairs, IsWritable};
 ghost use Rattle.filing_model.specs.ReadReport.{allowed_of_word, allowed_of_features, prefix_of, whole_text_of};
 ghost use Rattle.oim_fact.specs.Texts.{row_of, rows_view};
 ghost use Rattle.oim_report.specs.Faults.{report_fault};
-ghost use Rattle.oim_report.specs.Readings.{bound_of, document_info_at, has_document_type, names_in, same};
+ghost use Rattle.oim_report.specs.Readings.{bound_of, document_info_at, has_document_type, declared_names, same};
 
 use crate::fault::ReportFault;
 use crate::values::whole_text;
@@ -19,7 +19,7 @@ use serde_json::{Map, Value};
 use std::alloc::Global;
 use std::sync::Arc;
 
-/// The document type of xBRL-JSON 1.0.
+/// The document type of a report (xBRL-JSON 1.0), as `document_type` has it.
 const DOCUMENT_TYPE: &str = "https://xbrl.org/2021/xbrl-json";
 
 /// Whether `documentInfo` has the right document type.
@@ -52,7 +52,7 @@ pub(crate) fn document_info(value: Option<Value>) -> Result<Value, ReportFault>
 }
 
 /// The allowed duplicates that a word declares.
-fn allowed_word(word: &str) -> Option<Allowed>
+fn allowed_of_word(word: &str) -> Option<Allowed>
     ensures { result ≡ allowed_of_word word.now }
 {
     if is_same_text(word, "none") {
@@ -70,7 +70,8 @@ fn allowed_word(word: &str) -> Option<Allowed>
 
 /// The allowed duplicates that the member `features` declares.
 pub(crate) fn allowed(info: &Value) -> Result<Allowed, ReportFault>
-    ensures { Gives report_fault same result (allowed_of_features (get (codes "features") (view info.now))) }
+    ensures { Gives report_fault same result
+        (allowed_of_features (get (codes "features") (view info.now))) }
 {
     let Some(features) = info.get("features") else {
         return Ok(Allowed::All);
@@ -84,7 +85,7 @@ pub(crate) fn allowed(info: &Value) -> Result<Allowed, ReportFault>
     let Some(word) = value.as_str() else {
         return Err(ReportFault::BadPolicy);
     };
-    match allowed_word(word) {
+    match allowed_of_word(word) {
         Some(allowed) => Ok(allowed),
         None => Err(ReportFault::BadPolicy),
     }
@@ -105,7 +106,8 @@ fn prefixes_in(
     alloc: Global,
     members: &Map<String, Value>,
 ) -> Result<Vec<(String, String)>, ReportFault>
-    ensures { Gives report_fault (λ v. rows_view v.items) result (each prefix_of (pairs (members_view members.now.entries))) }
+    ensures { Gives report_fault (λ v. rows_view v.items) result
+        (each prefix_of (pairs (members_view members.now.entries))) }
 {
     let mut prefixes = Vec::with_capacity(alloc, members.len())?;
     for (name, value) in members {
@@ -116,7 +118,8 @@ fn prefixes_in(
 
 /// The prefixes with their URIs that the member `namespaces` binds.
 fn bound(alloc: Global, info: &Value) -> Result<Vec<(String, String)>, ReportFault>
-    ensures { Gives report_fault (λ v. rows_view v.items) result (bound_of (get (codes "namespaces") (view info.now))) }
+    ensures { Gives report_fault (λ v. rows_view v.items) result
+        (bound_of (get (codes "namespaces") (view info.now))) }
 {
     let Some(namespaces) = info.get("namespaces") else {
         return Ok(Vec::new(alloc));
@@ -133,7 +136,7 @@ pub(crate) fn names(
     info: &Value,
     table: &Arc<NumericTable>,
 ) -> Result<Names, ReportFault>
-    ensures { Gives report_fault same result (names_in (arc_value table.now) (view info.now)) }
+    ensures { Gives report_fault same result (declared_names (arc_value table.now) (view info.now)) }
 {
     let prefixes = bound(alloc, info)?;
     match Names::of(prefixes, table.clone()?) {

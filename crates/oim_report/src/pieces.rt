@@ -1,10 +1,11 @@
-//! Pieces of compact JSON, each appended to a text that grows.
+//! Pieces of compact JSON, each appended to a text that grows. Where memory is wanted, what was appended is a front of the piece.
 
-ghost use Rattle.std.specs.Prelude.{◌≡◌, ◌++◌, OnOk, IfOk, string_bytes};
+ghost use Rattle.std.specs.Prelude.{◌≡◌, ◌++◌, OnOk, OnErr, IfOk, Some, string_bytes};
 ghost use Rattle.json.specs.Print.{quoted};
 ghost use Rattle.serde_json.specs.Written.{comma_if};
 ghost use Rattle.filing_model.specs.Writing.{decimals_text, nullable_text};
-ghost use Rattle.oim_fact.specs.Texts.{text_of};
+ghost use Rattle.oim_fact.specs.Texts.{text_view};
+ghost use Rattle.oim_report.specs.Appended.{IsFrontPushed};
 
 use json::Writer;
 use std::alloc::{AllocError, Global};
@@ -24,7 +25,8 @@ fn quoted_text(alloc: Global, text: &str) -> Result<String, AllocError>
 
 /// Appends a text as a JSON text.
 pub fn push_quoted(out: &mut String, text: &str) -> Result<(), AllocError>
-    ensures { OnOk result (string_bytes out.new ≡ string_bytes out.old ++ quoted text.now) }
+    ensures text { OnOk result (string_bytes out.new ≡ string_bytes out.old ++ quoted text.now) }
+    ensures front { OnErr result (IsFrontPushed out.old out.new (quoted text.now)) }
 {
     let quoted = quoted_text(*out.allocator(), text)?;
     out.push_str(&quoted)
@@ -32,14 +34,17 @@ pub fn push_quoted(out: &mut String, text: &str) -> Result<(), AllocError>
 
 /// Appends a comma, where something stands before.
 pub fn push_comma(out: &mut String, later: bool) -> Result<(), AllocError>
-    ensures { OnOk result (string_bytes out.new ≡ string_bytes out.old ++ comma_if later) }
+    ensures text { OnOk result (string_bytes out.new ≡ string_bytes out.old ++ comma_if later) }
+    ensures front { OnErr result (IsFrontPushed out.old out.new (comma_if later)) }
 {
     if later { out.push_str(",") } else { Ok(()) }
 }
 
 /// Appends a JSON text, or null.
 pub fn push_nullable(out: &mut String, text: &Option<String>) -> Result<(), AllocError>
-    ensures { OnOk result (string_bytes out.new ≡ string_bytes out.old ++ nullable_text (text_of text.now)) }
+    ensures text { OnOk result (string_bytes out.new
+        ≡ string_bytes out.old ++ nullable_text (text_view text.now)) }
+    ensures front { OnErr result (IsFrontPushed out.old out.new (nullable_text (text_view text.now))) }
 {
     match text {
         None => out.push_str("null"),
@@ -47,12 +52,29 @@ pub fn push_nullable(out: &mut String, text: &Option<String>) -> Result<(), Allo
     }
 }
 
+/// The member `decimals` with the comma after it.
+fn decimals_member(alloc: Global, decimals: &i64) -> Result<String, AllocError>
+    ensures { IfOk result (λ t. string_bytes t ≡ decimals_text (Some decimals.now)) }
+{
+    format!(in alloc; "\"decimals\":{decimals},")
+}
+
+/// Appends the member `decimals` with the comma after it.
+fn push_decimals_member(out: &mut String, decimals: &i64) -> Result<(), AllocError>
+    ensures text { OnOk result (string_bytes out.new ≡ string_bytes out.old ++ decimals_text (Some decimals.now)) }
+    ensures front { OnErr result (IsFrontPushed out.old out.new (decimals_text (Some decimals.now))) }
+{
+    let member = decimals_member(*out.allocator(), decimals)?;
+    out.push_str(&member)
+}
+
 /// Appends the member `decimals` with the comma after it, where there is one.
 pub(crate) fn push_decimals(out: &mut String, decimals: &Option<i64>) -> Result<(), AllocError>
-    ensures { OnOk result (string_bytes out.new ≡ string_bytes out.old ++ decimals_text decimals.now) }
+    ensures text { OnOk result (string_bytes out.new ≡ string_bytes out.old ++ decimals_text decimals.now) }
+    ensures front { OnErr result (IsFrontPushed out.old out.new (decimals_text decimals.now)) }
 {
     match decimals {
         None => Ok(()),
-        Some(decimals) => write!(out, "\"decimals\":{decimals},"),
+        Some(decimals) => push_decimals_member(out, decimals),
     }
 }

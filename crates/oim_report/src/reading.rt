@@ -12,7 +12,7 @@ ghost use Rattle.filing_model.specs.ReadReport.{read_report_of, report_of};
 ghost use Rattle.oim_report.specs.Faults.{report_fault};
 ghost use Rattle.oim_report.specs.Parts.{IsInfo, facts_view};
 ghost use Rattle.oim_report.specs.Readable.{AreFitted, IsReadable};
-ghost use Rattle.oim_report.specs.Readings.{declared_by, report_at, same};
+ghost use Rattle.oim_report.specs.Readings.{declared_by, of_declared, report_of_members, same};
 
 use crate::facts::{facts, facts_at};
 use crate::fault::ReportFault;
@@ -35,7 +35,8 @@ struct TopMembers {
 
 /// The members that are read, out of a value; none of one that is no object. The others are dropped.
 fn top_members(value: Value) -> TopMembers
-    ensures document_info { option_map view result.document_info ≡ get (codes "documentInfo") (view value) }
+    ensures document_info { option_map view result.document_info
+        ≡ get (codes "documentInfo") (view value) }
     ensures facts { option_map view result.facts ≡ get (codes "facts") (view value) }
 {
     match value {
@@ -76,7 +77,8 @@ fn declaration(
     value: Option<Value>,
     table: &Arc<NumericTable>,
 ) -> Result<Declared, ReportFault>
-    ensures declared { Gives report_fault same result (declared_by (arc_value table.now) (option_map view value)) }
+    ensures declared { Gives report_fault same result
+        (declared_by (arc_value table.now) (option_map view value)) }
     ensures info { IfOk result (λ d. IsInfo d.info d.names.prefixes d.allowed) }
 {
     let document_info = document_info(value)?;
@@ -95,7 +97,7 @@ fn assembled(declared: Declared, facts: Vec<(String, Arc<Fact>)>) -> Report
     requires info { IsInfo declared.info declared.names.prefixes declared.allowed }
     requires rise { T (is_sorted text_cmp (facts_view facts.items)) }
     requires fitted { AreFitted declared.names (facts_view facts.items) }
-    ensures report { result ≡ record { info = declared.info; names = declared.names; allowed = declared.allowed; facts = from_entries (facts_view facts.items) } }
+    ensures report { result ≡ of_declared declared (from_entries (facts_view facts.items)) }
     ensures readable { IsReadable result }
 {
     let Declared {
@@ -117,7 +119,9 @@ fn report_of_members(
     members: TopMembers,
     table: &Arc<NumericTable>,
 ) -> Result<Report, ReportFault>
-    ensures report { Gives report_fault same result (report_at (arc_value table.now) (option_map view members.document_info) (option_map view members.facts)) }
+    ensures report { Gives report_fault same result
+        (report_of_members (arc_value table.now)
+        (option_map view members.document_info) (option_map view members.facts)) }
     ensures readable { IfOk result IsReadable }
 {
     let declared = declaration(alloc, members.document_info, table)?;
@@ -125,7 +129,7 @@ fn report_of_members(
     Ok(assembled(declared, facts))
 }
 
-/// The same of a value that is given up: the texts of the report move out of it.
+/// As `report_of`, of a value that is given up: the texts of the report move out of it.
 #[tactic(auto, using(crate::proofs::ReportsByParts::report_by_members))]
 pub fn report_from(
     alloc: Global,
@@ -145,7 +149,8 @@ pub fn report_of(
     value: &Value,
     table: &Arc<NumericTable>,
 ) -> Result<Report, ReportFault>
-    ensures report { Gives report_fault same result (report_of (arc_value table.now) (view value.now)) }
+    ensures report { Gives report_fault same result
+        (report_of (arc_value table.now) (view value.now)) }
     ensures readable { IfOk result IsReadable }
 {
     let document_info = copy_at(value, "documentInfo")?;
@@ -160,7 +165,8 @@ pub fn read_report(
     bytes: &[u8],
     table: &Arc<NumericTable>,
 ) -> Result<Report, ReportFault>
-    ensures report { Gives report_fault same result (read_report_of (arc_value table.now) bytes.now) }
+    ensures report { Gives report_fault same result
+        (read_report_of (arc_value table.now) bytes.now) }
     ensures readable { IfOk result IsReadable }
 {
     match json_value(alloc, without_mark(bytes))? {

@@ -1,3 +1,5 @@
+//! Reports, and the parts that they are made of.
+
 ghost use Rattle.std.specs.Prelude.{◌≡◌, IfOk};
 ghost use Rattle.oim_report.specs.Parts.{AreParts, facts_view, parts_of, whole};
 
@@ -22,7 +24,12 @@ impl Model for ReportParts {
 
     ghost Value = { Parts };
 
-    ghost view = { λ p. record { info = string_bytes p.info; names = p.names; allowed = p.allowed; facts = facts_view p.facts.items } };
+    ghost view = { λ p. record {
+      info = string_bytes p.info;
+      names = p.names;
+      allowed = p.allowed;
+      facts = facts_view p.facts.items;
+    } };
 }
 
 /// A report of xBRL-JSON 1.0. It need not obey the allowed duplicates that it declares.
@@ -41,9 +48,19 @@ impl Model for Report {
 
     ghost Value = { PlainReport };
 
-    ghost view = { λ r. whole (record { info = string_bytes r.info; names = r.names; allowed = r.allowed; facts = facts_view r.facts.items }) };
+    ghost view = { λ r. whole (record {
+      info = string_bytes r.info;
+      names = r.names;
+      allowed = r.allowed;
+      facts = facts_view r.facts.items;
+    }) };
 
-    ghost invariant = { λ r. AreParts (record { info = string_bytes r.info; names = r.names; allowed = r.allowed; facts = facts_view r.facts.items }) };
+    ghost invariant = { λ r. AreParts (record {
+      info = string_bytes r.info;
+      names = r.names;
+      allowed = r.allowed;
+      facts = facts_view r.facts.items;
+    }) };
 }
 
 /// The same facts, which are shared, under the same identifiers.

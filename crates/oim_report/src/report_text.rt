@@ -1,8 +1,9 @@
 //! Reports as compact JSON (xBRL-JSON 1.0).
 
-ghost use Rattle.std.specs.Prelude.{◌≡◌, ◌++◌, OnOk, IfOk, false, string_bytes};
+ghost use Rattle.std.specs.Prelude.{◌≡◌, ◌++◌, OnOk, OnErr, IfOk, false, string_bytes};
 ghost use Rattle.filing_model.specs.Writing.{fact_text, listed, member_text, report_text};
 ghost use Rattle.oim_report.specs.Parts.{facts_view};
+ghost use Rattle.oim_report.specs.Appended.{IsFrontPushed};
 
 use crate::fact_text::push_fact;
 use crate::pieces::{push_comma, push_quoted};
@@ -13,7 +14,9 @@ use std::sync::Arc;
 
 /// Appends a fact under its identifier.
 fn push_entry(out: &mut String, id: &str, fact: &Fact) -> Result<(), AllocError>
-    ensures { OnOk result (string_bytes out.new ≡ string_bytes out.old ++ member_text id.now (fact_text fact.now)) }
+    ensures text { OnOk result (string_bytes out.new
+        ≡ string_bytes out.old ++ member_text id.now (fact_text fact.now)) }
+    ensures front { OnErr result (IsFrontPushed out.old out.new (member_text id.now (fact_text fact.now))) }
 {
     push_quoted(out, id)?;
     out.push_str(":")?;
@@ -22,7 +25,11 @@ fn push_entry(out: &mut String, id: &str, fact: &Fact) -> Result<(), AllocError>
 
 /// Appends facts under their identifiers, with commas between.
 fn push_entries(out: &mut String, facts: &[(String, Arc<Fact>)]) -> Result<(), AllocError>
-    ensures { OnOk result (string_bytes out.new ≡ string_bytes out.old ++ listed false (λ e. member_text e.0 (fact_text e.1)) (facts_view facts.now)) }
+    ensures text { OnOk result (string_bytes out.new
+        ≡ string_bytes out.old
+        ++ listed false (λ e. member_text e.0 (fact_text e.1)) (facts_view facts.now)) }
+    ensures front { OnErr result (IsFrontPushed out.old out.new
+        (listed false (λ e. member_text e.0 (fact_text e.1)) (facts_view facts.now))) }
 {
     let mut later = false;
     for (id, fact) in facts {
@@ -35,7 +42,9 @@ fn push_entries(out: &mut String, facts: &[(String, Arc<Fact>)]) -> Result<(), A
 
 /// Appends a report as `write_report` writes it.
 pub fn push_report(out: &mut String, report: &Report) -> Result<(), AllocError>
-    ensures { OnOk result (string_bytes out.new ≡ string_bytes out.old ++ report_text report.now) }
+    ensures text { OnOk result (string_bytes out.new
+        ≡ string_bytes out.old ++ report_text report.now) }
+    ensures front { OnErr result (IsFrontPushed out.old out.new (report_text report.now)) }
 {
     out.push_str("{\"documentInfo\":")?;
     out.push_str(report.info())?;

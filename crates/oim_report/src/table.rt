@@ -17,7 +17,8 @@ use std::alloc::Global;
 
 /// The first line, and the text after its line feed.
 fn first_line(text: &str) -> (&str, Option<&str>)
-    ensures split { slice_split is_newline text.now ≡ result.0.now ∷ lines_left (option_map (λ t. t.now) result.1) }
+    ensures split { slice_split is_newline text.now
+        ≡ result.0.now ∷ lines_left (option_map (λ t. t.now) result.1) }
     ensures shorter { IfSome result.1 (λ rest. length rest.now < length text.now) }
 {
     match text.split_once('\n') {
@@ -38,7 +39,8 @@ fn without_return(line: &str) -> &str
 
 /// The URI and the local name of a line.
 fn parts(line: &str) -> Option<(&str, &str)>
-    ensures { option_map (λ p. (p.0.now, p.1.now)) result ≡ (if is_row (split_at_space line.now) then Some (split_at_space line.now) else None) }
+    ensures { option_map (λ p. (p.0.now, p.1.now)) result
+        ≡ (if is_row (split_at_space line.now) then Some (split_at_space line.now) else None) }
 {
     let (uri, local) = line.split_once(' ')?;
     if uri.is_empty() || local.is_empty() || local.contains(' ') {
@@ -65,7 +67,8 @@ fn row(alloc: Global, number: u64, line: &str) -> Result<(String, String), Table
 
 /// The rows of a text, or its first bad line.
 fn rows(alloc: Global, text: &str) -> Result<Vec<(String, String)>, TableFault>
-    ensures { Gives table_fault (λ v. rows_view v.items) result (each row_at (numbered_lines text.now)) }
+    ensures { Gives table_fault (λ v. rows_view v.items) result
+        (each row_at (numbered_lines text.now)) }
 {
     let mut rows = Vec::new(alloc);
     let mut number = 1;

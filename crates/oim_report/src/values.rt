@@ -50,7 +50,9 @@ pub(crate) fn members_of(value: Value) -> Option<Map<String, Value>>
 /// The member of this name, which leaves the others.
 pub(crate) fn take_member(members: &mut Map<String, Value>, name: &str) -> Option<Value>
     ensures value { option_map view result ≡ get_member name.now (members_view members.old.entries) }
-    ensures others { (other : Text) → text_eq other name.now ≡ false → get_member other (members_view members.new.entries) ≡ get_member other (members_view members.old.entries) }
+    ensures others { (other : Text) → text_eq other name.now ≡ false
+        → get_member other (members_view members.new.entries)
+        ≡ get_member other (members_view members.old.entries) }
 {
     members.remove(name)
 }
@@ -99,7 +101,7 @@ pub(crate) fn is_whole(value: &Value) -> bool
     }
 }
 
-/// The same of each item.
+/// As `is_whole`, of each item.
 #[cycle(whole)]
 fn are_whole(items: &Vec<Value>) -> bool
     ensures whole { result ≡ not (items_have_float (items_view items.now.items)) }
@@ -113,7 +115,7 @@ fn are_whole(items: &Vec<Value>) -> bool
     true
 }
 
-/// The same of each member's value.
+/// As `is_whole`, of each member's value.
 #[cycle(whole)]
 fn are_members_whole(members: &Map<String, Value>) -> bool
     ensures whole { result ≡ not (members_have_float (members_view members.now.entries)) }
@@ -130,7 +132,8 @@ fn are_members_whole(members: &Map<String, Value>) -> bool
 
 /// The compact text of a value with whole numbers alone.
 pub(crate) fn whole_text(alloc: Global, value: &Value) -> Result<Option<String>, AllocError>
-    ensures text { IfOk result (λ o. option_map string_bytes o ≡ (if has_float (view value.now) then None else Some (compact_text (view value.now)))) }
+    ensures text { IfOk result (λ o. option_map string_bytes o
+        ≡ (if has_float (view value.now) then None else Some (compact_text (view value.now)))) }
     ensures writable { IfOk result (λ o. IfSome o (λ _. IsWritable (view value.now))) }
 {
     if is_whole(value) {

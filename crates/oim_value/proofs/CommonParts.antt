@@ -18,7 +18,8 @@ lesser_size : (a b : ℤ) (n : ℕ) → nat_abs a ≤ n → nat_abs b ≤ n → 
 lesser_size a b n p q = by_lt_z b a (λ less. grind arith) (λ more. grind arith)
 
 -- the common part of two that meet is an interval
-pub common_ends : (i j : Interval) (low high : ℤ) → HasBoundedEnds i → HasBoundedEnds j → IsTrue (meets i j) → low ≡ int_max i.low j.low → high ≡ int_min i.high j.high → HasBoundedEnds (record { low = low; high = high })
+pub common_ends : (i j : Interval) (low high : ℤ) → HasBoundedEnds i → HasBoundedEnds j → IsTrue (meets i j)
+    → low ≡ int_max i.low j.low → high ≡ int_min i.high j.high → HasBoundedEnds (record { low = low; high = high })
 common_ends i j low high a b m l h =
     let tests = and_parts (int_le i.low j.high) (int_le j.low i.high) m in
     let below : i.low ≤ℤ j.high = le_z_yes (passes (int_le i.low j.high) tests.0) in
@@ -29,8 +30,12 @@ common_ends i j low high a b m l h =
       high_size = rw h (lesser_size i.high j.high _ a.high_size b.high_size);
     }
 
-from_common : (i j : Interval) (low high x : ℤ) → low ≡ int_max i.low j.low → high ≡ int_min i.high j.high → low ≤ℤ x → x ≤ℤ high → IsWithin i x × IsWithin j x
-from_common i j low high x l h p q = ((omega (arith, ints, clamps), omega (arith, ints, clamps)), (omega (arith, ints, clamps), omega (arith, ints, clamps)))
+from_common : (i j : Interval) (low high x : ℤ) → low ≡ int_max i.low j.low → high ≡ int_min i.high j.high → low ≤ℤ x
+    → x ≤ℤ high → IsWithin i x × IsWithin j x
+from_common i j low high x l h p q = (
+  (omega (arith, ints, clamps), omega (arith, ints, clamps)),
+  (omega (arith, ints, clamps), omega (arith, ints, clamps)),
+)
 
 to_common_low : (i j : Interval) (low x : ℤ) → low ≡ int_max i.low j.low → i.low ≤ℤ x → j.low ≤ℤ x → low ≤ℤ x
 to_common_low i j low x l p q = omega (arith, ints, clamps)
@@ -38,8 +43,9 @@ to_common_low i j low x l p q = omega (arith, ints, clamps)
 to_common_high : (i j : Interval) (high x : ℤ) → high ≡ int_min i.high j.high → x ≤ℤ i.high → x ≤ℤ j.high → x ≤ℤ high
 to_common_high i j high x h p q = omega (arith, ints, clamps)
 
--- a number is in the common part just where it is in and_parts
-pub common_part : (i j : Interval) (low high : ℤ) → low ≡ int_max i.low j.low → high ≡ int_min i.high j.high → (x : ℤ) → IsWithin (record { low = low; high = high }) x ↔ (IsWithin i x × IsWithin j x)
+-- a number is in the common part just where it is in both
+pub common_part : (i j : Interval) (low high : ℤ) → low ≡ int_max i.low j.low → high ≡ int_min i.high j.high → (x : ℤ)
+    → IsWithin (record { low = low; high = high }) x ↔ (IsWithin i x × IsWithin j x)
 common_part i j low high l h x = (
   λ (p, q). from_common i j low high x l h p q,
   λ ((p, q), (r, s)). (to_common_low i j low x l p r, to_common_high i j high x h q s),

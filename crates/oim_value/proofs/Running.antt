@@ -33,9 +33,15 @@ more n d ds whole h =
     let some : 0 < p = pow-le-pow_right {n = 10} (omega arith) {i = 0} {j = length ds} (omega arith) in
     let power : 10 ^ suc (length ds) ≡ p * 10 = pow-suc 10 (length ds) in
     let few : (n + 1) * (p * 10) ≤ number_limit = subst (λ m. (n + 1) * m ≤ number_limit) power h.few in (
-      record { few = one_more_is_few n (d - 48) p small few; digits = t.1; value = one_more_is_same n (d - 48) p (place_sum ds) ∙ ap (λ m. n * m + ((d - 48) * p + place_sum ds)) (sym power) ∙ h.value },
+      record {
+        few = one_more_is_few n (d - 48) p small few;
+        digits = t.1;
+        value = one_more_is_same n (d - 48) p (place_sum ds)
+            ∙ ap (λ m. n * m + ((d - 48) * p + place_sum ds)) (sym power) ∙ h.value;
+      },
       one_more_fits n (d - 48) p small some few,
     )
 
-pub digit_more : (n : ℕ) (ds : Text) (i whole : ℕ) → i < length ds → Makes n (drop i ds) whole → Makes (n * 10 + (get_or ds i 0 - 48)) (drop (suc i) ds) whole × (n * 10 + (get_or ds i 0 - 48) < number_limit)
+pub digit_more : (n : ℕ) (ds : Text) (i whole : ℕ) → i < length ds → Makes n (drop i ds) whole
+    → Makes (n * 10 + (get_or ds i 0 - 48)) (drop (suc i) ds) whole × (n * 10 + (get_or ds i 0 - 48) < number_limit)
 digit_more n ds i whole h m = more n (get_or ds i 0) (drop (suc i) ds) whole (subst (λ l. Makes n l whole) (drop-cons ds i 0 h) m)

@@ -21,17 +21,24 @@ pub half_width_is_bounded : (d : ℤ) → neg_ℤ (pos most_whole_digits) ≤ℤ
 half_width_is_bounded (pos d) least = power_is_bounded (most_fraction_digits - d) (omega arith)
 half_width_is_bounded (negsuc d) least = power_is_bounded (most_fraction_digits + suc d) (omega (arith, ints))
 
-pub interval_is : (n : ℤ) (decimals : Option ℤ) (low high : ℤ) → low ≡ pos 2 *ℤ n -ℤ pos (half_width_of decimals) → high ≡ pos 2 *ℤ n +ℤ pos (half_width_of decimals) → record { low = low; high = high } ≡ interval_of n decimals
+pub interval_is : (n : ℤ) (decimals : Option ℤ) (low high : ℤ) → low ≡ pos 2 *ℤ n -ℤ pos (half_width_of decimals)
+    → high ≡ pos 2 *ℤ n +ℤ pos (half_width_of decimals) → record { low = low; high = high } ≡ interval_of n decimals
 interval_is n None low high l h = λ i. record { low = l i; high = h i }
 interval_is n (Some d) low high l h = λ i. record { low = l i; high = h i }
 
 -- it holds what is no further from its middle than its half width
-pub interval_holds : (n : ℤ) (decimals : Option ℤ) (i : Interval) → i ≡ interval_of n decimals → (x : ℤ) → IsWithin i x ↔ (nat_abs (x -ℤ pos 2 *ℤ n) ≤ half_width_of decimals)
-interval_holds n None i e x = subst (λ j. IsWithin j x ↔ (nat_abs (x -ℤ pos 2 *ℤ n) ≤ half_width_of None)) (sym e) (holds_what_is_near (pos 2 *ℤ n) 0 x)
-interval_holds n (Some d) i e x = subst (λ j. IsWithin j x ↔ (nat_abs (x -ℤ pos 2 *ℤ n) ≤ half_width d)) (sym e) (holds_what_is_near (pos 2 *ℤ n) (half_width d) x)
+pub interval_holds : (n : ℤ) (decimals : Option ℤ) (i : Interval) → i ≡ interval_of n decimals → (x : ℤ)
+    → IsWithin i x ↔ (nat_abs (x -ℤ pos 2 *ℤ n) ≤ half_width_of decimals)
+interval_holds n None i e x =
+    subst (λ j. IsWithin j x ↔ (nat_abs (x -ℤ pos 2 *ℤ n) ≤ half_width_of None)) (sym e)
+    (holds_what_is_near (pos 2 *ℤ n) 0 x)
+interval_holds n (Some d) i e x =
+    subst (λ j. IsWithin j x ↔ (nat_abs (x -ℤ pos 2 *ℤ n) ≤ half_width d)) (sym e)
+    (holds_what_is_near (pos 2 *ℤ n) (half_width d) x)
 
 -- the interval round twice a number that is small
-pub ends_around : (n : ℤ) (half : ℕ) (low high : ℤ) → HasFewDigits n → half ≤ number_limit → low ≡ pos 2 *ℤ n -ℤ pos half → high ≡ pos 2 *ℤ n +ℤ pos half → HasBoundedEnds (record { low = low; high = high })
+pub ends_around : (n : ℤ) (half : ℕ) (low high : ℤ) → HasFewDigits n → half ≤ number_limit
+    → low ≡ pos 2 *ℤ n -ℤ pos half → high ≡ pos 2 *ℤ n +ℤ pos half → HasBoundedEnds (record { low = low; high = high })
 ends_around n half low high small bound l h = record {
   in_order = omega (arith, ints);
   low_size = grind (arith, ints);

@@ -15,7 +15,7 @@ abbrev pub accuracy_view : Result Accuracy NumberFault → Result (Option ℤ) N
 accuracy_view (Ok accuracy) = Ok (decimals_of accuracy)
 accuracy_view (Err fault) = Err fault
 
--- how far an interval reaches to either side of its middle, in half units of 10^-12
+-- how far an interval reaches to either side of its middle, in half units
 abbrev pub half_width_of : Option ℤ → ℕ
 half_width_of None = 0
 half_width_of (Some d) = half_width d

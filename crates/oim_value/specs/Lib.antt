@@ -1,4 +1,7 @@
-pub mod Numbers
-pub mod Accuracies
-pub mod Padding
+-- ---- cited by the contracts of public calls
 pub mod Reading
+pub mod Accuracies
+-- also the limits by which no sum leaves 128 bits
+pub mod Numbers
+-- ---- cited within the crate alone
+pub mod Padding

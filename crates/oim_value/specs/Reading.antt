@@ -5,8 +5,11 @@ use Rattle.filing_model.specs.Numerals.{Spelling, IsSpelling, IsShort, IsNumberO
 use Rattle.filing_model.specs.declared.faults.NumberFault.{NumberFault}
 use Rattle.filing_model.specs.declared.faults.NumberFault.TheVariants.{NotANumber, TooLarge}
 
--- a spelling with few enough digits has its number, one with more is too large, and what is not refused as no numeral is spelled as one
+-- a spelling with few enough digits has its number, one with more is too large, and what is not refused as no numeral
+-- is
+-- spelled as one
 pub record IsReadAsSpelled (text : Text) (result : Result ℤ NumberFault) : Type 0 where
-  pub short : (s : Spelling) → IsSpelling s → IsShort s → spelled s ≡ text → (n : ℤ) × (result ≡ Ok n) × IsNumberOf s n
+  pub short : (s : Spelling) → IsSpelling s → IsShort s → spelled s ≡ text
+      → (n : ℤ) × (result ≡ Ok n) × IsNumberOf s n
   pub long : (s : Spelling) → IsSpelling s → ¬ IsShort s → spelled s ≡ text → result ≡ Err TooLarge
   pub only : result ≢ Err NotANumber → (s : Spelling) × IsSpelling s × (spelled s ≡ text)

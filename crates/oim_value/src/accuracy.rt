@@ -9,7 +9,7 @@ use crate::decimal::{MOST_FRACTION_DIGITS, MOST_WHOLE_DIGITS};
 use filing_model::NumberFault;
 use std::marker::Model;
 
-/// The place of the last digit that counts: 2 for hundredths, 0 for ones, -3 for thousands. It is from -20 to 12.
+/// The place of the last digit that counts: 2 for hundredths, 0 for ones, -3 for thousands. It is a place that a numeral may have: from -20 (`MOST_WHOLE_DIGITS`) to 12 (`MOST_FRACTION_DIGITS`).
 #[derive(Clone, Copy, Debug, PartialEq, Eq)]
 pub struct Decimals {
     place: i8,
@@ -29,7 +29,7 @@ impl Model for Decimals {
 }
 
 impl Decimals {
-    /// The place, from -20 to 12.
+    /// The place of the last digit that counts.
     pub fn place(self) -> i8
         ensures value { result ≡ self }
         ensures least { neg_ℤ (pos most_whole_digits) ≤ℤ self }
@@ -39,7 +39,7 @@ impl Decimals {
     }
 }
 
-/// How far a number may be off: not at all, or half a unit of the last place that counts.
+/// How far a number may be off: not at all, or half of one at the last place that counts.
 #[derive(Clone, Copy, Debug, PartialEq, Eq)]
 pub enum Accuracy {
     Exact,
@@ -47,7 +47,7 @@ pub enum Accuracy {
 }
 
 impl Accuracy {
-    /// The accuracy of a number with these decimals, or with none. `DecimalsOutOfRange` where they are not from -20 to 12.
+    /// The accuracy of a number with these decimals, or with none. `DecimalsOutOfRange` where they are no place that a numeral may have.
     pub fn of(decimals: Option<i64>) -> Result<Accuracy, NumberFault>
         ensures { accuracy_view result ≡ accuracy_of decimals }
     {

@@ -11,13 +11,13 @@ ghost use Rattle.oim_value.specs.Padding.{is_padding};
 use filing_model::NumberFault;
 use std::marker::Model;
 
-/// The most digits behind the point of a numeral, trailing zeros dropped.
+/// The most digits behind the point of a numeral, trailing zeros dropped. The last of these places is a unit.
 pub(crate) const MOST_FRACTION_DIGITS: usize = 12;
 
 /// The most digits before the point of a numeral, leading zeros dropped.
 pub(crate) const MOST_WHOLE_DIGITS: usize = 20;
 
-/// An exact decimal number, of at most 20 digits before the point and 12 behind it. Contracts see it as a whole number of units of 10^-12, so numbers that are spelled in other ways are equal: `-0.0` is `0`, and `1.50` is `1.5`.
+/// An exact decimal number, of at most `MOST_WHOLE_DIGITS` (20) digits before the point and `MOST_FRACTION_DIGITS` (12) behind it. Contracts see it as a whole number of units, so numbers that are spelled in other ways are equal: `-0.0` is `0`, and `1.50` is `1.5`.
 #[derive(Clone, Copy, Debug, PartialEq, Eq)]
 pub struct Decimal {
     units: i128,
@@ -37,7 +37,7 @@ impl Model for Decimal {
 }
 
 impl Decimal {
-    /// The number that a text spells: white space, a sign or none, digits with at most one point among, before or behind them, white space. `NotANumber` where the text is no numeral; else `TooLarge` where, leading zeros and trailing zeros of the fraction left out, it has more than 20 digits before the point or 12 behind it.
+    /// The number that a text spells: white space, a sign or none, digits with at most one point among, before or behind them, white space. `NotANumber` where the text is no numeral; else `TooLarge` where, leading zeros and trailing zeros of the fraction left out, it has more digits before the point or behind it than a numeral may have.
     pub fn read(text: &str) -> Result<Decimal, NumberFault>
         ensures number { result ≡ number_of text.now }
         ensures spelled { IsReadAsSpelled text.now result }
@@ -47,7 +47,7 @@ impl Decimal {
         Ok(Decimal { units })
     }
 
-    /// The number of units of 10^-12.
+    /// How many units it is.
     pub(crate) fn units(self) -> i128
         ensures value { result ≡ self }
         ensures small { HasFewDigits self }
@@ -56,7 +56,7 @@ impl Decimal {
     }
 }
 
-/// The number of units of 10^-12 that a text spells.
+/// How many units a text spells.
 fn units_of(text: &[u8]) -> Result<i128, NumberFault>
     ensures value { result ≡ number_of text.now }
     ensures small { IfOk result HasFewDigits }

@@ -1,4 +1,4 @@
-//! The intervals that rounded numbers stand for, in half units of 10^-12, so that their ends are whole.
+//! The intervals that rounded numbers stand for, in half units, so that their ends are whole.
 
 ghost use Rattle.std.specs.Prelude.{◌≡◌, ◌≤◌, ℤ, pos, ◌-ℤ◌, ◌*ℤ◌, nat_abs, ◌↔◌, IsTrue, IsSome, IfSome};
 ghost use Rattle.std.specs.Bool.{OnTrue, OnFalse};
@@ -10,7 +10,7 @@ use crate::accuracy::Accuracy;
 use crate::decimal::{Decimal, MOST_FRACTION_DIGITS};
 use std::marker::Model;
 
-/// All numbers from one to another, both included. Contracts see the two ends, in half units of 10^-12; neither is past 3·10^32 in size.
+/// All numbers from one to another, both included. Contracts see the two ends, in half units; neither is past three times `number_limit` in size.
 #[derive(Clone, Copy, Debug, PartialEq, Eq)]
 pub struct Interval {
     low: i128,
@@ -31,10 +31,11 @@ impl Model for Interval {
 }
 
 impl Decimal {
-    /// All numbers that this one may stand for: the number itself where it is exact, else all within half a unit of the last place that counts.
+    /// All numbers that this one may stand for: the number itself where it is exact, else all within half of one at the last place that counts.
     pub fn interval(self, accuracy: Accuracy) -> Interval
         ensures value { result ≡ interval_of self (decimals_of accuracy) }
-        ensures near { (x : ℤ) → IsWithin result x ↔ (nat_abs (x -ℤ pos 2 *ℤ self) ≤ half_width_of (decimals_of accuracy)) }
+        ensures near { (x : ℤ) → IsWithin result x
+            ↔ (nat_abs (x -ℤ pos 2 *ℤ self) ≤ half_width_of (decimals_of accuracy)) }
         ensures ends { HasBoundedEnds result }
     {
         let middle = 2 * self.units();
@@ -46,7 +47,7 @@ impl Decimal {
     }
 }
 
-/// Half a unit of the last place that counts, in half units of 10^-12; nothing where the number is exact.
+/// Half of one at the last place that counts, in half units; nothing where the number is exact.
 fn half_width(accuracy: Accuracy) -> i128
     ensures value { result ≡ pos (half_width_of (decimals_of accuracy)) }
     ensures bound { half_width_of (decimals_of accuracy) ≤ number_limit }
@@ -73,7 +74,8 @@ impl Interval {
     /// Leaves what is in both, and answers true; where nothing is, it answers false and changes nothing.
     pub fn narrow(&mut self, other: &Interval) -> bool
         ensures shared { IsTrue result ↔ ShareANumber self.old other.now }
-        ensures common { OnTrue result ((x : ℤ) → IsWithin self.new x ↔ (IsWithin self.old x × IsWithin other.now x)) }
+        ensures common { OnTrue result ((x : ℤ) → IsWithin self.new x
+            ↔ (IsWithin self.old x × IsWithin other.now x)) }
         ensures unchanged { OnFalse result (self.new ≡ self.old) }
         ensures ends { HasBoundedEnds self.new }
     {
@@ -87,7 +89,8 @@ impl Interval {
     /// What is in both, where anything is.
     fn common_part(&self, other: &Interval) -> Option<Interval>
         ensures shared { IsSome result ↔ ShareANumber self.now other.now }
-        ensures common { IfSome result (λ i. (x : ℤ) → IsWithin i x ↔ (IsWithin self.now x × IsWithin other.now x)) }
+        ensures common { IfSome result (λ i. (x : ℤ) → IsWithin i x
+            ↔ (IsWithin self.now x × IsWithin other.now x)) }
         ensures ends { IfSome result HasBoundedEnds }
         ensures own_ends { HasBoundedEnds self.now }
     {

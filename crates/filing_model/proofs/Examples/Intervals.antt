@@ -1,4 +1,4 @@
--- Worked examples of intervals, in half units of 10^-12.
+-- Worked examples of intervals, in half units. A unit is 10^-12 (`most_fraction_digits`).
 use Rattle.std.specs.Prelude.{◌≡◌, ◌-◌, ◌*◌, ◌^◌, true, false, pos, neg_ℤ, Some, None, Ok, Err, codes, refl}
 use Rattle.filing_model.specs.Numerals.{number_of}
 use Rattle.filing_model.specs.Intervals.{interval_of, meets, accuracy_of}

@@ -5,4 +5,5 @@ use Rattle.oim_report.proofs.facts.entry.Goals as goal
 
 pub returns-in-Err-fitted-clause-entry : goal.returns-in-Err-fitted-clause-entry
 returns-in-Err-fitted-clause-entry c =
-    entry_refused c.args.names.now (string_bytes c.args.id) (view c.args.value) _ _ _ c.in-Ok.ensures.fact c.in-Err-fitted.ensures.fact c.bad_fact-in-Err-fitted.ensures
+    entry_refused c.args.names.now (string_bytes c.args.id) (view c.args.value) _ _ _ c.in-Ok.ensures.fact
+    c.in-Err-fitted.ensures.fact c.bad_fact-in-Err-fitted.ensures

@@ -17,11 +17,13 @@ loop-left-preserved c =
       read = elim c.if-not-is_empty.branch [
         | then-not-is_empty+in_ok-row+in-Ok w ↦
             let some : nat_lt 0 (length line) ≡ true = search rules in
-            row_turn c.loop-left.number line _ lines c.loop-left.rows.items c.if-not-is_empty.rows.items w.in_ok-row.field-0 _ turn some w.in_ok-row.ensures
+            row_turn c.loop-left.number line _ lines c.loop-left.rows.items c.if-not-is_empty.rows.items
+            w.in_ok-row.field-0 _ turn some w.in_ok-row.ensures
             (ap (λ v. v.items) w.rows-is ∙ w.in-Ok.ensures.items) c.loop-left.invariant.read
         | else-not-is_empty w ↦
             let none : nat_lt 0 (length line) ≡ false = search rules in
-            empty_turn c.loop-left.number line _ lines c.loop-left.rows.items c.if-not-is_empty.rows.items _ turn none (ap (λ v. v.items) w.rows-is) c.loop-left.invariant.read
+            empty_turn c.loop-left.number line _ lines c.loop-left.rows.items c.if-not-is_empty.rows.items _ turn none
+            (ap (λ v. v.items) w.rows-is) c.loop-left.invariant.read
       ];
       counted = counted_turn c.loop-left.number _ left _ c.first_line.result.1 left_is c.first_line.ensures.shorter c.loop-left.invariant.counted;
     }

@@ -9,7 +9,8 @@ use Rattle.oim_report.proofs.table.rows.Given as goal
 -- what was read, with what is left, whose lines are counted on
 abbrev pub invariant-loop-left : goal.invariant-loop-left
 invariant-loop-left l = record {
-  read : with_front (rows_view l.rows.items) (each row_at (numbered_from l.number (option_map (λ t. t.now) l.left))) ≡ each row_at (numbered_lines l.fn.text);
+  read : with_front (rows_view l.rows.items) (each row_at (numbered_from l.number (option_map (λ t. t.now) l.left)))
+      ≡ each row_at (numbered_lines l.fn.text);
   counted : l.number + size_left (option_map (λ t. t.now) l.left) ≤ length l.fn.text + 2;
 }
 

@@ -6,4 +6,6 @@ pub returns-in-Ok : goal.returns-in-Ok
 returns-in-Ok c = sym (json_of-Some c.args.bytes.now _ c.in-Ok.ensures.ok)
 
 pub returns-else-is_memory : goal.returns-else-is_memory
-returns-else-is_memory c = sym (json_of-None c.args.bytes.now (c.in-Err.ensures.err (λ memory. true≢false (sym (c.is_memory.ensures.1 memory) ∙ c.if-is_memory.false))))
+returns-else-is_memory c =
+    sym (json_of-None c.args.bytes.now
+    (c.in-Err.ensures.err (λ memory. true≢false (sym (c.is_memory.ensures.1 memory) ∙ c.if-is_memory.false))))

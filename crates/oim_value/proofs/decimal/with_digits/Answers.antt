@@ -9,4 +9,6 @@ pub overflow_add-number : goal.overflow_add-number
 overflow_add-number c = let below = (digit_more _ _ _ _ c.loop-digit-test.true c.loop-digit.invariant).1 in omega (arith, c.from.ensures)
 
 pub loop-digit-preserved : goal.loop-digit-preserved
-loop-digit-preserved c = rw c.from.ensures (let next : c.loop-digit.digit-index + 1 ≡ suc c.loop-digit.digit-index = omega arith in rw next (digit_more _ _ _ _ c.loop-digit-test.true c.loop-digit.invariant).0)
+loop-digit-preserved c =
+    rw c.from.ensures (let next : c.loop-digit.digit-index + 1 ≡ suc c.loop-digit.digit-index = omega arith in
+    rw next (digit_more _ _ _ _ c.loop-digit-test.true c.loop-digit.invariant).0)

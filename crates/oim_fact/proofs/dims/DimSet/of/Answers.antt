@@ -7,7 +7,9 @@ use Rattle.oim_fact.proofs.SortedDims.{NoneFalls-dims, dims_of-moved, given, ref
 use Rattle.oim_fact.proofs.dims.DimSet.of.Goals as goal
 
 pub first_fault-requires : goal.first_fault-requires
-first_fault-requires c = subst (λ ps. NoneFalls (names_in (dims_view ps))) (sym c.deref.ensures.value) (NoneFalls-dims c.sort_unstable.new.self.items c.sort_unstable.ensures.sorted)
+first_fault-requires c =
+    subst (λ ps. NoneFalls (names_in (dims_view ps))) (sym c.deref.ensures.value)
+    (NoneFalls-dims c.sort_unstable.new.self.items c.sort_unstable.ensures.sorted)
 
 pub returns-in-Some : goal.returns-in-Some
 returns-in-Some c =

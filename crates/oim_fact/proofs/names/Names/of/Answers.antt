@@ -9,20 +9,25 @@ use Rattle.oim_fact.proofs.names.Names.of.Goals as goal
 pub returns-then-sort : goal.returns-then-sort
 returns-then-sort c =
     name_twice (rows_view c.args.prefixes.items) (arc_value c.args.table)
-    (same_repeats Prefix c.args.prefixes.items c.sort-has_alias.new.rows.items c.sort-has_alias.ensures.moved ∙ sym c.sort.ensures.repeats ∙ c.if-sort.true)
+    (same_repeats Prefix c.args.prefixes.items c.sort-has_alias.new.rows.items c.sort-has_alias.ensures.moved
+    ∙ sym c.sort.ensures.repeats ∙ c.if-sort.true)
 
 pub returns-then-has_alias : goal.returns-then-has_alias
 returns-then-has_alias c =
     alias_twice (rows_view c.args.prefixes.items) (arc_value c.args.table)
-    (same_repeats Prefix c.args.prefixes.items c.sort-has_alias.new.rows.items c.sort-has_alias.ensures.moved ∙ sym c.sort.ensures.repeats ∙ c.if-sort.false)
+    (same_repeats Prefix c.args.prefixes.items c.sort-has_alias.new.rows.items c.sort-has_alias.ensures.moved
+    ∙ sym c.sort.ensures.repeats ∙ c.if-sort.false)
     (sym c.sort-has_alias.ensures.repeats ∙ c.if-has_alias.true)
 
 pub invariant_of-result : goal.invariant_of-result
 invariant_of-result c =
-    is_sorted-rows c.sort-has_alias.new.rows.items c.sort.new.rows.items c.sort.ensures.moved c.sort.ensures.rises (sym c.sort.ensures.repeats ∙ c.if-sort.false)
+    is_sorted-rows c.sort-has_alias.new.rows.items c.sort.new.rows.items c.sort.ensures.moved c.sort.ensures.rises
+    (sym c.sort.ensures.repeats ∙ c.if-sort.false)
 
 pub returns : goal.returns
 returns c =
-    names_of-sorted c.args.prefixes.items c.sort.new.rows.items (arc_value c.args.table) (IsPermutation-trans _ _ _ c.sort-has_alias.ensures.moved c.sort.ensures.moved)
-    (same_repeats Prefix c.args.prefixes.items c.sort-has_alias.new.rows.items c.sort-has_alias.ensures.moved ∙ sym c.sort.ensures.repeats ∙ c.if-sort.false)
+    names_of-sorted c.args.prefixes.items c.sort.new.rows.items (arc_value c.args.table)
+    (IsPermutation-trans _ _ _ c.sort-has_alias.ensures.moved c.sort.ensures.moved)
+    (same_repeats Prefix c.args.prefixes.items c.sort-has_alias.new.rows.items c.sort-has_alias.ensures.moved
+    ∙ sym c.sort.ensures.repeats ∙ c.if-sort.false)
     (sym c.sort-has_alias.ensures.repeats ∙ c.if-has_alias.false)

@@ -12,11 +12,13 @@ use Rattle.oim_fact.proofs.table.NumericTable.of.Goals as goal
 pub invariant_of-result : goal.invariant_of-result
 invariant_of-result c =
     subst (λ rs. T (is_table (rows_view rs))) (sym (dedup_is held_eq c.sort_unstable.new.self.items c.dedup.new.self.items c.dedup.ensures.filtered))
-    (is_table-held _ (IsStrictlySortedBy-dedup (on_total row_of row_cmp-total) held_ties c.sort_unstable.new.self.items c.sort_unstable.ensures.sorted))
+    (is_table-held _ (IsStrictlySortedBy-dedup (on_total row_of row_cmp-total) held_ties c.sort_unstable.new.self.items
+    c.sort_unstable.ensures.sorted))
 
 pub returns : goal.returns
 returns c =
     ap (λ rs. Ok rs)
     (ap rows_view (dedup_is held_eq c.sort_unstable.new.self.items c.dedup.new.self.items c.dedup.ensures.filtered)
     ∙ table_of-kept c.args.rows.items c.sort_unstable.new.self.items c.sort_unstable.ensures.permutation
-    (is_table-held _ (IsStrictlySortedBy-dedup (on_total row_of row_cmp-total) held_ties c.sort_unstable.new.self.items c.sort_unstable.ensures.sorted)))
+    (is_table-held _ (IsStrictlySortedBy-dedup (on_total row_of row_cmp-total) held_ties c.sort_unstable.new.self.items
+    c.sort_unstable.ensures.sorted)))

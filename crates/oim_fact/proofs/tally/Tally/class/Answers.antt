@@ -10,7 +10,11 @@ pub returns-then-self-2 : goal.returns-then-self-2
 returns-then-self-2 c first others told = sym (complete c.args.self first others told c.if-self.false c.if-not-self.false c.if-self-2.true)
 
 pub returns-then-is_some : goal.returns-then-is_some
-returns-then-is_some c first others told = sym (shared_or_not c.args.self first others _ told c.if-self.false c.if-not-self.false c.if-self-2.false (sym c.if-is_some.ensures))
+returns-then-is_some c first others told =
+    sym (shared_or_not c.args.self first others _ told c.if-self.false c.if-not-self.false c.if-self-2.false
+    (sym c.if-is_some.ensures))
 
 pub returns-else-is_some : goal.returns-else-is_some
-returns-else-is_some c first others told = sym (shared_or_not c.args.self first others _ told c.if-self.false c.if-not-self.false c.if-self-2.false (sym c.if-is_some.ensures))
+returns-else-is_some c first others told =
+    sym (shared_or_not c.args.self first others _ told c.if-self.false c.if-not-self.false c.if-self-2.false
+    (sym c.if-is_some.ensures))

@@ -13,7 +13,10 @@ high : (c : goal.After-min) → to_z w128 (of_z w128 c.min.result) ≡ int_min c
 high c = rw (← c.self.view_is, ← c.other.view_is) (omega (arith, ints, clamps))
 
 ends : (c : goal.After-min) → HasBoundedEnds (record { low = to_z w128 (of_z w128 c.max.result); high = to_z w128 (of_z w128 c.min.result) })
-ends c = common_ends c.args.self.now c.args.other.now _ _ (subst HasBoundedEnds c.self.view_is c.self.invariant) (subst HasBoundedEnds c.other.view_is c.other.invariant) (sym c.meets.ensures.test ∙ c.if-not-meets.false) (low c) (high c)
+ends c =
+    common_ends c.args.self.now c.args.other.now _ _ (subst HasBoundedEnds c.self.view_is c.self.invariant)
+    (subst HasBoundedEnds c.other.view_is c.other.invariant) (sym c.meets.ensures.test ∙ c.if-not-meets.false) (low c)
+    (high c)
 
 pub invariant_of-result : goal.invariant_of-result
 invariant_of-result c = ends c
