@@ -1,1 +1,4 @@
+mod Entered
+mod Examples
+mod Program
 mod ScriptRuns

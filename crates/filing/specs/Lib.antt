@@ -1,2 +1,3 @@
 pub mod Faults
 pub mod Runs
+pub mod Words

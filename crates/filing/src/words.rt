@@ -1,4 +1,6 @@
-ghost use Rattle.std.specs.Prelude.{◌≡◌, IfOk};
+ghost use Rattle.std.specs.Prelude.{◌≡◌, ◌⊎◌, IfOk, map, string_bytes};
+ghost use Rattle.clap.specs.Words.{app_of, kind_of, subcommand_rows_of};
+ghost use Rattle.filing.specs.Words.{Asks, IsRun, program};
 ghost use Rattle.filing.specs.declared.words.Order.TheVariants.{Shown};
 
 use crate::fault::Fault;
@@ -17,7 +19,9 @@ pub(crate) enum Order<'a> {
 }
 
 /// The commands that are there.
-fn command<'a>(alloc: Global) -> Result<Command<'a>, AllocError> {
+fn command<'a>(alloc: Global) -> Result<Command<'a>, AllocError>
+    ensures { IfOk result (λ c. app_of c ≡ program) }
+{
     let numeric = Arg::new(alloc, "numeric")
         .long("numeric")
         .value_name("FILE")
@@ -34,12 +38,14 @@ fn command<'a>(alloc: Global) -> Result<Command<'a>, AllocError> {
 }
 
 /// What the words that `clap` has taken ask for. It takes none without a command.
-fn ordered<'a>(matches: &ArgMatches<'a>) -> Result<Order<'a>, Fault> {
+fn ordered<'a>(matches: &ArgMatches<'a>) -> Result<Order<'a>, Fault>
+    ensures { IfOk result (IsRun (subcommand_rows_of matches.now)) }
+{
     match matches.subcommand() {
-        Some((_, run)) => Ok(Order::Run {
+        Some(("run", run)) => Ok(Order::Run {
             numeric: run.get_str("numeric"),
         }),
-        None => Err(Fault::Words),
+        _ => Err(Fault::Words),
     }
 }
 
@@ -66,7 +72,9 @@ pub(crate) fn given_words(rt: &HostRuntime) -> Result<Vec<String>, Fault> {
 pub(crate) fn read_words<'a, R: Print + Eprint + AllocGlobal>(
     rt: &R,
     words: &'a [String],
-) -> Result<Order<'a>, Fault> {
+) -> Result<Order<'a>, Fault>
+    ensures { IfOk result (Asks (map string_bytes words.now)) }
+{
     let mut command: Command<'a> = command(rt.alloc())?;
     match command.try_get_matches_from_mut(words) {
         Ok(matches) => ordered(&matches),
@@ -76,7 +84,8 @@ pub(crate) fn read_words<'a, R: Print + Eprint + AllocGlobal>(
 
 /// Tells an error of the words, or shows help, and answers what is left to do.
 fn shown<'a, R: Print + Eprint>(rt: &R, error: &Error) -> Result<Order<'a>, Fault>
-    ensures { IfOk result (λ o. o ≡ Shown) }
+    ensures shown { IfOk result (λ o. o ≡ Shown) }
+    ensures asked { IfOk result (λ _. (kind_of error.now ≡ ErrorKind.DisplayHelp) ⊎ (kind_of error.now ≡ ErrorKind.DisplayVersion)) }
 {
     if error.kind() == ErrorKind::OutOfMemory {
         return Err(Fault::NoMemory);
