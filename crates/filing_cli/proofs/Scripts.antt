@@ -4,8 +4,8 @@ use Rattle.std.specs.declared.result.Result.TheVariants.{Err}
 use Rattle.filing_model.specs.Facts.{Table}
 use Rattle.filing_model.specs.History.{History}
 use Rattle.line_run.specs.Devices.{SourceState, SinkState, Took}
-use Rattle.line_run.specs.Lines.{lines_of, spoken, text_of}
-use Rattle.line_run.specs.Run.{IsAnswered, Runs, replies_of, state_after}
+use Rattle.line_run.specs.Lines.{lines_of, spoken, lines_text}
+use Rattle.line_run.specs.Run.{IsAnswered, Runs, replies_by, state_after}
 use Rattle.filing_text.specs.Script.{State, start, line_answer, script_output, script_history}
 use Rattle.filing_cli.specs.ScriptRun.{IsReply, most_reads, IsScriptEnded, IsScriptStopped}
 use Rattle.line_run.specs.declared.fault.ScriptFault.{ScriptFault}
@@ -23,7 +23,7 @@ script_ended table before after source source' sink sink' history p begun is =
       given = p.given;
       gave = p.gave;
       at_end = p.at_end;
-      took = subst (λ text. Took sink sink' text 0) (ap text_of (told.0 ∙ ap (λ s. replies_of line_answer s (spoken (lines_of p.given))) begun)) p.took;
+      took = subst (λ text. Took sink sink' text 0) (ap lines_text (told.0 ∙ ap (λ s. replies_by line_answer s (spoken (lines_of p.given))) begun)) p.took;
       history_is = is ∙ ap (λ s. s.history) (told.1 ∙ ap (λ s. state_after line_answer s (spoken (lines_of p.given))) begun);
     }
 

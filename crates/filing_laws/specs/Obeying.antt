@@ -17,10 +17,6 @@ is_allowed a entries dims = allows a (class_of (facts_of (cell_of dims entries))
 abbrev pub ObeysWhereEachCellIsAllowed : Type 0
 ObeysWhereEachCellIsAllowed = (a : Allowed) (entries : List (Text × Fact)) → (obeys a entries ≡ true) ↔ ((dims : Dims) → is_allowed a entries dims ≡ true)
 
--- and exactly where no least disallowed cell is found
-abbrev pub ObeysWhereNoCellIsDisallowed : Type 0
-ObeysWhereNoCellIsDisallowed = (a : Allowed) (entries : List (Text × Fact)) → (obeys a entries ≡ true) ↔ (least_disallowed a entries ≡ None)
-
 pub record IsLeastDisallowed (a : Allowed) (entries : List (Text × Fact)) (dims : Dims) : Type 0 where
   pub disallowed : is_allowed a entries dims ≡ false
   pub least : (lesser : Dims) → dims_cmp lesser dims ≡ Less → is_allowed a entries lesser ≡ true

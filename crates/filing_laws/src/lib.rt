@@ -34,7 +34,7 @@ pub use numbers::{
 };
 pub use obeying::{
     least_disallowed_is_the_least, obeys_where_each_cell_is_allowed,
-    obeys_where_no_cell_is_disallowed, repository_obeys_where_not_refused,
+    repository_obeys_where_not_refused,
 };
 pub use played::played_histories_are_the_lawful_ones;
 pub use reading_order::{

@@ -1,15 +1,10 @@
 //! Of allowed duplicates: by pairs of facts, and by cells.
 
-ghost use Rattle.filing_laws.specs.Obeying.{ObeysWhereEachCellIsAllowed, ObeysWhereNoCellIsDisallowed, LeastDisallowedIsTheLeast, RepositoryObeysWhereNotRefused};
+ghost use Rattle.filing_laws.specs.Obeying.{ObeysWhereEachCellIsAllowed, LeastDisallowedIsTheLeast, RepositoryObeysWhereNotRefused};
 
 /// A report obeys its declared value, which is said of pairs of facts, exactly where each of its cells is of a class that it allows.
 pub fn obeys_where_each_cell_is_allowed()
     ensures { ObeysWhereEachCellIsAllowed }
-{}
-
-/// It obeys exactly where it has no least disallowed cell.
-pub fn obeys_where_no_cell_is_disallowed()
-    ensures { ObeysWhereNoCellIsDisallowed }
 {}
 
 /// The least disallowed cell is disallowed, and each cell of lesser dimensions is allowed.

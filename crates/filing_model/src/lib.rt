@@ -4,6 +4,7 @@
 #![tactic(auto)]
 
 mod by_pairs;
+mod duplicate_laws;
 mod duplicates;
 mod fact_laws;
 mod faults;
@@ -12,6 +13,9 @@ mod number_laws;
 mod text;
 
 pub use by_pairs::{PairedFact, allows, class_by_pairs, least_disallowed_by_pairs};
+pub use duplicate_laws::{
+    facts_are_mixed_where_dimensions_differ, reports_obey_where_no_cell_is_disallowed,
+};
 pub use duplicates::{Allowed, Class, Pair};
 pub use fact_laws::{
     dims_again, dims_in_any_order, facts_fit_again, prefixes_in_any_order, rows_are_kept,
@@ -19,9 +23,8 @@ pub use fact_laws::{
 pub use faults::{DimFault, FactFault, NamesFault, NumberFault, TableFault, Trouble};
 pub use kind::Kind;
 pub use number_laws::{
-    facts_are_mixed_where_dimensions_differ, intervals_hold_what_is_near,
-    intervals_meet_where_a_number_is_shared, long_spellings_are_too_large, numbers_are_bounded,
-    numbers_have_their_interval, only_spellings_are_numbers,
-    reports_obey_where_no_cell_is_disallowed, short_spellings_have_their_number,
+    intervals_hold_what_is_near, intervals_meet_where_a_number_is_shared,
+    long_spellings_are_too_large, numbers_are_bounded, numbers_have_their_interval,
+    only_spellings_are_numbers, short_spellings_have_their_number,
 };
 pub use text::is_same_text;

@@ -1,6 +1,5 @@
-//! Laws over the definitions alone: each is the contract of a function that does nothing.
+//! Laws of numbers and intervals. Each function carries one, has an empty body and is never called.
 
-ghost use Rattle.filing_model.specs.Duplicates.{ObeysWhereNoCellIsDisallowed, MixedWhereDimensionsDiffer};
 ghost use Rattle.filing_model.specs.Intervals.{HoldsWhatIsNear, MeetsWhereANumberIsShared, NumbersHaveTheirInterval};
 ghost use Rattle.filing_model.specs.Numerals.{ShortSpellingsHaveTheirNumber, LongSpellingsAreTooLarge, OnlySpellingsAreNumbers, NumbersAreBounded};
 
@@ -37,14 +36,4 @@ pub fn numbers_have_their_interval()
 /// Two intervals that are not empty meet exactly where some number is in both.
 pub fn intervals_meet_where_a_number_is_shared()
     ensures { MeetsWhereANumberIsShared }
-{}
-
-/// A report obeys its allowed duplicates, pair by pair, exactly where it has no cell that is not allowed.
-pub fn reports_obey_where_no_cell_is_disallowed()
-    ensures { ObeysWhereNoCellIsDisallowed }
-{}
-
-/// Facts are mixed exactly where not every two of them have the same dimensions.
-pub fn facts_are_mixed_where_dimensions_differ()
-    ensures { MixedWhereDimensionsDiffer }
 {}

@@ -19,8 +19,8 @@ use Rattle.filing_model.specs.Lawful.{openings, next_reply, after_step}
 use Rattle.filing_model.specs.declared.kind.Kind.TheVariants.{Amend}
 use Rattle.filing_model.specs.declared.faults.Trouble.{Trouble}
 use Rattle.filing_model.specs.Text.{Text}
-use Rattle.line_run.specs.Lines.{lines_of, spoken, text_of}
-use Rattle.line_run.specs.Run.{replies_of, state_after}
+use Rattle.line_run.specs.Lines.{lines_of, spoken, lines_text}
+use Rattle.line_run.specs.Run.{replies_by, state_after}
 use Rattle.filing_text.specs.ReplyText.{reply_text, bad_line_text, name_in_use_text, no_session_text, bad_report_text, bad_fact_text, exported_text}
 use Rattle.filing_text.specs.ScriptLines.{Line, Load, Open, Get, Add, Commit, Close, Export, line_of}
 
@@ -37,9 +37,9 @@ start table = record { table = table; history = []; names = empty }
 -- ---- how a line is judged
 
 -- a reply at once, or a step under a session's number, with the names that are in use once it is taken
-pub data Judgement : Type 0 where
-  Told : Text → Judgement
-  Due : Option ℕ → Step → TextMap ℕ → Judgement
+pub data Ruling : Type 0 where
+  Told : Text → Ruling
+  Due : Option ℕ → Step → TextMap ℕ → Ruling
 
 abbrev pub is_live : Status → Bool
 is_live Unknown = false
@@ -54,30 +54,30 @@ abbrev pub is_busy : History → Bool
 is_busy h = some_open h h
 
 -- while sessions may not overlap, a load or an opening has no place where a session is open
-abbrev pub judged_alone : State → Judgement → Judgement
-judged_alone state judgement = if is_busy state.history then Told bad_line_text else judgement
+abbrev pub judged_alone : State → Ruling → Ruling
+judged_alone state ruling = if is_busy state.history then Told bad_line_text else ruling
 
-abbrev pub judged_load : State → Text → Result Report ReportFault → Judgement
+abbrev pub judged_load : State → Text → Result Report ReportFault → Ruling
 judged_load state name (Err fault) = Told (bad_report_text fault)
 judged_load state name (Ok r) = judged_alone state (Due None (step.Load name r) state.names)
 
 -- the name will be that of the next session
-abbrev pub judged_open : State → Text → Judgement
+abbrev pub judged_open : State → Text → Ruling
 judged_open state session =
     if is_some (get state.names session) then Told name_in_use_text
     else judged_alone state (Due None (step.Open Amend) (insert state.names session (openings state.history + 1)))
 
 -- a call of the session that has the name
-abbrev pub judged_call : State → Text → Call → Judgement
+abbrev pub judged_call : State → Text → Call → Ruling
 judged_call state session c = option_map_or (λ number. Due (Some number) (step.Ask c) state.names)
     (get state.names session) (Told no_session_text)
 
-abbrev pub judged_add : State → Text → Text → Text → Result RawFact Trouble → Judgement
+abbrev pub judged_add : State → Text → Text → Text → Result RawFact Trouble → Ruling
 judged_add state session name id (Err fault) = Told (bad_fact_text fault)
 judged_add state session name id (Ok raw) = judged_call state session (call.Add name id raw)
 
 -- a step that ends the session and frees its name
-abbrev pub judged_end : State → Text → Step → Judgement
+abbrev pub judged_end : State → Text → Step → Ruling
 judged_end state session end = option_map_or
     (λ number. Due (Some number) end (remove state.names session))
     (get state.names session) (Told no_session_text)
@@ -88,11 +88,11 @@ report_in table (string text) = read_report_of table text
 report_in table d = report_of table d
 
 -- the report as the current version has it. That is no step
-abbrev pub judged_export : State → Text → Judgement
+abbrev pub judged_export : State → Text → Ruling
 judged_export state name =
     Told (option_map_or exported_text (report_at (repository state.history) name) (reply_text NoReport))
 
-abbrev pub judged_line : State → Line → Judgement
+abbrev pub judged_line : State → Line → Ruling
 judged_line state (Load name r) = judged_load state name (report_in state.table r)
 judged_line state (Open session) = judged_open state session
 judged_line state (Get session name id) = judged_call state session (call.Get name id)
@@ -102,7 +102,7 @@ judged_line state (Close session) = judged_end state session step.Close
 judged_line state (Export name) = judged_export state name
 
 -- of the value that the line is, where it is JSON
-abbrev pub judged : State → Option Data → Judgement
+abbrev pub judged : State → Option Data → Ruling
 judged state value = option_map_or (judged_line state) (option_and_then line_of value) (Told bad_line_text)
 
 -- ---- replies
@@ -112,7 +112,7 @@ abbrev pub step_text : History → Option ℕ → Step → Text
 step_text h session s = option_map_or reply_text (next_reply h session s) no_session_text
 
 -- a reply, and what is carried on
-abbrev pub answered : State → Judgement → Text × State
+abbrev pub answered : State → Ruling → Text × State
 answered state (Told text) = (text, state)
 answered state (Due session s names) = (
   step_text state.history session s,
@@ -128,7 +128,7 @@ line_answer state line = value_answer state (json_of line)
 
 -- what a script has as its output by this numeric table: a line for each reply
 unfoldable pub script_output : Table → Text → Text
-script_output table input = text_of (replies_of line_answer (start table) (spoken (lines_of input)))
+script_output table input = lines_text (replies_by line_answer (start table) (spoken (lines_of input)))
 
 -- the history that a script makes, newest entry first
 unfoldable pub script_history : Table → Text → History

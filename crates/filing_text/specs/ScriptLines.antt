@@ -31,8 +31,8 @@ object_at place d = do
   if is_some (as_object part) then Some part else None
 
 -- a report is an object, or the text of one
-abbrev pub report_at : ℕ → Data → Option Data
-report_at place d = do
+abbrev pub report_part_at : ℕ → Data → Option Data
+report_part_at place d = do
   part ← at place d
   if is_some (as_object part) || is_some (as_str part) then Some part else None
 
@@ -43,7 +43,7 @@ ended_at place d line = if is_some (at place d) then None else Some line
 abbrev pub load_of : Data → Option Line
 load_of d = do
   name ← text_at 1 d
-  report ← report_at 2 d
+  report ← report_part_at 2 d
   ended_at 3 d (Load name report)
 
 -- a session may be opened to amend

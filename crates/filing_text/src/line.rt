@@ -68,8 +68,8 @@ fn object_at(value: &Value, place: usize) -> Option<&Value>
 }
 
 /// The object or text at a place of an array.
-fn report_at(value: &Value, place: usize) -> Option<&Value>
-    ensures { option_map (λ v. view v.now) result ≡ model.report_at place (view value.now) }
+fn report_part_at(value: &Value, place: usize) -> Option<&Value>
+    ensures { option_map (λ v. view v.now) result ≡ model.report_part_at place (view value.now) }
 {
     let part = value.get(place)?;
     if part.is_object() || part.is_string() {
@@ -94,7 +94,7 @@ fn load_of(value: &Value) -> Option<Line<'_>>
     ensures { option_map line_view result ≡ model.load_of (view value.now) }
 {
     let name = text_at(value, 1)?;
-    let report = report_at(value, 2)?;
+    let report = report_part_at(value, 2)?;
     ended_at(value, 3, Line::Load { name, report })
 }
 

@@ -8,7 +8,7 @@ use Rattle.line_run.specs.declared.fault.ScriptFault.TheVariants.{Read, Write, E
 use Rattle.line_run.specs.declared.runs.TheConstants.{PIECE}
 use Rattle.line_run.specs.Text.{Text}
 use Rattle.line_run.specs.Devices.{SourceState, SinkState, Gave, Took}
-use Rattle.line_run.specs.Lines.{whole_lines, lines_of, lines_read, line_begun, spoken, text_of, is_line_feed}
+use Rattle.line_run.specs.Lines.{whole_lines, lines_of, lines_read, line_begun, spoken, lines_text, is_line_feed}
 use Rattle.line_run.specs.Run.{Answers, IsUnread, IsEndless, IsStarved, Runs}
 use Rattle.line_run.specs.Pieces.{whole_from, rest_from, count_from, Standing, standing, HasAnswered, Takes}
 use Rattle.line_run.proofs.DeviceSteps.{took_none, consumes_none, consumes_more, consumes_kept}
@@ -78,7 +78,7 @@ module _ {M : Type 0} (R : M → Text → Text → M → Type 0) where
 
   -- memory is refused before the first read
   pub starved_at_once : (m : M) (source : SourceState) (s : SinkState) → IsStarved R m m source source s s 1
-  unfolding whole_lines spoken text_of
+  unfolding whole_lines spoken lines_text
   starved_at_once m source s = record {
     given = [];
     ended = false;
@@ -135,7 +135,7 @@ module _ {M : Type 0} (R : M → Text → Text → M → Type 0) where
   }
 
   took_all : {m a : M} {s s' : SinkState} {lines : List Text} (p : HasAnswered R (standing m s []) (standing a s' []) lines)
-      → Took s s' (text_of p.texts) 0
+      → Took s s' (lines_text p.texts) 0
   took_all {s = s} {s' = s'} p = subst (λ text. Took s s' text 0) (sym (append-nil p.sent.written) ∙ p.sent.parts) p.sent.took
 
   pub read_failed : {m m' : M} {source source1 source2 : SourceState} {s s' : SinkState} {turn : ℕ} {begun waiting : Text} {lines : ℕ}

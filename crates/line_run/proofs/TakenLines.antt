@@ -7,7 +7,7 @@ use Rattle.line_run.specs.declared.fault.ScriptFault.{ScriptFault}
 use Rattle.line_run.specs.declared.fault.ScriptFault.TheVariants.{Read, Write, Endless, NoMemory}
 use Rattle.line_run.specs.Text.{Text}
 use Rattle.line_run.specs.Devices.{SinkState, Took, TookPart}
-use Rattle.line_run.specs.Lines.{is_line_feed, line_begun, is_blank, spoken, text_of}
+use Rattle.line_run.specs.Lines.{is_line_feed, line_begun, is_blank, spoken, lines_text}
 use Rattle.line_run.specs.Run.{Answers}
 use Rattle.std.specs.List.{before_first, after_first, position_or_len}
 use Rattle.line_run.proofs.CutLines.{whole_at, rest_at, whole_none, rest_none}
@@ -19,10 +19,10 @@ pub spoken-append : (xs ys : List Text) → spoken (xs ++ ys) ≡ spoken xs ++ s
 unfolding spoken
 spoken-append xs ys = filter-append (λ line. not (is_blank line)) xs ys
 
-pub text_of-append : (xs ys : List Text) → text_of (xs ++ ys) ≡ text_of xs ++ text_of ys
-unfolding text_of
-text_of-append [] ys = refl
-text_of-append (x ∷ xs) ys = ap (λ m. (x ++ (10 ∷ [])) ++ m) (text_of-append xs ys) ∙ sym (append_assoc (x ++ (10 ∷ [])) (text_of xs) (text_of ys))
+pub lines_text-append : (xs ys : List Text) → lines_text (xs ++ ys) ≡ lines_text xs ++ lines_text ys
+unfolding lines_text
+lines_text-append [] ys = refl
+lines_text-append (x ∷ xs) ys = ap (λ m. (x ++ (10 ∷ [])) ++ m) (lines_text-append xs ys) ∙ sym (append_assoc (x ++ (10 ∷ [])) (lines_text xs) (lines_text ys))
 
 pub Answers-append : {M : Type 0} (R : M → Text → Text → M → Type 0) (before middle after : M) (lines more texts others : List Text)
     → Answers R before lines texts middle → Answers R middle more others after → Answers R before (lines ++ more) (texts ++ others) after
@@ -63,9 +63,9 @@ spoken_one : (line : Text) → is_blank line ≡ false → spoken (line ∷ []) 
 unfolding spoken
 spoken_one line h = ap (λ b. cond (not b) (line ∷ []) []) h
 
-text_of_one : (text : Text) → text_of (text ∷ []) ≡ text ++ (10 ∷ [])
-unfolding text_of
-text_of_one text = append-nil (text ++ (10 ∷ []))
+lines_text_one : (text : Text) → lines_text (text ∷ []) ≡ text ++ (10 ∷ [])
+unfolding lines_text
+lines_text_one text = append-nil (text ++ (10 ∷ []))
 
 line_begun_one : (begun : Text) → 0 < length begun → length (line_begun begun) ≡ 1
 line_begun_one [] some = absurd (omega arith)
@@ -78,11 +78,11 @@ line_begun_is (byte ∷ begun) some = ap (λ bytes. (byte ∷ bytes) ∷ []) (sy
 module _ {M : Type 0} (R : M → Text → Text → M → Type 0) where
   -- no line
   pub answered_none : (b : Standing M) → HasAnswered R b b []
-  unfolding spoken text_of
+  unfolding spoken lines_text
   answered_none b = record { texts = []; answers = refl; sent = sent_none b.sink b.waiting }
 
   pub answered_blank : (b : Standing M) (line : Text) → is_blank line ≡ true → HasAnswered R b b (line ∷ [])
-  unfolding text_of
+  unfolding lines_text
   answered_blank b line h = record {
     texts = [];
     answers = subst (λ lines. Answers R b.machine lines [] b.machine) (sym (spoken_blank line h)) refl;
@@ -97,7 +97,7 @@ module _ {M : Type 0} (R : M → Text → Text → M → Type 0) where
   answered_one m a s s' w w' line reply h r sent = record {
     texts = reply ∷ [];
     answers = one m a line reply h r;
-    sent = subst (Sent s s' w w') (sym (text_of_one reply)) sent;
+    sent = subst (Sent s s' w w') (sym (lines_text_one reply)) sent;
   }
 
   pub failed_one : (m a : M) (s s' : SinkState) (w w' line reply : Text) → is_blank line ≡ false → R m line reply a
@@ -109,13 +109,13 @@ module _ {M : Type 0} (R : M → Text → Text → M → Type 0) where
     texts = reply ∷ [];
     reached = a;
     answers = one m a line reply h r;
-    took = subst (λ text. TookPart s s' (w ++ text)) (sym (text_of_one reply)) took;
+    took = subst (λ text. TookPart s s' (w ++ text)) (sym (lines_text_one reply)) took;
   }
 
   -- memory is refused at the first of some lines, or at the line begun
   pub starved_first : (m a : M) (s : SinkState) (w : Text) (lines : List Text) (count first : ℕ) → 0 < count
       → HasStarved R (standing m s w) (standing a s w) lines count first first
-  unfolding spoken text_of
+  unfolding spoken lines_text
   starved_first m a s w lines count first some = record {
     done = [];
     later = lines;
@@ -134,7 +134,7 @@ module _ {M : Type 0} (R : M → Text → Text → M → Type 0) where
     texts = p.texts ++ q.texts;
     answers = subst (λ ls. Answers R b.machine ls (p.texts ++ q.texts) a.machine) (sym (spoken-append lines more))
         (Answers-append R b.machine n.machine a.machine (spoken lines) (spoken more) p.texts q.texts p.answers q.answers);
-    sent = subst (Sent b.sink a.sink b.waiting a.waiting) (sym (text_of-append p.texts q.texts)) (sent_more p.sent q.sent);
+    sent = subst (Sent b.sink a.sink b.waiting a.waiting) (sym (lines_text-append p.texts q.texts)) (sent_more p.sent q.sent);
   }
 
   -- the first lines of all of them, after some that are answered
@@ -153,8 +153,8 @@ module _ {M : Type 0} (R : M → Text → Text → M → Type 0) where
     reached = q.reached;
     answers = subst (λ ls. Answers R b.machine ls (p.texts ++ q.texts) q.reached) (sym (spoken-append lines q.done))
         (Answers-append R b.machine n.machine q.reached (spoken lines) (spoken q.done) p.texts q.texts p.answers q.answers);
-    took = subst (λ text. TookPart b.sink a.sink (b.waiting ++ text)) (sym (text_of-append p.texts q.texts))
-        (part_sent (text_of q.texts) p.sent q.took);
+    took = subst (λ text. TookPart b.sink a.sink (b.waiting ++ text)) (sym (lines_text-append p.texts q.texts))
+        (part_sent (lines_text q.texts) p.sent q.took);
   }
 
   pub starved_more : {b n a : Standing M} {lines more : List Text} {less next number : ℕ} (others all : List Text) (count first : ℕ)
@@ -171,7 +171,7 @@ module _ {M : Type 0} (R : M → Text → Text → M → Type 0) where
         reached = q.reached;
         answers = subst (λ ls. Answers R b.machine ls (p.texts ++ q.texts) q.reached) (sym (spoken-append lines q.done))
             (Answers-append R b.machine n.machine q.reached (spoken lines) (spoken q.done) p.texts q.texts p.answers q.answers);
-        sent = subst (Sent b.sink a.sink b.waiting a.waiting) (sym (text_of-append p.texts q.texts)) (sent_more p.sent q.sent);
+        sent = subst (Sent b.sink a.sink b.waiting a.waiting) (sym (lines_text-append p.texts q.texts)) (sent_more p.sent q.sent);
       }
 
   -- what waits is written at the end
@@ -227,7 +227,7 @@ module _ {M : Type 0} (R : M → Text → Text → M → Type 0) where
     texts = p.texts;
     reached = p.reached;
     answers = p.answers;
-    took = subst (λ t. TookPart b.sink t (b.waiting ++ text_of p.texts)) (sym is) p.took;
+    took = subst (λ t. TookPart b.sink t (b.waiting ++ lines_text p.texts)) (sym is) p.took;
   }
 
   pub takes_out : {X : Type 0} (b : Standing M) (a : M) (s1 s2 : SinkState) (w1 : Text) (lines : List Text) (count first : ℕ)

@@ -58,6 +58,6 @@ unfoldable pub spoken : List Text → List Text
 spoken lines = filter (λ line. not (is_blank line)) lines
 
 -- a text of lines, each ended by a line feed
-unfoldable pub text_of : List Text → Text
-text_of [] = []
-text_of (line ∷ lines) = (line ++ (10 ∷ [])) ++ text_of lines
+unfoldable pub lines_text : List Text → Text
+lines_text [] = []
+lines_text (line ∷ lines) = (line ++ (10 ∷ [])) ++ lines_text lines

@@ -5,7 +5,7 @@ use Rattle.std.specs.declared.result.Result.TheVariants.{Ok, Err}
 use Rattle.std.specs.List.{before_first, after_first, position_or_len}
 use Rattle.line_run.specs.Text.{Text}
 use Rattle.line_run.specs.Devices.{SinkState, Took, TookPart}
-use Rattle.line_run.specs.Lines.{is_line_feed, line_begun, spoken, text_of}
+use Rattle.line_run.specs.Lines.{is_line_feed, line_begun, spoken, lines_text}
 use Rattle.line_run.specs.Run.{Answers}
 use Rattle.line_run.specs.declared.fault.ScriptFault.{ScriptFault}
 use Rattle.line_run.specs.declared.fault.ScriptFault.TheVariants.{Read, Write, Endless, NoMemory}
@@ -51,7 +51,7 @@ module _ {M : Type 0} (replies : M → Text → Text → M → Type 0) (before a
   pub record HasAnswered : Type 0 where
     pub texts : List Text
     pub answers : Answers replies before.machine (spoken lines) texts after.machine
-    pub sent : Sent before.sink after.sink before.waiting after.waiting (text_of texts)
+    pub sent : Sent before.sink after.sink before.waiting after.waiting (lines_text texts)
 
   -- a write failed: the first lines are answered, and a front of what waited and their replies is written.
   -- The machine may have gone on
@@ -62,7 +62,7 @@ module _ {M : Type 0} (replies : M → Text → Text → M → Type 0) (before a
     pub texts : List Text
     pub reached : M
     pub answers : Answers replies before.machine (spoken done) texts reached
-    pub took : TookPart before.sink after.sink (before.waiting ++ text_of texts)
+    pub took : TookPart before.sink after.sink (before.waiting ++ lines_text texts)
 
   -- memory was refused at a line, one of `count`, of which the first has the number `first`: the lines before
   -- it are answered, and their replies are sent. The machine may have gone on
@@ -75,7 +75,7 @@ module _ {M : Type 0} (replies : M → Text → Text → M → Type 0) (before a
     pub texts : List Text
     pub reached : M
     pub answers : Answers replies before.machine (spoken done) texts reached
-    pub sent : Sent before.sink after.sink before.waiting after.waiting (text_of texts)
+    pub sent : Sent before.sink after.sink before.waiting after.waiting (lines_text texts)
 
 -- what holds of each result of taking some lines
 abbrev pub Takes : {X M : Type 0} → (M → Text → Text → M → Type 0) → Result X ScriptFault

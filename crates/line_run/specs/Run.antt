@@ -5,7 +5,7 @@ use Rattle.std.specs.declared.result.Result.TheVariants.{Ok, Err}
 use Rattle.std.specs.Io.KnownBytes.{IsAtEnd}
 use Rattle.line_run.specs.Text.{Text}
 use Rattle.line_run.specs.Devices.{SourceState, SinkState, Gave, Took, TookPart}
-use Rattle.line_run.specs.Lines.{whole_lines, lines_of, lines_read, spoken, text_of}
+use Rattle.line_run.specs.Lines.{whole_lines, lines_of, lines_read, spoken, lines_text}
 use Rattle.line_run.specs.declared.fault.ScriptFault.{ScriptFault}
 use Rattle.line_run.specs.declared.fault.ScriptFault.TheVariants.{Read, Write, Endless, NoMemory}
 
@@ -18,9 +18,9 @@ Answers {M} replies before (line ∷ lines) (text ∷ texts) after =
     (next : M) × (replies before line text next × Answers replies next lines texts after)
 
 -- the replies to the lines, where a function gives the reply to a line and the state after it
-abbrev pub replies_of : {S : Type 0} → (S → Text → Text × S) → S → List Text → List Text
-replies_of step state [] = []
-replies_of step state (line ∷ lines) = (step state line).0 ∷ replies_of step (step state line).1 lines
+abbrev pub replies_by : {S : Type 0} → (S → Text → Text × S) → S → List Text → List Text
+replies_by step state [] = []
+replies_by step state (line ∷ lines) = (step state line).0 ∷ replies_by step (step state line).1 lines
 
 -- the state after the lines
 abbrev pub state_after : {S : Type 0} → (S → Text → Text × S) → S → List Text → S
@@ -36,7 +36,7 @@ module _ {M : Type 0} (replies : M → Text → Text → M → Type 0) (before a
     pub gave : Gave source source' given 1 0
     pub at_end : IsAtEnd source'.rest
     pub answers : Answers replies before (spoken (lines_of given)) texts after
-    pub took : Took sink sink' (text_of texts) 0
+    pub took : Took sink sink' (lines_text texts) 0
 
   -- a read failed: every whole line before it has its reply, and nothing else is written
   pub record IsUnread : Type 0 where
@@ -44,7 +44,7 @@ module _ {M : Type 0} (replies : M → Text → Text → M → Type 0) (before a
     pub texts : List Text
     pub gave : Gave source source' given 0 1
     pub answers : Answers replies before (spoken (whole_lines given)) texts after
-    pub took : Took sink sink' (text_of texts) 0
+    pub took : Took sink sink' (lines_text texts) 0
 
   -- as many reads were made as the bound allows, none met the end or failed, every whole line has its reply, and nothing else is written
   pub record IsEndless (reads : ℕ) : Type 0 where
@@ -53,7 +53,7 @@ module _ {M : Type 0} (replies : M → Text → Text → M → Type 0) (before a
     pub gave : Gave source source' given 0 0
     pub all_reads : source'.reads ≡ source.reads + reads
     pub answers : Answers replies before (spoken (whole_lines given)) texts after
-    pub took : Took sink sink' (text_of texts) 0
+    pub took : Took sink sink' (lines_text texts) 0
 
   -- a write failed: some of the first lines were answered, and a front of their replies is written. The machine may have gone on from what it had reached
   pub record IsUnwritten : Type 0 where
@@ -66,7 +66,7 @@ module _ {M : Type 0} (replies : M → Text → Text → M → Type 0) (before a
     pub texts : List Text
     pub reached : M
     pub answers : Answers replies before (spoken lines) texts reached
-    pub took : TookPart sink sink' (text_of texts)
+    pub took : TookPart sink sink' (lines_text texts)
 
   -- memory was refused at a line: every line before it has its reply, and nothing else is written. The machine may have gone on from what it had reached
   pub record IsStarved (number : ℕ) : Type 0 where
@@ -82,7 +82,7 @@ module _ {M : Type 0} (replies : M → Text → Text → M → Type 0) (before a
     pub texts : List Text
     pub reached : M
     pub answers : Answers replies before (spoken lines) texts reached
-    pub took : Took sink sink' (text_of texts) 0
+    pub took : Took sink sink' (lines_text texts) 0
 
 -- what holds of each result of a run
 abbrev pub Runs : {X M : Type 0} → (M → Text → Text → M → Type 0) → ℕ → Result X ScriptFault → M → M

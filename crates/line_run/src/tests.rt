@@ -1,7 +1,7 @@
 //! Runs over memory of a small machine, each device failing at each of its calls in turn.
 ghost use Rattle.std.specs.Prelude.{◌≡◌, ◌≤◌, [], ◌∷◌, length};
 ghost use Rattle.std.specs.Fmt.{decimal};
-ghost use Rattle.line_run.specs.Lines.{lines_of, whole_lines, spoken, text_of};
+ghost use Rattle.line_run.specs.Lines.{lines_of, whole_lines, spoken, lines_text};
 
 use super::{FromReader, Machine, MemoryIn, MemoryOut, ScriptFault, ToWriter, is_blank, run};
 use std::alloc::{AllocError, Global};
@@ -59,14 +59,14 @@ const BYTE_BY_BYTE: Trial = Trial {
 const SCRIPT: &[u8] = b"ab\n\n \t\r\nabc\nx";
 
 // The definitions at small texts: two lines and a part, white space alone, and replies put together.
-#[tactic(auto, unfolding(crate::specs::Lines::lines_of, crate::specs::Lines::whole_lines, crate::specs::Lines::last_part, crate::specs::Lines::spoken, crate::specs::Lines::text_of))]
+#[tactic(auto, unfolding(crate::specs::Lines::lines_of, crate::specs::Lines::whole_lines, crate::specs::Lines::last_part, crate::specs::Lines::spoken, crate::specs::Lines::lines_text))]
 fn rows()
     ensures all { lines_of (97 ∷ 10 ∷ 10 ∷ 98 ∷ []) ≡ (97 ∷ []) ∷ [] ∷ (98 ∷ []) ∷ [] }
     ensures whole { whole_lines (97 ∷ 10 ∷ 10 ∷ 98 ∷ []) ≡ (97 ∷ []) ∷ [] ∷ [] }
     ensures ended { lines_of (97 ∷ 10 ∷ []) ≡ (97 ∷ []) ∷ [] }
     ensures empty { lines_of [] ≡ [] }
     ensures blank { spoken ((97 ∷ []) ∷ [] ∷ (32 ∷ 9 ∷ 13 ∷ []) ∷ (12 ∷ []) ∷ []) ≡ (97 ∷ []) ∷ (12 ∷ []) ∷ [] }
-    ensures text { text_of ((97 ∷ []) ∷ [] ∷ []) ≡ 97 ∷ 10 ∷ 10 ∷ [] }
+    ensures text { lines_text ((97 ∷ []) ∷ [] ∷ []) ≡ 97 ∷ 10 ∷ 10 ∷ [] }
 {}
 
 // What a trial left: the result, what is written, and the length that the machine has in mind.

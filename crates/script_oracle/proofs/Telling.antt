@@ -1,8 +1,8 @@
 -- The output of a script, line by line.
 use Rattle.std.proofs.Common.{◌≡◌, ◌∙◌, ap, sym, refl, List, [], ◌∷◌, ◌++◌, not, cond, true, false, append_assoc}
 use Rattle.filing_model.specs.Text.{Text}
-use Rattle.line_run.specs.Lines.{is_blank, spoken, text_of, lines_of}
-use Rattle.line_run.specs.Run.{replies_of}
+use Rattle.line_run.specs.Lines.{is_blank, spoken, lines_text, lines_of}
+use Rattle.line_run.specs.Run.{replies_by}
 use Rattle.filing_model.specs.Facts.{Table}
 use Rattle.filing_text.specs.Script.{State, start, line_answer, script_output}
 use Rattle.std.proofs.lemmas.List.{append-nil}
@@ -16,14 +16,14 @@ spoken_line : (line : Text) (later : List Text) → is_blank line ≡ false → 
 unfolding spoken
 spoken_line line later speaks = ap (λ b. cond (not b) (line ∷ spoken later) (spoken later)) speaks
 
-text_of_more : (text : Text) (texts : List Text) → text_of (text ∷ texts) ≡ (text ++ (10 ∷ [])) ++ text_of texts
-unfolding text_of
+text_of_more : (text : Text) (texts : List Text) → lines_text (text ∷ texts) ≡ (text ++ (10 ∷ [])) ++ lines_text texts
+unfolding lines_text
 text_of_more text texts = refl
 
 -- a blank line tells nothing
 pub passed_over : (state : State) (out line : Text) (later : List Text) → is_blank line ≡ true
     → out ++ output_of state later ≡ out ++ output_of state (line ∷ later)
-passed_over state out line later blank = ap (λ lines. out ++ text_of (replies_of line_answer state lines)) (sym (spoken_blank line later blank))
+passed_over state out line later blank = ap (λ lines. out ++ lines_text (replies_by line_answer state lines)) (sym (spoken_blank line later blank))
 
 -- another is answered
 pub told : (state after : State) (out first second text line feed : Text) (later : List Text) → is_blank line ≡ false
@@ -35,12 +35,12 @@ told state after out first second text line feed later speaks answer first_is se
     ∙ (λ i. (first_is i ++ feed_is i) ++ rest)
     ∙ (λ i. append_assoc out text (10 ∷ []) i ++ rest)
     ∙ append_assoc out (text ++ (10 ∷ [])) rest
-    ∙ ap (λ t. out ++ t) (sym (text_of_more text (replies_of line_answer after (spoken later))))
-    ∙ ap (λ a. out ++ text_of (a.0 ∷ replies_of line_answer a.1 (spoken later))) (sym answer)
-    ∙ ap (λ lines. out ++ text_of (replies_of line_answer state lines)) (sym (spoken_line line later speaks))
+    ∙ ap (λ t. out ++ t) (sym (text_of_more text (replies_by line_answer after (spoken later))))
+    ∙ ap (λ a. out ++ lines_text (a.0 ∷ replies_by line_answer a.1 (spoken later))) (sym answer)
+    ∙ ap (λ lines. out ++ lines_text (replies_by line_answer state lines)) (sym (spoken_line line later speaks))
 
 nothing_left : (state : State) → output_of state [] ≡ []
-unfolding spoken text_of
+unfolding spoken lines_text
 nothing_left state = refl
 
 -- all lines are answered

@@ -3,5 +3,5 @@ pub mod Named
 pub mod Views
 pub mod Alone
 pub mod Cells
-pub mod Judgements
+pub mod Rulings
 pub mod Lines

@@ -3,8 +3,8 @@ use Rattle.std.specs.Prelude.{ℕ, List, map}
 use Rattle.std.specs.declared.vec.Vec.{Vec}
 use Rattle.std.specs.declared.alloc.Global.{Global}
 use Rattle.filing_model.specs.Text.{Text}
-use Rattle.line_run.specs.Lines.{spoken, text_of}
-use Rattle.line_run.specs.Run.{replies_of}
+use Rattle.line_run.specs.Lines.{spoken, lines_text}
+use Rattle.line_run.specs.Run.{replies_by}
 use Rattle.filing_text.specs.Script.{State, line_answer}
 
 abbrev pub texts : List (Vec ℕ Global) → List Text
@@ -12,4 +12,4 @@ texts lines = map (λ line. line.items) lines
 
 -- the output of these lines from a state on
 abbrev pub output_of : State → List Text → Text
-output_of state lines = text_of (replies_of line_answer state (spoken lines))
+output_of state lines = lines_text (replies_by line_answer state (spoken lines))

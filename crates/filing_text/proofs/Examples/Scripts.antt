@@ -1,8 +1,8 @@
 -- Worked examples of scripts: what each line is answered.
 use Rattle.std.specs.Prelude.{◌≡◌, ℕ, List, [], ◌∷◌, ◌++◌, codes, map, length, refl}
 use Rattle.filing_model.specs.Text.{Text}
-use Rattle.line_run.specs.Lines.{whole_lines, last_part, lines_of, spoken, text_of}
-use Rattle.line_run.specs.Run.{replies_of}
+use Rattle.line_run.specs.Lines.{whole_lines, last_part, lines_of, spoken, lines_text}
+use Rattle.line_run.specs.Run.{replies_by}
 use Rattle.filing_text.specs.ScriptLines.{line_of}
 use Rattle.filing_text.specs.Script.{start, line_answer, script_output, script_history}
 use Rattle.filing_model.specs.Facts.{Table}
@@ -14,21 +14,21 @@ table = (codes "http://e.org/t", codes "Assets") ∷ []
 
 -- the lines with their replies
 abbrev pub told : List Text → List Text
-told lines = replies_of line_answer (start table) lines
+told lines = replies_by line_answer (start table) lines
 
 -- nothing is answered nothing
 pub empty_script : script_output table [] ≡ []
-unfolding script_output whole_lines last_part lines_of spoken text_of
+unfolding script_output whole_lines last_part lines_of spoken lines_text
 empty_script = refl
 
 -- blank lines are passed over, and the last line need not be ended
 pub blank_lines : script_output table (codes "\n \t\r\n[]") ≡ codes "[\"bad-line\"]\n"
-unfolding script_output whole_lines last_part lines_of spoken text_of line_answer line_of filing_on_literals
+unfolding script_output whole_lines last_part lines_of spoken lines_text line_answer line_of filing_on_literals
 blank_lines = refl
 
 -- each reply is ended, and the last is too
 pub two_lines : script_output table (codes "[]\r\n[\"close\",\"s1\"]") ≡ codes "[\"bad-line\"]\n[\"no-session\"]\n"
-unfolding script_output whole_lines last_part lines_of spoken text_of line_answer line_of filing_on_literals
+unfolding script_output whole_lines last_part lines_of spoken lines_text line_answer line_of filing_on_literals
 two_lines = refl
 
 -- the report r1, which has no facts and binds the prefix ex

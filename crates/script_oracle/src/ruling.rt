@@ -1,11 +1,11 @@
-//! `Judgement`: what a line comes to, before its step is taken.
+//! `Ruling`: what a line comes to, before its step is taken.
 
 use crate::names::Names;
 use filing_step::Step;
 
 /// What a line comes to: a reply at once, or a step under a session's number, with the names that are in use once it is taken.
 #[derive(Drop)]
-pub enum Judgement {
+pub enum Ruling {
     Told(String),
     Due {
         session: Option<u64>,

@@ -1,5 +1,5 @@
 use Rattle.filing_model.proofs.MixedFacts.{mixed_where_dimensions_differ}
-use Rattle.filing_model.proofs.number_laws.facts_are_mixed_where_dimensions_differ.Goals as goal
+use Rattle.filing_model.proofs.duplicate_laws.facts_are_mixed_where_dimensions_differ.Goals as goal
 
 pub returns : goal.returns
 returns c = mixed_where_dimensions_differ
