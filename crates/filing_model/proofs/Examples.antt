@@ -8,6 +8,7 @@ pub mod Tables
 pub mod ReadFact
 pub mod ReadReport
 pub mod Writing
+pub mod DeclaredValue
 pub mod Setting
 pub mod Histories
 pub mod Solo

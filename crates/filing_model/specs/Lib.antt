@@ -25,6 +25,7 @@ pub mod Versions
 pub mod JsonText
 pub mod ReadFact
 pub mod ReadReport
+pub mod DeclaredValue
 pub mod Fitted
 pub mod Writing
 pub mod Laws

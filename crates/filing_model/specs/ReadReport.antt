@@ -1,5 +1,5 @@
 -- Reading a report (xBRL-JSON 1.0; the feature `xbrl:allowedDuplicates` of Open Information Model 1.0). Members at the top other than `documentInfo` and `facts` are passed over. The order of the faults, that a URI has one prefix and that numbers are whole are the project's own.
-use Rattle.std.specs.Prelude.{ℕ, if◌then◌else◌, List, [], ◌∷◌, codes, Option, None, Some, Result, Ok, Err, ok_or, option_and_then}
+use Rattle.std.specs.Prelude.{ℕ, if◌then◌else◌, List, [], ◌∷◌, map, codes, Option, None, Some, Result, Ok, Err, ok_or, option_and_then}
 use Rattle.std.specs.FinMap.Entries.{find}
 use Rattle.serde_json.specs.Data.{Data, object}
 use Rattle.serde_json.specs.Find.{get, as_str}
@@ -34,9 +34,16 @@ document_info_of d = do
   type ← ok_or (option_and_then as_str (get (codes "documentType") info)) WrongDocumentType
   if text_eq type (codes "https://xbrl.org/2021/xbrl-json") then Ok info else Err WrongDocumentType
 
--- the words for allowed duplicates
+-- the word for allowed duplicates
+abbrev pub allowed_word : Allowed → Text
+allowed_word Never = codes "none"
+allowed_word Complete = codes "complete"
+allowed_word Consistent = codes "consistent"
+allowed_word All = codes "all"
+
+-- each word, with what it allows
 abbrev pub allowed_words : List (Text × Allowed)
-allowed_words = (codes "none", Never) ∷ (codes "complete", Complete) ∷ (codes "consistent", Consistent) ∷ (codes "all", All) ∷ []
+allowed_words = map (λ allowed. (allowed_word allowed, allowed)) (Never ∷ Complete ∷ Consistent ∷ All ∷ [])
 
 abbrev pub allowed_of_word : Text → Option Allowed
 allowed_of_word word = find text_cmp word allowed_words
