@@ -11,4 +11,6 @@ pub mod Writing
 pub mod DeclaredValue
 pub mod Setting
 pub mod Histories
+pub mod Ranges
+pub mod DeclaringSessions
 pub mod Solo

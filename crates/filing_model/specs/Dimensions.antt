@@ -1,5 +1,7 @@
 -- Dimension sets (xBRL-JSON 1.0, the `dimensions` object of a fact). The order and the limit on lengths are the project's own.
-use Rattle.std.specs.Prelude.{◌≡◌, Bool, true, false, T, not, ◌&&◌, ◌||◌, nat_lt, if◌then◌else◌, List, [], ◌∷◌, length, map, codes, Option, None, Some, is_none, Result, Ok, Err}
+use Rattle.std.specs.Prelude.{◌≡◌, Bool, true, false, T, not, ◌&&◌, ◌||◌, nat_lt, if◌then◌else◌, List, [], ◌∷◌, ◌++◌, length, map, codes, Option, None, Some, is_none, Result, Ok, Err}
+use Rattle.std.specs.Hash as fed
+use Rattle.std.specs.Hash.{HashWrites}
 use Rattle.std.specs.declared.cmp.Ordering.{Ordering}
 use Rattle.std.specs.Ordering.{on, then_cmp, eq_by_cmp}
 use Rattle.std.specs.FinMap.Entries.{find, is_sorted}
@@ -25,6 +27,10 @@ dims_cmp = slice_cmp dim_cmp
 
 abbrev pub dims_eq : Dims → Dims → Bool
 dims_eq = eq_by_cmp dims_cmp
+
+-- what a hasher is fed of a set: as of its list
+abbrev pub dims_hash : Dims → HashWrites
+dims_hash dims = fed.slice (λ d. fed.str d.0 ++ fed.option fed.str d.1) dims
 
 -- the dimensions that Open Information Model 1.0 defines itself. All other names are names of a taxonomy
 abbrev pub core_names : List Text

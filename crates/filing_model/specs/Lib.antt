@@ -13,10 +13,11 @@ pub mod Prefixes
 pub mod Tables
 pub mod Reports
 pub mod Repository
-pub mod Queries
 pub mod Calls
+pub mod Queries
 pub mod Things
 pub mod Replies
+pub mod Changes
 pub mod Sessions
 pub mod History
 pub mod Touches

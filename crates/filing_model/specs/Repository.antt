@@ -5,6 +5,8 @@ use Rattle.filing_model.specs.Text.{Text}
 use Rattle.filing_model.specs.TextMap.{TextMap, empty, get, insert, remove}
 use Rattle.filing_model.specs.Facts.{Fact}
 use Rattle.filing_model.specs.Reports.{Report}
+use Rattle.filing_model.specs.DeclaredValue.{report_declaring}
+use Rattle.filing_model.specs.declared.duplicates.Allowed.{Allowed}
 
 -- how many loads and commits were accepted, and what they made
 pub record Repository : Type 0 where
@@ -29,9 +31,17 @@ abbrev pub with_fact : Report → Text → Option Fact → Report
 with_fact r id (Some fact) = record r { facts = insert r.facts id fact }
 with_fact r id None = record r { facts = remove r.facts id }
 
+-- the repository with this report under the name
+abbrev pub with_report_at : Repository → Text → Report → Repository
+with_report_at c name r = record c { reports = insert c.reports name r }
+
 -- the repository with that change in its report; the same where the report is not there
 abbrev pub with_fact_at : Repository → Text → Text → Option Fact → Repository
-with_fact_at c name id fact = option_map_or (λ r. record c { reports = insert c.reports name (with_fact r id fact) }) (report_at c name) c
+with_fact_at c name id fact = option_map_or (λ r. with_report_at c name (with_fact r id fact)) (report_at c name) c
+
+-- the repository in whose report this value is declared
+abbrev pub declaring_at : Repository → Text → Allowed → Repository
+declaring_at c name value = option_map_or (λ r. with_report_at c name (report_declaring r value)) (report_at c name) c
 
 -- the repository with one report more, which counts
 abbrev pub with_report : Repository → Text → Report → Repository

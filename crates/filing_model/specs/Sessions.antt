@@ -1,5 +1,5 @@
 -- One session alone on a plain repository: there is no overlay, no version and no read set. The project's own.
-use Rattle.std.specs.Prelude.{ℕ, ◌+◌, Bool, cond, not, List, [], ◌∷◌, ◌++◌, Option, Some, None, is_some, option_map, unwrap_or}
+use Rattle.std.specs.Prelude.{ℕ, ◌+◌, Bool, true, false, cond, not, List, [], ◌∷◌, ◌++◌, Option, Some, None, is_some, option_map, unwrap_or}
 use Rattle.std.specs.List.{list_all, find}
 use Rattle.std.specs.Option.{option_map_or}
 use Rattle.std.specs.declared.result.Result.{Result}
@@ -8,10 +8,10 @@ use Rattle.filing_model.specs.Text.{Text}
 use Rattle.filing_model.specs.Dimensions.{Dims}
 use Rattle.filing_model.specs.Facts.{Fact, RawFact, fit_of}
 use Rattle.filing_model.specs.Reports.{Report}
-use Rattle.filing_model.specs.Repository.{Repository, report_at, fact_in, with_fact_at}
+use Rattle.filing_model.specs.Repository.{Repository, report_at, fact_in, with_fact_at, declaring_at}
 use Rattle.filing_model.specs.Duplicates.{class_of, obeys, least_disallowed}
-use Rattle.filing_model.specs.Queries.{cell_facts, cell_ids, query_ids, ids_after, page_ids, page_has_more}
-use Rattle.filing_model.specs.Calls.{Call, Get, Cell, Page, Add, Remove}
+use Rattle.filing_model.specs.Queries.{cell_facts, cell_ids, ids_for, page_ids, page_has_more}
+use Rattle.filing_model.specs.Calls.{Sought, Limit, Call, Get, Cell, Page, Add, Remove, Declared, Declare, report_of_call}
 use Rattle.filing_model.specs.Replies as reply
 use Rattle.filing_model.specs.Replies.{Reply}
 use Rattle.filing_model.specs.declared.faults.FactFault.{FactFault}
@@ -25,10 +25,6 @@ use Rattle.filing_model.specs.declared.kind.Kind.TheVariants.{Review, Amend}
 abbrev pub Answer : Type 0
 Answer = Reply × Repository
 
--- what is found in the report, or that it is not there
-abbrev pub in_report : Repository → Text → (Report → Reply) → Reply
-in_report c name found = option_map_or found (report_at c name) reply.NoReport
-
 abbrev pub got : Text → Report → Reply
 got id r = option_map_or reply.Found (fact_in r id) reply.Absent
 
@@ -38,8 +34,8 @@ cell_found dims r = reply.Cell (class_of (cell_facts dims r.facts)) (cell_ids di
 abbrev pub page_of : ℕ → List Text → Reply
 page_of limit ids = reply.Page (page_ids limit ids) (page_has_more limit ids)
 
-abbrev pub page_found : Text → Option Text → Option Text → ℕ → Report → Reply
-page_found concept period after limit r = page_of limit (ids_after after (query_ids concept period r.facts))
+abbrev pub page_found : Sought → Limit → Report → Reply
+page_found sought limit r = page_of limit.number (ids_for sought r.facts)
 
 -- an addition takes an identifier that is not there
 abbrev pub fitted : Repository → Text → Text → Result Fact FactFault → Answer
@@ -53,14 +49,27 @@ added c name id raw r = cond (is_some (fact_in r id)) (reply.Taken, c) (fitted c
 abbrev pub removed : Repository → Text → Text → Report → Answer
 removed c name id r = cond (is_some (fact_in r id)) (reply.Staged, with_fact_at c name id None) (reply.Absent, c)
 
+-- a review may not change anything
+abbrev pub may_make : Kind → Call → Bool
+may_make Review (Add name id raw) = false
+may_make Review (Remove name id) = false
+may_make Review (Declare name value) = false
+may_make kind call = true
+
+-- in the report that the call names. What is declared may be declared again
+abbrev pub answer_in : Repository → Call → Report → Answer
+answer_in c (Get name id) r = (got id r, c)
+answer_in c (Cell name dims) r = (cell_found dims r, c)
+answer_in c (Page name sought limit) r = (page_found sought limit r, c)
+answer_in c (Add name id raw) r = added c name id raw r
+answer_in c (Remove name id) r = removed c name id r
+answer_in c (Declared name) r = (reply.Declared r.allowed, c)
+answer_in c (Declare name value) r = (reply.Staged, declaring_at c name value)
+
 abbrev pub answer : Kind → Call → Repository → Answer
-answer kind (Get name id) c = (in_report c name (got id), c)
-answer kind (Cell name dims) c = (in_report c name (cell_found dims), c)
-answer kind (Page name concept period after limit) c = (in_report c name (page_found concept period after limit), c)
-answer Review (Add name id raw) c = (reply.ReadOnly, c)
-answer Amend (Add name id raw) c = option_map_or (added c name id raw) (report_at c name) (reply.NoReport, c)
-answer Review (Remove name id) c = (reply.ReadOnly, c)
-answer Amend (Remove name id) c = option_map_or (removed c name id) (report_at c name) (reply.NoReport, c)
+answer kind call c = cond (may_make kind call)
+    (option_map_or (answer_in c call) (report_at c (report_of_call call)) (reply.NoReport, c))
+    (reply.ReadOnly, c)
 
 -- ---- all calls of a session, one after another
 

@@ -6,7 +6,7 @@ use Rattle.filing_model.specs.TextMap.{TextMap, empty, insert}
 use Rattle.filing_model.specs.Dimensions.{Dims}
 use Rattle.filing_model.specs.Facts.{Fact, RawFact, Written, Names}
 use Rattle.filing_model.specs.Reports.{Report}
-use Rattle.filing_model.specs.Calls.{Get, Cell, Page, Add, Remove}
+use Rattle.filing_model.specs.Calls.{Asked, Without, Sought, Limit, Get, Cell, Page, Add, Remove, Declared, Declare}
 use Rattle.filing_model.specs.Replies.{Reply}
 use Rattle.filing_model.specs.History.{Step, Load, Open, Ask, Commit, Close, History}
 use Rattle.filing_model.specs.Lawful.{after_step}
@@ -36,6 +36,10 @@ raw value = raw_of (codes "ex:Name") value
 abbrev pub fact : Text → Fact
 fact value = fact_of (codes "ex:Name") value
 
+-- the same with a period
+abbrev pub dated : Text → Text → Fact
+dated value period = record (fact value) { dims = (codes "concept", Some (codes "ex:Name")) ∷ (codes "period", Some period) ∷ [] }
+
 abbrev pub facts_from : List (Text × Fact) → TextMap Fact
 facts_from [] = empty
 facts_from (e ∷ es) = insert (facts_from es) e.0 e.1
@@ -63,14 +67,37 @@ gets s name id = (Some s, Ask (Get name id))
 abbrev pub looks : ℕ → Text → Text → Line
 looks s name concept = (Some s, Ask (Cell name (of_concept concept)))
 
-abbrev pub pages : ℕ → Text → Option Text → ℕ → Line
-pages s name after limit = (Some s, Ask (Page name (codes "ex:Name") None after limit))
+-- what is sought of the one concept
+abbrev pub sought : Asked → Option Text → Sought
+sought period after = record { concept = codes "ex:Name"; period = period; after = after }
+
+abbrev pub one : Limit
+one = record { number = 1; within = tt }
+
+abbrev pub two : Limit
+two = record { number = 2; within = tt }
+
+abbrev pub ten : Limit
+ten = record { number = 10; within = tt }
+
+-- a page of facts without a period, and one of the periods asked for
+abbrev pub pages : ℕ → Text → Option Text → Limit → Line
+pages s name after limit = (Some s, Ask (Page name (sought Without after) limit))
+
+abbrev pub seeks : ℕ → Text → Asked → Limit → Line
+seeks s name period limit = (Some s, Ask (Page name (sought period None) limit))
 
 abbrev pub adds : ℕ → Text → Text → RawFact → Line
 adds s name id fact = (Some s, Ask (Add name id fact))
 
 abbrev pub removes : ℕ → Text → Text → Line
 removes s name id = (Some s, Ask (Remove name id))
+
+abbrev pub asks_value : ℕ → Text → Line
+asks_value s name = (Some s, Ask (Declared name))
+
+abbrev pub declares : ℕ → Text → Allowed → Line
+declares s name value = (Some s, Ask (Declare name value))
 
 abbrev pub commits : ℕ → Line
 commits s = (Some s, Commit)
