@@ -1,62 +1,117 @@
 -- What a net change holds, and that what it does not touch is shown as before.
-use Rattle.std.proofs.Common.{◌≡◌, ◌∙◌, ap, sym, refl, subst, Bool, true, false, cond, ◌&&◌, ◌||◌, ◌⊎◌, inl, inr, List, [], ◌∷◌, ◌++◌, flat_map, option_to_list, Option, Some, None, is_some, option_map, unwrap_or, true≢false}
-use Rattle.std.specs.Option.{option_map_or, option_eq}
+use Rattle.std.proofs.Common.{◌≡◌, ◌∙◌, ap, sym, refl, subst, Bool, true, false, cond, ◌&&◌, ◌||◌, ◌⊎◌, inl, inr, List, [], ◌∷◌, Option, Some, None, is_some, unwrap_or, true≢false}
+use Rattle.std.specs.Option.{option_map_or, option_or}
 use Rattle.std.specs.FinMap.Entries.{find}
-use Rattle.std.proofs.lemmas.Bool.{and_parts}
+use Rattle.std.proofs.lemmas.Bool.{and_parts, or_parts}
 use Rattle.filing_model.specs.Text.{Text, text_cmp, text_eq}
-use Rattle.filing_model.specs.TextMap.{TextMap, empty, get, insert}
-use Rattle.filing_model.specs.Dimensions.{dims_eq, concept_of, period_of}
+use Rattle.filing_model.specs.TextMap.{TextMap, get, insert}
 use Rattle.filing_model.specs.Facts.{Fact}
 use Rattle.filing_model.specs.Repository.{Repository, fact_at}
+use Rattle.filing_model.specs.Duplicates.{has_dims}
+use Rattle.filing_model.specs.Queries.{answers_query}
+use Rattle.filing_model.specs.Changes.{ReportChange, Change, no_change, change_in, change_at, declared_in, with_change, with_declared}
 use Rattle.filing_model.specs.Things as thing
-use Rattle.filing_model.specs.Things.{Thing, thing_eq}
-use Rattle.filing_model.specs.Touches.{Change, change_at, with_change, change_between, things_of_fact, things_at, things_of_change}
-use Rattle.filing_model.proofs.Texts.{text_same, text_eq-refl}
+use Rattle.filing_model.specs.Things.{Thing, report_of}
+use Rattle.filing_model.specs.Touches.{change_between, with_values, passes_at, is_within, is_changed}
+use Rattle.filing_model.specs.declared.duplicates.Allowed.{Allowed}
+use Rattle.filing_model.proofs.Texts.{text_same}
 use Rattle.filing_model.proofs.TextMaps.{get-insert}
-use Rattle.filing_laws.proofs.EachElement.{Each, IsNever, never_parts, never_appended, never_flat}
-use Rattle.filing_laws.proofs.AgreeOnThings.{report_of, shown}
+use Rattle.filing_laws.proofs.EachElement.{Each, IsNever, never_parts}
+use Rattle.filing_laws.proofs.WithOneValue.{value_for, last_value}
+use Rattle.filing_laws.proofs.FilteredFacts.{only}
+use Rattle.filing_laws.proofs.AgreeOnThings.{sees, shown}
 use Rattle.filing_laws.proofs.RunsAlike.{is_place}
 
 -- ---- looking up
 
--- what holds of each entry holds of one that is found
-pub each_found : {X : Type 0} (P : Text × X → Type 0) (key : Text) (x : X) (es : List (Text × X)) → Each P es → find text_cmp key es ≡ Some x → P (key, x)
-each_found P key x [] each found = let apart : None ≡ Some x = found in cc
-each_found P key x (e ∷ es) each found = by (each_found P key x es each.1) (text_eq key e.0) refl found
+-- what fails of each entry fails of one that is found
+pub never_found : {X : Type 0} (test : Text × X → Bool) (key : Text) (x : X) (es : List (Text × X)) → IsNever test es → find text_cmp key es ≡ Some x → test (key, x) ≡ false
+never_found test key x [] never found = let apart : None ≡ Some x = found in cc
+never_found test key x (e ∷ es) never found =
+    let parts = never_parts test e es never in
+    by (never_found test key x es parts.1) parts.0 (text_eq key e.0) refl found
   where
-    by : (find text_cmp key es ≡ Some x → P (key, x)) → (b : Bool) → text_eq key e.0 ≡ b → cond b (Some e.1) (find text_cmp key es) ≡ Some x → P (key, x)
-    by later true same is = let value : e.1 ≡ x = cc in subst P (λ i. (sym (text_same key e.0 same) i, value i)) each.0
-    by later false other is = later is
+    by : (find text_cmp key es ≡ Some x → test (key, x) ≡ false) → test e ≡ false → (b : Bool) → text_eq key e.0 ≡ b → cond b (Some e.1) (find text_cmp key es) ≡ Some x → test (key, x) ≡ false
+    by later fails true same is = let value : e.1 ≡ x = cc in subst (λ p. test p ≡ false) (λ i. (sym (text_same key e.0 same) i, value i)) fails
+    by later fails false other is = later is
 
-pub ids_at : (change : Change) (name id : Text) (o : Option (TextMap (Option Fact))) → get change name ≡ o → get (unwrap_or o empty) id ≡ option_map_or (λ ids. get ids id) o None
-ids_at change name id None is = refl
-ids_at change name id (Some ids) is = refl
+change_in-insert : (change : Change) (name : Text) (new : ReportChange) (m : Text) → change_in (insert change name new) m ≡ cond (text_eq m name) new (change_in change m)
+change_in-insert change name new m = ap (λ o. unwrap_or o no_change) (get-insert change name new m) ∙ by (text_eq m name)
+  where
+    by : (b : Bool) → unwrap_or (cond b (Some new) (get change m)) no_change ≡ cond b new (change_in change m)
+    by true = refl
+    by false = refl
 
 pub change_at-with_change : (change : Change) (name id : Text) (fact : Option Fact) (m q : Text) → change_at (with_change change name id fact) m q ≡ cond (text_eq m name && text_eq q id) (Some fact) (change_at change m q)
-change_at-with_change change name id fact m q =
-    ap (λ o. option_map_or (λ ids. get ids q) o None) (get-insert change name (insert (unwrap_or (get change name) empty) id fact) m)
-    ∙ by (text_eq m name) refl
+change_at-with_change change name id fact m q = ap (λ (x : ReportChange). get x.facts q) (change_in-insert change name new m) ∙ by (text_eq m name) refl
   where
-    by : (b : Bool) → text_eq m name ≡ b → option_map_or (λ ids. get ids q) (cond b (Some (insert (unwrap_or (get change name) empty) id fact)) (get change m)) None ≡ cond (b && text_eq q id) (Some fact) (change_at change m q)
+    new : ReportChange
+    new = record (change_in change name) { facts = insert (change_in change name).facts id fact }
+
+    by : (b : Bool) → text_eq m name ≡ b → get (cond b new (change_in change m)).facts q ≡ cond (b && text_eq q id) (Some fact) (change_at change m q)
     by true same =
-        get-insert (unwrap_or (get change name) empty) id fact q
-        ∙ ap (λ o. cond (text_eq q id) (Some fact) o) (ids_at change name q (get change name) refl ∙ ap (λ n. change_at change n q) (sym (text_same m name same)))
+        get-insert (change_in change name).facts id fact q
+        ∙ ap (λ n. cond (text_eq q id) (Some fact) (change_at change n q)) (sym (text_same m name same))
     by false other = refl
 
--- the things of each place of the change are among those that it touches
-pub untouched_place : (test : Thing → Bool) (before after : Repository) (change : Change) (name id : Text) → IsNever test (things_of_change before after change) → is_some (change_at change name id) ≡ true → IsNever test (things_at before after name id)
-untouched_place test before after change name id never changed = in_report (get change name) refl
+pub declared_in-with_change : (change : Change) (name id : Text) (fact : Option Fact) (m : Text) → declared_in (with_change change name id fact) m ≡ declared_in change m
+declared_in-with_change change name id fact m = ap (λ (x : ReportChange). x.declared) (change_in-insert change name new m) ∙ by (text_eq m name) refl
   where
-    each : Each (λ (r : Text × TextMap (Option Fact)). IsNever test (flat_map (λ e. things_at before after r.0 e.0) r.1.entries)) change.entries
-    each = never_flat test (λ r. flat_map (λ e. things_at before after r.0 e.0) r.1.entries) change.entries never
+    new : ReportChange
+    new = record (change_in change name) { facts = insert (change_in change name).facts id fact }
 
-    at_id : (ids : TextMap (Option Fact)) → IsNever test (flat_map (λ e. things_at before after name e.0) ids.entries) → (o : Option (Option Fact)) → get ids id ≡ o → is_some o ≡ true → IsNever test (things_at before after name id)
-    at_id ids here None is there = absurd (true≢false (sym there))
-    at_id ids here (Some fact) is there = each_found (λ e. IsNever test (things_at before after name e.0)) id fact ids.entries (never_flat test (λ e. things_at before after name e.0) ids.entries here) is
+    by : (b : Bool) → text_eq m name ≡ b → (cond b new (change_in change m)).declared ≡ declared_in change m
+    by true same = ap (declared_in change) (sym (text_same m name same))
+    by false other = refl
 
-    in_report : (o : Option (TextMap (Option Fact))) → get change name ≡ o → IsNever test (things_at before after name id)
-    in_report None is = absurd (true≢false (sym changed ∙ ap (λ o. is_some (option_map_or (λ (ids : TextMap (Option Fact)). get ids id) o None)) is))
-    in_report (Some ids) is = at_id ids (each_found (λ r. IsNever test (flat_map (λ e. things_at before after r.0 e.0) r.1.entries)) name ids change.entries each is) (get ids id) refl (sym (ap (λ o. is_some (option_map_or (λ (ids : TextMap (Option Fact)). get ids id) o None)) is) ∙ changed)
+change_at-with_declared : (change : Change) (name : Text) (value : Allowed) (m q : Text) → change_at (with_declared change name value) m q ≡ change_at change m q
+change_at-with_declared change name value m q = ap (λ (x : ReportChange). get x.facts q) (change_in-insert change name new m) ∙ by (text_eq m name) refl
+  where
+    new : ReportChange
+    new = record (change_in change name) { declared = Some value }
+
+    by : (b : Bool) → text_eq m name ≡ b → get (cond b new (change_in change m)).facts q ≡ change_at change m q
+    by true same = ap (λ n. change_at change n q) (sym (text_same m name same))
+    by false other = refl
+
+declared_in-with_declared : (change : Change) (name : Text) (value : Allowed) (m : Text) → declared_in (with_declared change name value) m ≡ option_or (value_for m (Some (name, value))) (declared_in change m)
+declared_in-with_declared change name value m = ap (λ (x : ReportChange). x.declared) (change_in-insert change name new m) ∙ by (text_eq m name)
+  where
+    new : ReportChange
+    new = record (change_in change name) { declared = Some value }
+
+    by : (b : Bool) → (cond b new (change_in change m)).declared ≡ option_or (cond b (Some value) None) (declared_in change m)
+    by true = refl
+    by false = refl
+
+-- ---- declared values
+
+pub change_at-with_values : (vs : List (Text × Allowed)) (change : Change) (m q : Text) → change_at (with_values vs change) m q ≡ change_at change m q
+change_at-with_values [] change m q = refl
+change_at-with_values (v ∷ vs) change m q = change_at-with_values vs (with_declared change v.0 v.1) m q ∙ change_at-with_declared change v.0 v.1 m q
+
+pub declared_in-with_values : (vs : List (Text × Allowed)) (change : Change) (m : Text) → declared_in (with_values vs change) m ≡ option_or (last_value m vs) (declared_in change m)
+declared_in-with_values [] change m = refl
+declared_in-with_values (v ∷ vs) change m =
+    declared_in-with_values vs (with_declared change v.0 v.1) m
+    ∙ ap (option_or (last_value m vs)) (declared_in-with_declared change v.0 v.1 m)
+    ∙ nested (last_value m vs) (value_for m (Some v)) (declared_in change m)
+  where
+    nested : (a b c : Option Allowed) → option_or a (option_or b c) ≡ option_or (option_or a b) c
+    nested None b c = refl
+    nested (Some x) b c = refl
+
+-- facts alone declare nothing
+pub declared_in-change_between : (opening copy : Repository) (places : List (Text × Text)) (m : Text) → declared_in (change_between opening copy places) m ≡ None
+declared_in-change_between opening copy [] m = refl
+declared_in-change_between opening copy (p ∷ ps) m = by (is_some (fact_at opening p.0 p.1) || is_some (fact_at copy p.0 p.1)) (declared_in-change_between opening copy ps m)
+  where
+    rest : Change
+    rest = change_between opening copy ps
+
+    by : (b : Bool) → declared_in rest m ≡ None → declared_in (cond b (with_change rest p.0 p.1 (fact_at copy p.0 p.1)) rest) m ≡ None
+    by true later = declared_in-with_change rest p.0 p.1 (fact_at copy p.0 p.1) m ∙ later
+    by false later = later
 
 -- ---- a place is in the change, or it stands as before
 
@@ -100,39 +155,52 @@ changed_or_same opening copy before after (p ∷ ps) name id left out =
 
 -- ---- what is untouched is shown as before
 
-alone : (a b : Bool) → a ≡ true → (a && b) ≡ false → b ≡ false
-alone true b is e = e
-alone false b is e = cc
+-- a test that fails shows nothing
+none_shown : (test : Fact → Bool) (o : Option Fact) → ((fact : Fact) → test fact ≡ false) → only test o ≡ None
+none_shown test None fails = refl
+none_shown test (Some fact) fails = ap (λ b. cond b (Some fact) None) (fails fact)
 
-alone_of_three : (a b c : Bool) → a ≡ true → (a && b && c) ≡ false → (b && c) ≡ false
-alone_of_three true b c is e = e
-alone_of_three false b c is e = cc
+not_passed : (test : Fact → Bool) (o : Option Fact) → option_map_or test o false ≡ false → only test o ≡ None
+not_passed test None fails = refl
+not_passed test (Some fact) fails = ap (λ b. cond b (Some fact) None) fails
 
-hidden_from_query : (name concept : Text) (period : Option Text) (fact : Fact) (o : Option Text) → concept_of fact.dims ≡ o
-    → IsNever (thing_eq (thing.Query name concept period)) (option_to_list (option_map (λ c. thing.Query name c (period_of fact.dims)) o))
-    → (option_eq text_eq (Some concept) o && option_eq text_eq period (period_of fact.dims)) ≡ false
-hidden_from_query name concept period fact None is never = refl
-hidden_from_query name concept period fact (Some c) is never =
-    alone_of_three (text_eq name name) (text_eq concept c) (option_eq text_eq period (period_of fact.dims)) (text_eq-refl name)
-    (never_parts (thing_eq (thing.Query name concept period)) (thing.Query name c (period_of fact.dims)) [] never).0
+hidden_both : (test : Fact → Bool) (before after : Repository) (name id : Text) → passes_at test before after name id ≡ false → only test (fact_at before name id) ≡ only test (fact_at after name id)
+hidden_both test before after name id fails =
+    let parts = or_parts (option_map_or test (fact_at before name id) false) (option_map_or test (fact_at after name id) false) fails in
+    not_passed test (fact_at before name id) parts.0 ∙ sym (not_passed test (fact_at after name id) parts.1)
 
--- a thing that is apart from an identifier and from its fact's cell and query shows nothing there
-hidden : (t : Thing) (id : Text) → thing_eq t (thing.Id (report_of t) id) ≡ false → (o : Option Fact) → IsNever (thing_eq t) (option_map_or (things_of_fact (report_of t)) o []) → shown t id o ≡ None
-hidden (thing.Report name) id apart o never = refl
-hidden (thing.Id name i) id apart o never = ap (λ b. cond b o None) (alone (text_eq name name) (text_eq i id) (text_eq-refl name) apart)
-hidden (thing.Cell name dims) id apart None never = refl
-hidden (thing.Cell name dims) id apart (Some fact) never =
-    let parts = never_parts (thing_eq (thing.Cell name dims)) (thing.Cell name fact.dims) (option_to_list (option_map (λ c. thing.Query name c (period_of fact.dims)) (concept_of fact.dims))) never in
-    ap (λ b. cond b (Some fact) None) (alone (text_eq name name) (dims_eq dims fact.dims) (text_eq-refl name) parts.0)
-hidden (thing.Query name concept period) id apart None never = refl
-hidden (thing.Query name concept period) id apart (Some fact) never =
-    let parts = never_parts (thing_eq (thing.Query name concept period)) (thing.Cell name fact.dims) (option_to_list (option_map (λ c. thing.Query name c (period_of fact.dims)) (concept_of fact.dims))) never in
-    ap (λ b. cond b (Some fact) None) (hidden_from_query name concept period fact (concept_of fact.dims) refl parts.1)
+-- what fails of each changed identifier fails of one of them
+of_changed : (test : Text × Option Fact → Bool) (change : Change) (name id : Text) → IsNever test (change_in change name).facts.entries → is_some (change_at change name id) ≡ true → (fact : Option Fact) × (test (id, fact) ≡ false)
+of_changed test change name id never changed = by (change_at change name id) refl changed
+  where
+    by : (o : Option (Option Fact)) → change_at change name id ≡ o → is_some o ≡ true → (fact : Option Fact) × (test (id, fact) ≡ false)
+    by None is there = absurd (true≢false (sym there))
+    by (Some fact) is there = (fact, never_found test id fact (change_in change name).facts.entries never is)
 
-pub shown_as_before : (t : Thing) (before after : Repository) (id : Text) → IsNever (thing_eq t) (things_at before after (report_of t) id) → shown t id (fact_at before (report_of t) id) ≡ shown t id (fact_at after (report_of t) id)
-shown_as_before t before after id never =
-    let old : List Thing = option_map_or (things_of_fact (report_of t)) (fact_at before (report_of t) id) [] in
-    let new : List Thing = option_map_or (things_of_fact (report_of t)) (fact_at after (report_of t) id) [] in
-    let parts = never_parts (thing_eq t) (thing.Id (report_of t) id) (old ++ new) never in
-    let both = never_appended (thing_eq t) old new parts.1 in
-    hidden t id parts.0 (fact_at before (report_of t) id) both.0 ∙ sym (hidden t id parts.0 (fact_at after (report_of t) id) both.1)
+pub shown_as_before : (t : Thing) (before after : Repository) (change : Change) (id : Text) → is_changed before after change t ≡ false → is_some (change_at change (report_of t) id) ≡ true
+    → shown t id (fact_at before (report_of t) id) ≡ shown t id (fact_at after (report_of t) id)
+shown_as_before (thing.Report name) before after change id untouched changed =
+    none_shown (λ fact. false) (fact_at before name id) (λ fact. refl) ∙ sym (none_shown (λ fact. false) (fact_at after name id) (λ fact. refl))
+shown_as_before (thing.Policy name) before after change id untouched changed =
+    none_shown (λ fact. false) (fact_at before name id) (λ fact. refl) ∙ sym (none_shown (λ fact. false) (fact_at after name id) (λ fact. refl))
+shown_as_before (thing.Id name i) before after change id untouched changed =
+    none_shown (λ fact. text_eq i id) (fact_at before name id) (λ fact. other) ∙ sym (none_shown (λ fact. text_eq i id) (fact_at after name id) (λ fact. other))
+  where
+    by : (b : Bool) → text_eq i id ≡ b → text_eq i id ≡ false
+    by true same = absurd (true≢false (sym changed ∙ ap (λ q. is_some (change_at change name q)) (sym (text_same i id same)) ∙ untouched))
+    by false apart = apart
+
+    other : text_eq i id ≡ false
+    other = by (text_eq i id) refl
+shown_as_before (thing.Cell name dims) before after change id untouched changed =
+    hidden_both (has_dims dims) before after name id (of_changed (λ e. passes_at (has_dims dims) before after name e.0) change name id untouched changed).1
+shown_as_before (thing.Range name sought upto) before after change id untouched changed =
+    by (is_within sought.after upto id) (of_changed (λ e. is_within sought.after upto e.0 && passes_at answers before after name e.0) change name id untouched changed).1
+  where
+    answers : Fact → Bool
+    answers = answers_query sought.concept sought.period
+
+    by : (within : Bool) → (within && passes_at answers before after name id) ≡ false
+        → only (λ fact. within && answers fact) (fact_at before name id) ≡ only (λ fact. within && answers fact) (fact_at after name id)
+    by true fails = hidden_both answers before after name id fails
+    by false fails = none_shown (λ fact. false) (fact_at before name id) (λ fact. refl) ∙ sym (none_shown (λ fact. false) (fact_at after name id) (λ fact. refl))

@@ -9,7 +9,7 @@ use Rattle.filing_model.specs.Text.{Text, text_cmp, text_eq}
 use Rattle.filing_model.proofs.Texts.{text_same, text_cmp-Equal, text_eq-refl}
 use Rattle.filing_model.proofs.Tests.{both_hold, first_holds, second_holds}
 use Rattle.filing_model.proofs.MapsOfLists.{tied_is_not_found}
-use Rattle.filing_laws.specs.NetChange.{find_map}
+use Rattle.filing_model.specs.Changes.{find_map}
 use Rattle.filing_laws.proofs.EachElement.{Each, each_mapped}
 
 -- ---- entries are found

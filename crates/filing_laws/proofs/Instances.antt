@@ -39,7 +39,7 @@ unchanged = played no_net_change_before
 pub reader_is_live : status_of 1 unchanged ≡ Live Amend
 reader_is_live = refl
 
-pub reader_is_untouched : ReadsAreUntouched 1 unchanged
+pub reader_is_untouched : ReadsAreUntouched Amend 1 unchanged
 reader_is_untouched = refl
 
 pub reader_was_told : replies_of 1 unchanged ≡ Absent ∷ []
@@ -63,7 +63,7 @@ duplicated = played no_duplicates_before
 pub second_is_live : status_of 2 duplicated ≡ Live Amend
 second_is_live = refl
 
-pub second_is_untouched : ReadsAreUntouched 2 duplicated
+pub second_is_untouched : ReadsAreUntouched Amend 2 duplicated
 second_is_untouched = refl
 
 pub second_replies_as_now : RepliesAlone Amend (repository duplicated) 2 duplicated

@@ -3,16 +3,19 @@ pub mod EachElement
 pub mod EqualThings
 pub mod FilteredFacts
 pub mod WithOneFact
+pub mod WithOneValue
 -- ---- sessions: not opened yet, and their replies as at their opening
 pub mod NotYetOpened
 pub mod OwnReplies
 -- ---- repositories that agree on what a session reads
 pub mod AgreeOnThings
+pub mod PagesAlike
 pub mod AnsweredAlike
 pub mod RunsAlike
 -- ---- what an entry changes, and what no entry touched
 pub mod EntryCases
 pub mod QuietEntries
+pub mod ReportsStay
 pub mod ChangedPlaces
 pub mod UntouchedThingsStand
 -- ---- one next reply, and histories that are played
@@ -33,6 +36,7 @@ pub mod LaidOver
 pub mod NetChanges
 pub mod FirstFound
 pub mod NewFacts
+pub mod UpdatesInTurn
 -- ---- histories that are read in order, and replies that are compared
 pub mod SameReplies
 pub mod ReadingOrders

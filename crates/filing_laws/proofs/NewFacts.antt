@@ -1,12 +1,12 @@
--- Where a change is laid over a repository that obeys, its new facts alone decide which cells are disallowed.
+-- Where a change is laid over a repository that obeys, its new facts alone decide which cells are disallowed, but for reports that are to declare a value.
 use Rattle.std.proofs.Common.{◌≡◌, ◌∙◌, ap, sym, refl, subst, Bool, true, false, cond, not, ◌&&◌, ◌||◌, List, [], ◌∷◌, map, filter, filter_map, Option, Some, None, is_some, option_map, option_and_then, unwrap_or, true≢false, Ordering, Less, Equal, Greater, is_gt}
 use Rattle.std.proofs.lemmas.Bool.{not-true}
 use Rattle.std.specs.List.{list_all, list_any, cons_option, find as find_in}
 use Rattle.std.specs.Option.{option_map_or, option_or}
 use Rattle.std.specs.Ordering.{ordering_reverse}
 use Rattle.std.specs.FinMap.Entries.{find, where_key, find-where_key, is_sorted-where_key}
-use Rattle.filing_model.specs.Text.{Text, text_cmp}
-use Rattle.filing_model.specs.TextMap.{TextMap, empty, get}
+use Rattle.filing_model.specs.Text.{Text, text_cmp, text_eq}
+use Rattle.filing_model.specs.TextMap.{TextMap, get}
 use Rattle.filing_model.specs.Dimensions.{Dims, dims_cmp, dims_eq}
 use Rattle.filing_model.specs.Facts.{Fact}
 use Rattle.filing_model.specs.Reports.{Report}
@@ -17,18 +17,18 @@ use Rattle.filing_model.specs.Replies as reply
 use Rattle.filing_model.specs.Replies.{Reply}
 use Rattle.filing_model.specs.Sessions.{report_obeys, repository_obeys, disallowed_cell, refusal_of}
 use Rattle.filing_model.specs.History.{repository}
-use Rattle.filing_model.specs.Touches.{Change, net_change_of}
+use Rattle.filing_model.specs.Changes.{ReportChange, Change, no_change, change_in, declared_in, with_facts, declaring_if, changed, laid_over, new_facts, least_among, least_changed, find_map, first_disallowed}
+use Rattle.filing_model.specs.Touches.{net_change_of}
 use Rattle.filing_model.specs.declared.duplicates.Allowed.{Allowed}
 use Rattle.filing_model.specs.declared.duplicates.Class.TheVariants.{Empty}
 use Rattle.filing_laws.specs.Obeying.{is_allowed}
-use Rattle.filing_laws.specs.NetChange.{with_facts, laid_over, new_facts, IsDisallowedCell, find_map, least_among, first_disallowed, least_disallowed_of, refusal_at, IsDecidedByNewFacts, EachDisallowedCellHoldsANewFact, EachDisallowedCellOfACopyHoldsANewFact, EachChangeIsDecidedByItsNewFacts, EachCopyIsDecidedByItsNewFacts}
+use Rattle.filing_laws.specs.NetChange.{IsDisallowedCell, least_disallowed_of, refusal_at, IsDecidedByNewFacts, EachDisallowedCellHoldsANewFact, EachDisallowedCellOfACopyHoldsANewFact, EachChangeIsDecidedByItsNewFacts, EachCopyIsDecidedByItsNewFacts}
 use Rattle.filing_laws.proofs.EachElement.{Each, OnEach, IsNever, never_parts}
 use Rattle.filing_model.proofs.EveryPair.{pairs_filter}
-use Rattle.filing_model.proofs.Texts.{text_cmp-Equal}
+use Rattle.filing_model.proofs.Texts.{text_cmp-Equal, text_same}
 use Rattle.filing_model.proofs.DimensionSets.{dims_same, dims_cmp-Equal, dims_cmp-total}
 use Rattle.filing_model.proofs.DisallowedCells.{obeys_where_no_cell_is_disallowed}
 use Rattle.filing_laws.proofs.FilteredFacts.{only, those_same}
-use Rattle.filing_laws.proofs.ChangedPlaces.{each_found, ids_at}
 use Rattle.filing_laws.proofs.AllowedCells.{has_these, passes_each, kept_where_passed, nothing_least, disallowed_is_there, entries_allowed, each_has, least_of, obeys_where_each_cell_is_allowed}
 use Rattle.filing_laws.proofs.VersionChain.{repository_obeys_always}
 use Rattle.filing_laws.proofs.LaidOver.{bare-with_facts, fact_in-with_facts, report_at-laid_over}
@@ -36,6 +36,19 @@ use Rattle.filing_laws.proofs.NetChanges.{each_net_change_makes_the_copy}
 use Rattle.filing_laws.proofs.FirstFound.{each_is_found, all_found, first_same}
 
 -- ---- which facts are new
+
+-- what holds of each entry holds of one that is found
+each_found : {X : Type 0} (P : Text × X → Type 0) (key : Text) (x : X) (es : List (Text × X)) → Each P es → find text_cmp key es ≡ Some x → P (key, x)
+each_found P key x [] each found = let apart : None ≡ Some x = found in cc
+each_found P key x (e ∷ es) each found = by (each_found P key x es each.1) (text_eq key e.0) refl found
+  where
+    by : (find text_cmp key es ≡ Some x → P (key, x)) → (b : Bool) → text_eq key e.0 ≡ b → cond b (Some e.1) (find text_cmp key es) ≡ Some x → P (key, x)
+    by later true same is = let value : e.1 ≡ x = cc in subst P (λ i. (sym (text_same key e.0 same) i, value i)) each.0
+    by later false other is = later is
+
+-- the facts that are put; a removal puts none
+abbrev put_facts : TextMap (Option Fact) → List Fact
+put_facts ids = filter_map (λ e. e.1) ids.entries
 
 module _ (test : Fact → Bool) where
   -- of what passes for none of the new facts
@@ -95,7 +108,7 @@ module _ (r : Report) (ids : TextMap (Option Fact)) where
   get-left_facts : (q : Text) → get left_facts q ≡ cond (is_left q) (get r.facts q) None
   get-left_facts q = find-where_key text_cmp is_left q (λ x same. ap is_left (sym (text_cmp-Equal q x same))) r.facts.entries
 
-  left_alike : (dims : Dims) (q : Text) → IsNever (has_dims dims) (new_facts ids) → only (has_dims dims) (get (with_facts ids.entries r).facts q) ≡ only (has_dims dims) (get left_facts q)
+  left_alike : (dims : Dims) (q : Text) → IsNever (has_dims dims) (put_facts ids) → only (has_dims dims) (get (with_facts ids.entries r).facts q) ≡ only (has_dims dims) (get left_facts q)
   left_alike dims q never =
       ap (only (has_dims dims)) (fact_in-with_facts ids.entries r q)
       ∙ by (get ids q) refl
@@ -108,17 +121,17 @@ module _ (r : Report) (ids : TextMap (Option Fact)) where
           ap (λ b. cond b (Some f) None) (each_found (λ e. OnEach (λ f. has_dims dims f ≡ false) e.1) q (Some f) ids.entries (none_new (has_dims dims) ids.entries never) is)
 
   -- it is allowed, as it was
-  allowed_without_new : report_obeys r ≡ true → (dims : Dims) → IsNever (has_dims dims) (new_facts ids) → is_allowed (with_facts ids.entries r).allowed (with_facts ids.entries r).facts.entries dims ≡ true
+  allowed_without_new : report_obeys r ≡ true → (dims : Dims) → IsNever (has_dims dims) (put_facts ids) → is_allowed (with_facts ids.entries r).allowed (with_facts ids.entries r).facts.entries dims ≡ true
   allowed_without_new holds dims never =
       ap (λ (x : Report). is_allowed x.allowed (with_facts ids.entries r).facts.entries dims) (bare-with_facts ids.entries r)
-      ∙ ap (λ es. allows r.allowed (class_of (facts_of es))) (those_same (has_dims dims) (with_facts ids.entries r).facts left_facts (λ q. left_alike dims q never))
+      ∙ ap (λ es. allows r.allowed (class_of (facts_of es))) (those_same (λ id fact. has_dims dims fact) (with_facts ids.entries r).facts left_facts (λ q. left_alike dims q never))
       ∙ (obeys_where_each_cell_is_allowed r.allowed left_facts.entries).0 (fewer_obey r.allowed (λ e. is_left e.0) r.facts.entries holds) dims
 
   -- so each disallowed cell has a new fact
-  new_where_disallowed : report_obeys r ≡ true → (dims : Dims) → is_allowed (with_facts ids.entries r).allowed (with_facts ids.entries r).facts.entries dims ≡ false → list_any (has_dims dims) (new_facts ids) ≡ true
-  new_where_disallowed holds dims disallowed = by (list_any (has_dims dims) (new_facts ids)) refl
+  new_where_disallowed : report_obeys r ≡ true → (dims : Dims) → is_allowed (with_facts ids.entries r).allowed (with_facts ids.entries r).facts.entries dims ≡ false → list_any (has_dims dims) (put_facts ids) ≡ true
+  new_where_disallowed holds dims disallowed = by (list_any (has_dims dims) (put_facts ids)) refl
     where
-      by : (b : Bool) → list_any (has_dims dims) (new_facts ids) ≡ b → b ≡ true
+      by : (b : Bool) → list_any (has_dims dims) (put_facts ids) ≡ b → b ≡ true
       by true any = refl
       by false never = absurd (true≢false (sym (allowed_without_new holds dims never) ∙ disallowed))
 
@@ -161,71 +174,83 @@ least_where p xs ys in_xs in_ys = by (least_dims (filter p xs)) refl (least_dims
 
 -- of one report: the least among the new facts is the least of all
 least_of_report : (r : Report) (ids : TextMap (Option Fact)) → report_obeys r ≡ true
-    → least_among (new_facts ids) (with_facts ids.entries r) ≡ least_disallowed (with_facts ids.entries r).allowed (with_facts ids.entries r).facts.entries
+    → least_among (put_facts ids) (with_facts ids.entries r) ≡ least_disallowed (with_facts ids.entries r).allowed (with_facts ids.entries r).facts.entries
 least_of_report r ids holds =
-    least_where (is_disallowed x.allowed (facts_of x.facts.entries)) (map (λ f. f.dims) (new_facts ids)) (map (λ f. f.dims) (facts_of x.facts.entries))
-    (λ d disallowed. any_map (dims_eq d) (λ f. f.dims) (new_facts ids) ∙ new_where_disallowed r ids holds d (entries_allowed x.allowed x.facts.entries d ∙ not-true _ disallowed))
+    least_where (is_disallowed x.allowed (facts_of x.facts.entries)) (map (λ f. f.dims) (put_facts ids)) (map (λ f. f.dims) (facts_of x.facts.entries))
+    (λ d disallowed. any_map (dims_eq d) (λ f. f.dims) (put_facts ids) ∙ new_where_disallowed r ids holds d (entries_allowed x.allowed x.facts.entries d ∙ not-true _ disallowed))
     (λ d disallowed. disallowed_is_there x.allowed (facts_of x.facts.entries) d disallowed)
   where
     x : Report
     x = with_facts ids.entries r
 
+-- so it is of a changed report; where it is to declare a value, all its cells are looked at
+least_of_changed : (r : Report) (change : ReportChange) → report_obeys r ≡ true
+    → least_changed change (changed change r) ≡ least_disallowed (changed change r).allowed (changed change r).facts.entries
+least_of_changed r change holds = by change.declared
+  where
+    by : (o : Option Allowed)
+        → option_map_or (λ value. least_disallowed (with_facts change.facts.entries (declaring_if o r)).allowed (with_facts change.facts.entries (declaring_if o r)).facts.entries) o
+        (least_among (put_facts change.facts) (with_facts change.facts.entries (declaring_if o r)))
+        ≡ least_disallowed (with_facts change.facts.entries (declaring_if o r)).allowed (with_facts change.facts.entries (declaring_if o r)).facts.entries
+    by None = least_of_report r change.facts holds
+    by (Some value) = refl
+
 -- ---- the repository
 
-abbrev ids_in : Change → Text → TextMap (Option Fact)
-ids_in change name = unwrap_or (get change name) empty
-
-laid_report : (c : Repository) (change : Change) (name : Text) (x : Report) → report_at (laid_over change c) name ≡ Some x → (r : Report) × (report_at c name ≡ Some r) × (with_facts (ids_in change name).entries r ≡ x)
+laid_report : (c : Repository) (change : Change) (name : Text) (x : Report) → report_at (laid_over change c) name ≡ Some x
+    → (r : Report) × (report_at c name ≡ Some r) × (changed (change_in change name) r ≡ x)
 laid_report c change name x there = by (report_at c name) refl (sym (report_at-laid_over change c name) ∙ there)
   where
-    by : (o : Option Report) → report_at c name ≡ o → option_map (with_facts (ids_in change name).entries) o ≡ Some x → (r : Report) × (report_at c name ≡ Some r) × (with_facts (ids_in change name).entries r ≡ x)
+    by : (o : Option Report) → report_at c name ≡ o → option_map (changed (change_in change name)) o ≡ Some x → (r : Report) × (report_at c name ≡ Some r) × (changed (change_in change name) r ≡ x)
     by None gone is = let apart : None ≡ Some x = is in cc
-    by (Some r) was is = let same : with_facts (ids_in change name).entries r ≡ x = cc in (r, was, same)
+    by (Some r) was is = let same : changed (change_in change name) r ≡ x = cc in (r, was, same)
 
 pub each_disallowed_cell_holds_a_new_fact : EachDisallowedCellHoldsANewFact
-each_disallowed_cell_holds_a_new_fact c change name dims holds cell =
+each_disallowed_cell_holds_a_new_fact c change name dims holds undeclared cell =
     let (r, was, same) = laid_report c change name cell.report cell.there in
-    let ids = ids_in change name in
-    let any = new_where_disallowed r ids (all_found report_obeys name r c.reports.entries holds was) dims (ap (λ (x : Report). is_allowed x.allowed x.facts.entries dims) same ∙ cell.disallowed) in
+    let ids = (change_in change name).facts in
+    let put : with_facts ids.entries r ≡ cell.report = ap (λ o. with_facts ids.entries (declaring_if o r)) (sym undeclared) ∙ same in
+    let any = new_where_disallowed r ids (all_found report_obeys name r c.reports.entries holds was) dims (ap (λ (x : Report). is_allowed x.allowed x.facts.entries dims) put ∙ cell.disallowed) in
     let new = some_new (has_dims dims) ids.entries ids.entries (each_is_found ids.entries ids.sorted) any in
-    record { id = new.id; fact = new.fact; new = sym (ids_at change name new.id (get change name) refl) ∙ new.found; in_cell = sym (dims_same dims new.fact.dims new.passes) }
+    record { id = new.id; fact = new.fact; new = new.found; in_cell = sym (dims_same dims new.fact.dims new.passes) }
 
 pub each_disallowed_cell_of_a_copy_holds_a_new_fact : EachDisallowedCellOfACopyHoldsANewFact
-each_disallowed_cell_of_a_copy_holds_a_new_fact h s name dims amendment cell =
-    each_disallowed_cell_holds_a_new_fact (repository h) (net_change_of s h) name dims (repository_obeys_always h amendment.lawful)
+each_disallowed_cell_of_a_copy_holds_a_new_fact h s name dims amendment undeclared cell =
+    each_disallowed_cell_holds_a_new_fact (repository h) (net_change_of s h) name dims (repository_obeys_always h amendment.lawful) undeclared
     (subst (λ c. IsDisallowedCell c name dims) (sym (each_net_change_makes_the_copy h s amendment)) cell)
 
 -- ---- the first disallowed cell
 
 first_is_least : (c : Repository) (change : Change) → repository_obeys c ≡ true → first_disallowed (laid_over change c) change ≡ least_disallowed_of (laid_over change c)
 first_is_least c change holds =
-    first_same (λ name ids. option_and_then (least_among (new_facts ids)) (report_at after name)) (λ name r. least_disallowed r.allowed r.facts.entries) change.entries after.reports.entries change.sorted after.reports.sorted
+    first_same (λ name x. option_and_then (least_changed x) (report_at after name)) (λ name r. least_disallowed r.allowed r.facts.entries) change.entries after.reports.entries change.sorted after.reports.sorted
     (λ name. by name (report_at after name) refl)
   where
     after : Repository
     after = laid_over change c
 
-    within : (name : Text) (x : Report) → report_at after name ≡ Some x → least_among (new_facts (ids_in change name)) x ≡ least_disallowed x.allowed x.facts.entries
+    within : (name : Text) (x : Report) → report_at after name ≡ Some x → least_changed (change_in change name) x ≡ least_disallowed x.allowed x.facts.entries
     within name x there =
         let (r, was, same) = laid_report c change name x there in
-        subst (λ (x : Report). least_among (new_facts (ids_in change name)) x ≡ least_disallowed x.allowed x.facts.entries) same (least_of_report r (ids_in change name) (all_found report_obeys name r c.reports.entries holds was))
+        subst (λ (x : Report). least_changed (change_in change name) x ≡ least_disallowed x.allowed x.facts.entries) same
+        (least_of_changed r (change_in change name) (all_found report_obeys name r c.reports.entries holds was))
 
-    among : (x : Report) (o : Option (TextMap (Option Fact))) → option_and_then (λ ids. option_and_then (least_among (new_facts ids)) (Some x)) o ≡ least_among (new_facts (unwrap_or o empty)) x
+    among : (x : Report) (o : Option ReportChange) → option_and_then (λ change. option_and_then (least_changed change) (Some x)) o ≡ least_changed (unwrap_or o no_change) x
     among x None = refl
-    among x (Some ids) = refl
+    among x (Some change) = refl
 
-    nowhere : (o : Option (TextMap (Option Fact))) → option_and_then {U = Dims} (λ ids. option_and_then (least_among (new_facts ids)) None) o ≡ None
+    nowhere : (o : Option ReportChange) → option_and_then {U = Dims} (λ change. option_and_then (least_changed change) None) o ≡ None
     nowhere None = refl
-    nowhere (Some ids) = refl
+    nowhere (Some change) = refl
 
     by : (name : Text) (p : Option Report) → report_at after name ≡ p
-        → option_and_then (λ ids. option_and_then (least_among (new_facts ids)) (report_at after name)) (get change name) ≡ option_and_then (λ (r : Report). least_disallowed r.allowed r.facts.entries) (report_at after name)
+        → option_and_then (λ x. option_and_then (least_changed x) (report_at after name)) (get change name) ≡ option_and_then (λ (r : Report). least_disallowed r.allowed r.facts.entries) (report_at after name)
     by name None gone =
-        ap (λ p. option_and_then (λ ids. option_and_then (least_among (new_facts ids)) p) (get change name)) gone
+        ap (λ p. option_and_then (λ x. option_and_then (least_changed x) p) (get change name)) gone
         ∙ nowhere (get change name)
         ∙ sym (ap (option_and_then (λ (r : Report). least_disallowed r.allowed r.facts.entries)) gone)
     by name (Some x) there =
-        ap (λ p. option_and_then (λ ids. option_and_then (least_among (new_facts ids)) p) (get change name)) there
+        ap (λ p. option_and_then (λ x. option_and_then (least_changed x) p) (get change name)) there
         ∙ among x (get change name)
         ∙ within name x there
         ∙ sym (ap (option_and_then (λ (r : Report). least_disallowed r.allowed r.facts.entries)) there)

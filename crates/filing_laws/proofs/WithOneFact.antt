@@ -5,7 +5,7 @@ use Rattle.filing_model.specs.Text.{Text, text_eq}
 use Rattle.filing_model.specs.TextMap.{insert}
 use Rattle.filing_model.specs.Facts.{Fact, Names}
 use Rattle.filing_model.specs.Reports.{Report}
-use Rattle.filing_model.specs.Repository.{Repository, report_at, fact_in, fact_at, with_fact, with_fact_at}
+use Rattle.filing_model.specs.Repository.{Repository, report_at, fact_in, fact_at, with_fact, with_report_at, with_fact_at}
 use Rattle.filing_model.proofs.Texts.{text_same}
 use Rattle.filing_model.proofs.TextMaps.{get-insert, get-remove}
 
@@ -27,7 +27,7 @@ names-with_fact r id (Some fact) = refl
 
 pub report_at-with_fact_at : (c : Repository) (name id : Text) (fact : Option Fact) (r : Report) (m : Text) → report_at c name ≡ Some r → report_at (with_fact_at c name id fact) m ≡ cond (text_eq m name) (Some (with_fact r id fact)) (report_at c m)
 report_at-with_fact_at c name id fact r m there =
-    ap (λ o. report_at (option_map_or (λ r. record c { reports = insert c.reports name (with_fact r id fact) }) o c) m) there
+    ap (λ o. report_at (option_map_or (λ r. with_report_at c name (with_fact r id fact)) o c) m) there
     ∙ get-insert c.reports name (with_fact r id fact) m
 
 -- a fact that is put or removed leaves the names of every report
@@ -39,7 +39,7 @@ names_at-with_fact_at c name id fact m = by (report_at c name) refl
     found r there false other = refl
 
     by : (o : Option Report) → report_at c name ≡ o → names_at (with_fact_at c name id fact) m ≡ names_at c m
-    by None gone = ap (λ o. names_at (option_map_or (λ r. record c { reports = insert c.reports name (with_fact r id fact) }) o c) m) gone
+    by None gone = ap (λ o. names_at (option_map_or (λ r. with_report_at c name (with_fact r id fact)) o c) m) gone
     by (Some r) there = ap (option_map (λ (r : Report). r.names)) (report_at-with_fact_at c name id fact r m there) ∙ found r there (text_eq m name) refl
 
 -- in a report that is there, the fact is new at that identifier, and each other is as before

@@ -6,5 +6,6 @@ pub mod Untouched
 pub mod Obeying
 pub mod Versions
 pub mod NetChange
+pub mod Updates
 pub mod SameReplies
 pub mod ReadingOrder

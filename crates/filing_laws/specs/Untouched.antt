@@ -12,8 +12,8 @@ abbrev pub RepliesAlone : Kind → Repository → ℕ → History → Type 0
 RepliesAlone kind c s h = replies_of s h ≡ solo_replies kind c (calls_of s h)
 
 -- nothing that the session has read was touched since its opening
-abbrev pub ReadsAreUntouched : ℕ → History → Type 0
-ReadsAreUntouched s h = first_conflict s (things_read (calls_of s h) (replies_of s h)) h ≡ None
+abbrev pub ReadsAreUntouched : Kind → ℕ → History → Type 0
+ReadsAreUntouched kind s h = first_conflict s (things_read kind (base_of s h) (calls_of s h)) h ≡ None
 
 -- each open session was told what it is told alone at the repository of its opening
 abbrev pub EachSessionRepliesAsAtItsOpening : Type 0
@@ -21,4 +21,12 @@ EachSessionRepliesAsAtItsOpening = (h : History) (s : ℕ) (kind : Kind) → IsL
 
 -- and where nothing that it has read was touched, what it is told alone at the repository as it is
 abbrev pub EachUntouchedSessionRepliesAsNow : Type 0
-EachUntouchedSessionRepliesAsNow = (h : History) (s : ℕ) (kind : Kind) → IsLawful h → status_of s h ≡ Live kind → ReadsAreUntouched s h → RepliesAlone kind (repository h) s h
+EachUntouchedSessionRepliesAsNow = (h : History) (s : ℕ) (kind : Kind) → IsLawful h → status_of s h ≡ Live kind → ReadsAreUntouched kind s h → RepliesAlone kind (repository h) s h
+
+-- the session has read the same things that it would read alone at this repository
+abbrev pub ReadsAlone : Kind → Repository → ℕ → History → Type 0
+ReadsAlone kind c s h = things_read kind (base_of s h) (calls_of s h) ≡ things_read kind c (calls_of s h)
+
+-- and it would read the same things there
+abbrev pub EachUntouchedSessionReadsAsNow : Type 0
+EachUntouchedSessionReadsAsNow = (h : History) (s : ℕ) (kind : Kind) → IsLawful h → status_of s h ≡ Live kind → ReadsAreUntouched kind s h → ReadsAlone kind (repository h) s h

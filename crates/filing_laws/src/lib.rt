@@ -9,7 +9,8 @@
 //! - `played`: lawful histories are those that steps make, each with its one next reply.
 //! - `versions`: each version of a lawful history obeys, and the versions are a chain.
 //! - `whole_runs`: a committed session ran whole at its commit, every other replied as at its opening, and nothing else changed the repository.
-//! - `net_change`: the net change of an untouched amendment makes its copy, and its new facts alone decide whether it is refused.
+//! - `net_change`: the net change of an untouched amendment makes its copy, and its new facts and declared values alone decide whether it is refused.
+//! - `updates`: the repository is the empty one with each accepted load and each committed net change laid over it.
 //! - `reading_order`: a history may be read from its first entry on, and the entry at which it departs is determined.
 #![tactic(auto)]
 
@@ -20,6 +21,7 @@ mod obeying;
 mod played;
 mod reading_order;
 mod untouched;
+mod updates;
 mod versions;
 mod whole_runs;
 
@@ -42,7 +44,9 @@ pub use reading_order::{
     lawful_in_order_is_lawful,
 };
 pub use untouched::{
-    each_session_replies_as_at_its_opening, each_untouched_session_replies_as_now,
+    each_session_replies_as_at_its_opening, each_untouched_session_reads_as_now,
+    each_untouched_session_replies_as_now,
 };
+pub use updates::each_repository_is_that_of_its_updates;
 pub use versions::{each_version_obeys, versions_are_a_chain};
 pub use whole_runs::{each_lawful_history_is_serial, each_order_of_steps_is_serial};

@@ -1,6 +1,6 @@
 //! Of sessions that read nothing that was touched since their opening.
 
-ghost use Rattle.filing_laws.specs.Untouched.{EachSessionRepliesAsAtItsOpening, EachUntouchedSessionRepliesAsNow};
+ghost use Rattle.filing_laws.specs.Untouched.{EachSessionRepliesAsAtItsOpening, EachUntouchedSessionRepliesAsNow, EachUntouchedSessionReadsAsNow};
 
 /// In a lawful history an open session's replies are those of its solo run at the repository of its opening.
 #[tactic(auto, using(crate::proofs::OwnReplies::own_replies))]
@@ -12,4 +12,10 @@ pub fn each_session_replies_as_at_its_opening()
 #[tactic(auto, using(crate::proofs::UntouchedIsSerial::serial))]
 pub fn each_untouched_session_replies_as_now()
     ensures { EachUntouchedSessionRepliesAsNow }
+{}
+
+/// And the things that it has read are those that it would read there.
+#[tactic(auto, using(crate::proofs::UntouchedIsSerial::reads_as_now))]
+pub fn each_untouched_session_reads_as_now()
+    ensures { EachUntouchedSessionReadsAsNow }
 {}
