@@ -3,11 +3,11 @@ use Rattle.std.proofs.Common.{◌≡◌, refl, ℕ, List, [], ◌∷◌, ◌++�
 use Rattle.std.specs.Prelude.{codes}
 use Rattle.filing_model.specs.TextMap.{empty, insert}
 use Rattle.filing_model.specs.Repository.{Repository}
-use Rattle.filing_model.specs.Replies.{Reply, Found, Cell, Conflict, Committed, Absent}
+use Rattle.filing_model.specs.Replies.{Reply, Found, Cell, Declared, Conflict, Committed, Absent}
 use Rattle.filing_model.specs.Things as thing
 use Rattle.filing_model.specs.History.{Commit, Entry, History, repository}
 use Rattle.filing_model.specs.Lawful.{IsLawful, IsNext}
-use Rattle.filing_model.specs.declared.duplicates.Allowed.TheVariants.{All}
+use Rattle.filing_model.specs.declared.duplicates.Allowed.TheVariants.{Never, All}
 use Rattle.filing_model.specs.declared.duplicates.Class.TheVariants.{Single, Complete}
 use Rattle.filing_model.proofs.Examples.Setting.{played, with_last_reply, holding, fact}
 use Rattle.filing_model.proofs.Examples.Histories.{r1, stored_run_lines, no_duplicates_lines}
@@ -98,6 +98,9 @@ other_class = refl
 
 pub other_identifiers : reply_eq told (Cell Complete (codes "a" ∷ [])) ≡ false
 other_identifiers = refl
+
+pub other_declared_value : reply_eq (Declared All) (Declared Never) ≡ false
+other_declared_value = refl
 
 pub other_fact : reply_eq (Found (fact (codes "x"))) (Found (fact (codes "y"))) ≡ false
 other_fact = refl

@@ -90,7 +90,7 @@ dim_cmp-total = then_total (on_total (λ d. d.0) nat_list_cmp_total) (on_total (
 pub dims_cmp-total : IsTotalOrder dims_cmp
 dims_cmp-total = lists_total dim_cmp-total
 
-nullable_Equal : (x y : Option Text) → option_cmp text_cmp x y ≡ Equal → x ≡ y
+pub nullable_Equal : (x y : Option Text) → option_cmp text_cmp x y ≡ Equal → x ≡ y
 nullable_Equal None None h = refl
 nullable_Equal None (Some y) h = absurd (true≢false (sym (ap is_eq h)))
 nullable_Equal (Some x) None h = absurd (true≢false (sym (ap is_eq h)))

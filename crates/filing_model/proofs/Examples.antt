@@ -4,6 +4,7 @@ pub mod Intervals
 pub mod Dimensions
 pub mod Facts
 pub mod Duplicates
+pub mod Things
 pub mod Tables
 pub mod ReadFact
 pub mod ReadReport

@@ -19,6 +19,9 @@ pub mod ByPairs
 pub mod AllowedClasses
 pub mod DisallowedCells
 pub mod MixedFacts
+-- ---- things and limits
+pub mod Things
+pub mod Limits
 -- ---- JSON texts, and what is read item by item
 pub mod JsonTexts
 pub mod Tries

@@ -30,3 +30,4 @@ pub mod DeclaredValue
 pub mod Fitted
 pub mod Writing
 pub mod Laws
+pub mod ThingLaws

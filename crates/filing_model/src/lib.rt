@@ -11,6 +11,7 @@ mod faults;
 mod kind;
 mod number_laws;
 mod text;
+mod thing_laws;
 
 pub use by_pairs::{PairedFact, allows, class_by_pairs, least_disallowed_by_pairs};
 pub use duplicate_laws::{
@@ -28,3 +29,4 @@ pub use number_laws::{
     only_spellings_are_numbers, short_spellings_have_their_number,
 };
 pub use text::is_same_text;
+pub use thing_laws::{limits_are_their_numbers, things_are_keys};

@@ -11,9 +11,9 @@ use Rattle.std.specs.String.{string_cmp, string_eq}
 use Rattle.std.specs.declared.alloc.Global.{Global}
 use Rattle.std.specs.Cmp.{tied_then}
 use Rattle.filing_model.specs.Text.{text_cmp}
-use Rattle.filing_model.specs.Dimensions.{dims_cmp, dims_eq}
+use Rattle.filing_model.specs.Dimensions.{dims_cmp, dims_eq, dims_hash}
 use Rattle.oim_fact.specs.Texts.{text_view}
-use Rattle.oim_fact.specs.Dims.{dims_view, dims_hash}
+use Rattle.oim_fact.specs.Dims.{dims_view}
 
 -- a dimension as the program holds it
 abbrev pub Held : Type 0

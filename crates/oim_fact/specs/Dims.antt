@@ -1,7 +1,5 @@
 -- What the pairs of a dimension set mean.
-use Rattle.std.specs.Prelude.{◌++◌, List, map, Option, Some, None, Result, Ok, Err, String, string_bytes}
-use Rattle.std.specs.Hash as fed
-use Rattle.std.specs.Hash.{HashWrites}
+use Rattle.std.specs.Prelude.{List, map, Option, Some, None, Result, Ok, Err, String, string_bytes}
 use Rattle.std.specs.declared.alloc.Global.{Global}
 use Rattle.filing_model.specs.Dimensions.{Dims}
 use Rattle.filing_model.specs.declared.faults.DimFault.{DimFault}
@@ -9,10 +7,6 @@ use Rattle.oim_fact.specs.Texts.{text_view}
 
 abbrev pub dims_view : List (String Global × Option (String Global)) → Dims
 dims_view pairs = map (λ p. (string_bytes p.0, text_view p.1)) pairs
-
--- what a hasher is fed of a set: as of its list
-abbrev pub dims_hash : Dims → HashWrites
-dims_hash dims = fed.slice (λ d. fed.str d.0 ++ fed.option fed.str d.1) dims
 
 -- the set, unless there is a fault
 abbrev pub unless : Option DimFault → Dims → Result Dims DimFault
