@@ -4,8 +4,10 @@ use Rattle.json.specs.Print.{quoted}
 use Rattle.filing_model.specs.Text.{Text}
 use Rattle.filing_model.specs.Reports.{Report}
 use Rattle.filing_model.specs.ReadReport as report
+use Rattle.filing_model.specs.ReadReport.{allowed_word}
+use Rattle.filing_model.specs.Calls.{Asked, Any, Without, Exactly}
 use Rattle.filing_model.specs.Things as thing
-use Rattle.filing_model.specs.Replies.{Reply, NoReport, Absent, Found, Cell, Page, ReadOnly, Taken, BadFact, Staged, Loaded, NameTaken, Disallowed, Opened, Closed, Committed, Conflict}
+use Rattle.filing_model.specs.Replies.{Reply, NoReport, Absent, Found, Cell, Page, ReadOnly, Taken, BadFact, Staged, Declared, Loaded, NameTaken, Disallowed, Opened, Closed, Committed, Conflict}
 use Rattle.filing_model.specs.Writing.{listed, nullable_text, dims_text, fact_text, report_text}
 use Rattle.filing_model.specs.declared.duplicates.Class.{Class}
 use Rattle.filing_model.specs.declared.duplicates.Class.TheVariants as class
@@ -69,13 +71,21 @@ bool_text false = codes "false"
 abbrev pub texts_text : List Text → Text
 texts_text texts = codes "[" ++ (listed false quoted texts ++ codes "]")
 
+-- true where any period was asked for, null where none
+abbrev pub asked_text : Asked → Text
+asked_text Any = codes "true"
+asked_text Without = codes "null"
+asked_text (Exactly period) = quoted period
+
 abbrev pub thing_text : thing.Thing → Text
 thing_text (thing.Report name) = codes "[\"report\"," ++ (quoted name ++ codes "]")
 thing_text (thing.Id name id) = codes "[\"id\"," ++ (quoted name ++ (codes "," ++ (quoted id ++ codes "]")))
 thing_text (thing.Cell name dims) = codes "[\"cell\"," ++ (quoted name ++ (codes "," ++ (dims_text dims ++ codes "]")))
-thing_text (thing.Query name concept period) =
-    codes "[\"query\"," ++ (quoted name ++ (codes ","
-    ++ (quoted concept ++ (codes "," ++ (nullable_text period ++ codes "]")))))
+thing_text (thing.Range name sought upto) =
+    codes "[\"range\"," ++ (quoted name ++ (codes ","
+    ++ (quoted sought.concept ++ (codes "," ++ (asked_text sought.period
+    ++ (codes "," ++ (nullable_text sought.after ++ (codes "," ++ (nullable_text upto ++ codes "]")))))))))
+thing_text (thing.Policy name) = codes "[\"policy\"," ++ (quoted name ++ codes "]")
 
 -- ---- replies
 
@@ -95,6 +105,7 @@ reply_text (Cell class ids) = codes "[\"cell\","
     ++ (word_text (class_word class) ++ (codes "," ++ (texts_text ids ++ codes "]")))
 reply_text (Page ids more) = codes "[\"page\"," ++ (texts_text ids ++ (codes "," ++ (bool_text more ++ codes "]")))
 reply_text Staged = codes "[\"staged\"]"
+reply_text (Declared value) = codes "[\"declared\"," ++ (word_text (allowed_word value) ++ codes "]")
 reply_text Taken = codes "[\"taken\"]"
 reply_text ReadOnly = codes "[\"read-only\"]"
 reply_text (BadFact fault) = bad_fact_text (trouble.Fit fault)

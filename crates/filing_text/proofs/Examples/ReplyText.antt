@@ -1,10 +1,13 @@
 -- Worked examples of the lines of replies.
-use Rattle.std.specs.Prelude.{◌≡◌, true, false, pos, negsuc, [], ◌∷◌, codes, None, Some, refl}
+use Rattle.std.specs.Prelude.{◌≡◌, true, false, pos, negsuc, [], ◌∷◌, codes, Option, None, Some, refl}
+use Rattle.filing_model.specs.Text.{Text}
 use Rattle.filing_model.specs.Dimensions.{Dims}
+use Rattle.filing_model.specs.Calls.{Asked, Any, Without, Exactly}
 use Rattle.filing_model.specs.Facts.{Written, Number}
 use Rattle.filing_model.specs.Things as thing
 use Rattle.filing_model.specs.ReadReport as report
-use Rattle.filing_model.specs.Replies.{Absent, Found, Cell, Page, ReadOnly, BadFact, Loaded, Disallowed, Committed, Conflict}
+use Rattle.filing_model.specs.Replies.{Absent, Found, Cell, Page, ReadOnly, BadFact, Declared, Loaded, Disallowed, Committed, Conflict}
+use Rattle.filing_model.specs.declared.duplicates.Allowed.TheVariants as allowed
 use Rattle.filing_model.specs.declared.duplicates.Class.TheVariants as class
 use Rattle.filing_model.specs.declared.faults.DimFault.TheVariants.{TooLong}
 use Rattle.filing_model.specs.declared.faults.FactFault.TheVariants.{UnboundPrefix}
@@ -73,15 +76,33 @@ pub a_cell_was_changed : reply_text (Conflict 3 (thing.Cell (codes "acme") asset
 unfolding filing_on_literals
 a_cell_was_changed = refl
 
-pub a_query_of_any_period : reply_text (Conflict 4 (thing.Query (codes "acme") (codes "ex:Assets") None))
-    ≡ codes "[\"conflict\",4,[\"query\",\"acme\",\"ex:Assets\",null]]"
-unfolding filing_on_literals
-a_query_of_any_period = refl
+-- a range of assets
+abbrev assets_of : Asked → Option Text → Option Text → thing.Thing
+assets_of period after upto =
+    thing.Range (codes "acme") (record { concept = codes "ex:Assets"; period = period; after = after }) upto
 
-pub a_query_of_one_period : reply_text (Conflict 4 (thing.Query (codes "acme") (codes "ex:Assets") (Some (codes "2024"))))
-    ≡ codes "[\"conflict\",4,[\"query\",\"acme\",\"ex:Assets\",\"2024\"]]"
+pub a_range_without_a_period : reply_text (Conflict 4 (assets_of Without None None))
+    ≡ codes "[\"conflict\",4,[\"range\",\"acme\",\"ex:Assets\",null,null,null]]"
 unfolding filing_on_literals
-a_query_of_one_period = refl
+a_range_without_a_period = refl
+
+pub a_range_of_any_period : reply_text (Conflict 4 (assets_of Any None (Some (codes "f9"))))
+    ≡ codes "[\"conflict\",4,[\"range\",\"acme\",\"ex:Assets\",true,null,\"f9\"]]"
+unfolding filing_on_literals
+a_range_of_any_period = refl
+
+pub a_range_of_one_period : reply_text (Conflict 4 (assets_of (Exactly (codes "2024")) (Some (codes "f1")) None))
+    ≡ codes "[\"conflict\",4,[\"range\",\"acme\",\"ex:Assets\",\"2024\",\"f1\",null]]"
+unfolding filing_on_literals
+a_range_of_one_period = refl
+
+pub a_value_was_declared : reply_text (Conflict 5 (thing.Policy (codes "acme"))) ≡ codes "[\"conflict\",5,[\"policy\",\"acme\"]]"
+unfolding filing_on_literals
+a_value_was_declared = refl
+
+pub a_declared_value : reply_text (Declared allowed.Never) ≡ codes "[\"declared\",\"none\"]"
+unfolding filing_on_literals
+a_declared_value = refl
 
 pub a_disallowed_cell : reply_text (Disallowed (codes "acme") class.Inconsistent (codes "f1" ∷ codes "f2" ∷ []))
     ≡ codes "[\"disallowed\",\"acme\",\"inconsistent\",[\"f1\",\"f2\"]]"
