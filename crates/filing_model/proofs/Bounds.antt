@@ -1,4 +1,4 @@
--- Proof that numbers are bounded: with `most_whole_digits` and `most_fraction_digits`, below 10^32 units.
+-- Proof that numbers are bounded: with `most_whole_digits` and `most_fraction_digits`, below 10^35 units.
 use Rattle.std.proofs.Common.{◌≡◌, ℕ, zero, suc, ◌+◌, ◌-◌, ◌*◌, ◌^◌, ◌<◌, ◌≤◌, nat_lt, Bool, true, false, ◌&&◌, [], ◌∷◌, ◌++◌, length, take, ℤ, nat_abs, Result, Ok, Err, refl, ap, sym, subst, ◌∙◌, arith, pow-add}
 use Rattle.std.proofs.Math.Nat.{mul-le-mul_right, mul-lt-mul_of_pos_right, pow-le-pow_right, pow-suc}
 use Rattle.std.proofs.lemmas.List.{length-append, take-append-drop}

@@ -20,7 +20,7 @@ pub record RawFact : Type 0 where
   pub decimals : Option ℤ
   pub links : Option Text
 
--- null, a text, or a number: its text as it was read, the number times 10^12, and its decimals, or none where it is exact
+-- null, a text, or a number: its text as it was read, the number in units, and its decimals, or none where it is exact
 pub data FactValue : Type 0 where
   Nil : FactValue
   Written : Text → FactValue

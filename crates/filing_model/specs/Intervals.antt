@@ -4,7 +4,7 @@ use Rattle.filing_model.specs.Numerals.{most_fraction_digits, most_whole_digits}
 use Rattle.filing_model.specs.declared.faults.NumberFault.{NumberFault}
 use Rattle.filing_model.specs.declared.faults.NumberFault.TheVariants.{DecimalsOutOfRange}
 
--- from -20 to 12
+-- from -20 to 15
 abbrev pub are_decimals : ℤ → Bool
 are_decimals d = int_le (neg_ℤ (pos most_whole_digits)) d && int_le d (pos most_fraction_digits)
 
@@ -13,12 +13,12 @@ abbrev pub accuracy_of : Option ℤ → Result (Option ℤ) NumberFault
 accuracy_of None = Ok None
 accuracy_of (Some d) = cond (are_decimals d) (Ok (Some d)) (Err DecimalsOutOfRange)
 
--- a closed interval, its ends in half units of 10^-12, so that they are whole
+-- a closed interval, its ends in half units, so that they are whole
 pub record Interval : Type 0 where
   pub low : ℤ
   pub high : ℤ
 
--- half a unit of the place d, in half units of 10^-12: 10^(12-d)
+-- half a unit of the place d, in half units: 10^(15-d)
 abbrev pub half_width : ℤ → ℕ
 half_width (pos d) = 10 ^ (most_fraction_digits - d)
 half_width (negsuc d) = 10 ^ (most_fraction_digits + suc d)
@@ -27,7 +27,7 @@ half_width (negsuc d) = 10 ^ (most_fraction_digits + suc d)
 abbrev pub around : ℤ → ℕ → Interval
 around middle half = record { low = middle -ℤ pos half; high = middle +ℤ pos half }
 
--- of n units of 10^-12 with these decimals; without decimals the one point
+-- of n units with these decimals; without decimals the one point
 abbrev pub interval_of : ℤ → Option ℤ → Interval
 interval_of n None = around (pos 2 *ℤ n) 0
 interval_of n (Some d) = around (pos 2 *ℤ n) (half_width d)

@@ -8,7 +8,7 @@ use Rattle.filing_model.specs.declared.faults.NumberFault.TheVariants.{NotANumbe
 
 -- The limits, from which every scale follows: digits after the point with trailing zeros dropped, and digits before it with leading zeros dropped.
 abbrev pub most_fraction_digits : ℕ
-most_fraction_digits = 12
+most_fraction_digits = 15
 
 abbrev pub most_whole_digits : ℕ
 most_whole_digits = 20
@@ -65,7 +65,7 @@ are_digits digits = nat_lt 0 (length digits) && list_all is_ascii_digit digits
 abbrev pub are_few : Text → Text → Bool
 are_few whole fraction = nat_le (length whole) most_whole_digits && nat_le (length fraction) most_fraction_digits
 
--- in units of 10^-12: the places below the last digit are filled up
+-- in units: the places below the last digit are filled up
 abbrev pub scaled : Text → Text → ℕ
 scaled whole fraction = place_sum (whole ++ fraction) * 10 ^ (most_fraction_digits - length fraction)
 
@@ -89,7 +89,7 @@ with_sign negative (Err fault) = Err fault
 abbrev pub number_of_body : Text → Result ℤ NumberFault
 number_of_body body = with_sign (is_negative body) (size_of (without_sign body))
 
--- the number times 10^12, or why there is none
+-- the number in units, or why there is none
 abbrev pub number_of : Text → Result ℤ NumberFault
 number_of text = number_of_body (without_blanks text)
 
@@ -133,7 +133,7 @@ pub record IsSpelling (s : Spelling) : Type 0 where
   pub digits : IsTrue (list_all is_ascii_digit (digits_of s))
   pub some_digit : 0 < length (digits_of s)
 
--- at most 20 whole digits after leading zeros are dropped, and 12 fraction digits after trailing zeros are
+-- at most 20 whole digits after leading zeros are dropped, and 15 fraction digits after trailing zeros are
 pub record IsShort (s : Spelling) : Type 0 where
   pub few_whole : length (without_front is_zero s.whole) ≤ most_whole_digits
   pub few_fraction : length (without_end is_zero (fraction_digits s.fraction)) ≤ most_fraction_digits
@@ -143,7 +143,7 @@ is_minus_sign Unsigned = false
 is_minus_sign Plus = false
 is_minus_sign Minus = Bool.true
 
--- n units of 10^-12 are the signed digits, divided by 10 for each digit after the point
+-- n units are the signed digits, divided by 10 for each digit after the point
 abbrev pub IsNumberOf : Spelling → ℤ → Type 0
 IsNumberOf s n = n *ℤ pos (10 ^ length (fraction_digits s.fraction)) ≡ signed (is_minus_sign s.sign) (place_sum (digits_of s) * 10 ^ most_fraction_digits)
 

@@ -5,9 +5,9 @@ use thiserror::Error;
 pub enum NumberFault {
     #[error("not a decimal numeral")]
     NotANumber,
-    #[error("more than 20 whole digits or more than 12 fraction digits")]
+    #[error("more than 20 whole digits or more than 15 fraction digits")]
     TooLarge,
-    #[error("decimals are from -20 to 12")]
+    #[error("decimals are from -20 to 15")]
     DecimalsOutOfRange,
 }
 
@@ -46,9 +46,9 @@ pub enum FactFault {
     Misplaced,
     #[error("not a decimal numeral")]
     NotANumber,
-    #[error("more than 20 whole digits or more than 12 fraction digits")]
+    #[error("more than 20 whole digits or more than 15 fraction digits")]
     TooLarge,
-    #[error("decimals are from -20 to 12")]
+    #[error("decimals are from -20 to 15")]
     DecimalsOutOfRange,
 }
 

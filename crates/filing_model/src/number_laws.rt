@@ -18,7 +18,7 @@ pub fn only_spellings_are_numbers()
     ensures { OnlySpellingsAreNumbers }
 {}
 
-/// A number has at most 20 digits before the point and 12 behind it.
+/// A number has at most 20 digits before the point and 15 behind it.
 pub fn numbers_are_bounded()
     ensures { NumbersAreBounded }
 {}

@@ -129,14 +129,14 @@ fn bad_number(draft: &mut Draft, case: u32, number: Parts) -> Parts {
         6 | 7 => Parts {
             value: draft.pick(&[
                 "\"123456789012345678901\"",
-                "\"0.1234567890123\"",
+                "\"0.1234567890123456\"",
                 "\"1e20\"",
             ]),
             ..number
         },
         8 | 9 => Parts {
             value: "\"100\"",
-            decimals: draft.pick(&["13", "-21", "9223372036854775807"]),
+            decimals: draft.pick(&["16", "-21", "9223372036854775807"]),
             ..number
         },
         10 => Parts {

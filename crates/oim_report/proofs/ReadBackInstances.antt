@@ -142,7 +142,7 @@ names = record {
 abbrev thousand : Fact
 thousand = record {
   dims = dims;
-  value = Number (codes "1000") (pos 1000000000000000) (Some (negsuc 2));
+  value = Number (codes "1000") (pos 1000000000000000000) (Some (negsuc 2));
   links = links_text;
 }
 

@@ -1,13 +1,13 @@
 -- Bounds of numbers and intervals, by which no sum leaves 128 bits.
 --
--- A unit is 10^-12: the last place that a numeral may have behind its point (`most_fraction_digits`). Numbers are
+-- A unit is 10^-15: the last place that a numeral may have behind its point (`most_fraction_digits`). Numbers are
 -- counted
 -- in units, so they are whole, and the ends of intervals in half units.
 use Rattle.std.specs.Prelude.{ℕ, ◌+◌, ◌*◌, ◌^◌, ◌<◌, ◌≤◌, ℤ, ◌≤ℤ◌, nat_abs}
 use Rattle.filing_model.specs.Numerals.{most_fraction_digits, most_whole_digits}
 use Rattle.filing_model.specs.Intervals.{Interval}
 
--- no number reaches so many units, 10^32
+-- no number reaches so many units, 10^35
 abbrev pub number_limit : ℕ
 number_limit = 10 ^ (most_whole_digits + most_fraction_digits)
 

@@ -12,12 +12,12 @@ use filing_model::NumberFault;
 use std::marker::Model;
 
 /// The most digits behind the point of a numeral, trailing zeros dropped. The last of these places is a unit.
-pub(crate) const MOST_FRACTION_DIGITS: usize = 12;
+pub(crate) const MOST_FRACTION_DIGITS: usize = 15;
 
 /// The most digits before the point of a numeral, leading zeros dropped.
 pub(crate) const MOST_WHOLE_DIGITS: usize = 20;
 
-/// An exact decimal number, of at most `MOST_WHOLE_DIGITS` (20) digits before the point and `MOST_FRACTION_DIGITS` (12) behind it. Contracts see it as a whole number of units, so numbers that are spelled in other ways are equal: `-0.0` is `0`, and `1.50` is `1.5`.
+/// An exact decimal number, of at most `MOST_WHOLE_DIGITS` (20) digits before the point and `MOST_FRACTION_DIGITS` (15) behind it. Contracts see it as a whole number of units, so numbers that are spelled in other ways are equal: `-0.0` is `0`, and `1.50` is `1.5`.
 #[derive(Clone, Copy, Debug, PartialEq, Eq)]
 pub struct Decimal {
     units: i128,

@@ -25,15 +25,15 @@ written text = with assets (Written text)
 
 -- a whole number, without decimals
 abbrev exact : Text → ℕ → Fact
-exact text n = with assets (Number text (pos (n * 10 ^ 12)) None)
+exact text n = with assets (Number text (pos (n * 10 ^ 15)) None)
 
 -- a whole number rounded to units of 10 ^ places
 abbrev rounded : Text → ℕ → ℕ → Fact
-rounded text n places = with assets (Number text (pos (n * 10 ^ 12)) (Some (neg_ℤ (pos places))))
+rounded text n places = with assets (Number text (pos (n * 10 ^ 15)) (Some (neg_ℤ (pos places))))
 
 -- the number 1, with digits after the point
 abbrev one_at : Text → ℕ → Fact
-one_at text places = with assets (Number text (pos (10 ^ 12)) (Some (pos places)))
+one_at text places = with assets (Number text (pos (10 ^ 15)) (Some (pos places)))
 
 -- ---- pairs
 
@@ -73,7 +73,7 @@ neighbours_share_their_end = refl
 pub an_exact_number_at_the_end : pair_of (rounded (codes "1000") 1000 3) (exact (codes "1500") 1500) ≡ pair.Consistent
 an_exact_number_at_the_end = refl
 
-pub an_exact_number_past_the_end : pair_of (rounded (codes "1000") 1000 3) (with assets (Number (codes "1500.000000000001") (pos 1500000000000001) None)) ≡ pair.Inconsistent
+pub an_exact_number_past_the_end : pair_of (rounded (codes "1000") 1000 3) (with assets (Number (codes "1500.000000000000001") (pos 1500000000000000001) None)) ≡ pair.Inconsistent
 an_exact_number_past_the_end = refl
 
 -- ---- classes

@@ -26,10 +26,10 @@ fitted concept value decimals = fit_of names (raw (of_concept concept) value dec
 pub a_text : fitted (codes "ex:Name") (Some (codes "Acme")) None ≡ Ok (fact (of_concept (codes "ex:Name")) (Written (codes "Acme")))
 a_text = refl
 
-pub a_number_keeps_its_text : fitted (codes "ex:Assets") (Some (codes " +1000.0")) (Some (neg_ℤ (pos 3))) ≡ Ok (fact (of_concept (codes "ex:Assets")) (Number (codes " +1000.0") (pos 1000000000000000) (Some (neg_ℤ (pos 3)))))
+pub a_number_keeps_its_text : fitted (codes "ex:Assets") (Some (codes " +1000.0")) (Some (neg_ℤ (pos 3))) ≡ Ok (fact (of_concept (codes "ex:Assets")) (Number (codes " +1000.0") (pos 1000000000000000000) (Some (neg_ℤ (pos 3)))))
 a_number_keeps_its_text = refl
 
-pub an_exact_number : fitted (codes "ex:Assets") (Some (codes "6")) None ≡ Ok (fact (of_concept (codes "ex:Assets")) (Number (codes "6") (pos 6000000000000) None))
+pub an_exact_number : fitted (codes "ex:Assets") (Some (codes "6")) None ≡ Ok (fact (of_concept (codes "ex:Assets")) (Number (codes "6") (pos 6000000000000000) None))
 an_exact_number = refl
 
 pub null_drops_its_decimals : fitted (codes "ex:Assets") None (Some (pos 99)) ≡ Ok (fact (of_concept (codes "ex:Assets")) Nil)
@@ -73,7 +73,7 @@ a_unit_beside_a_text = refl
 pub a_unit_beside_null : fit_of names (raw ((codes "concept", Some (codes "ex:Name")) ∷ (codes "unit", Some (codes "ex:EUR")) ∷ []) None None) ≡ Err Misplaced
 a_unit_beside_null = refl
 
-pub a_unit_beside_a_number : fit_of names (raw ((codes "concept", Some (codes "ex:Assets")) ∷ (codes "unit", Some (codes "ex:EUR")) ∷ []) (Some (codes "1")) None) ≡ Ok (fact ((codes "concept", Some (codes "ex:Assets")) ∷ (codes "unit", Some (codes "ex:EUR")) ∷ []) (Number (codes "1") (pos 1000000000000) None))
+pub a_unit_beside_a_number : fit_of names (raw ((codes "concept", Some (codes "ex:Assets")) ∷ (codes "unit", Some (codes "ex:EUR")) ∷ []) (Some (codes "1")) None) ≡ Ok (fact ((codes "concept", Some (codes "ex:Assets")) ∷ (codes "unit", Some (codes "ex:EUR")) ∷ []) (Number (codes "1") (pos 1000000000000000) None))
 a_unit_beside_a_number = refl
 
 -- the concept's prefix is looked at before the other names, and all names before the rest
@@ -86,5 +86,5 @@ no_number = refl
 pub a_number_too_large : fitted (codes "ex:Assets") (Some (codes "100000000000000000000")) (Some (pos 99)) ≡ Err TooLarge
 a_number_too_large = refl
 
-pub decimals_out_of_range : fitted (codes "ex:Assets") (Some (codes "1")) (Some (pos 13)) ≡ Err DecimalsOutOfRange
+pub decimals_out_of_range : fitted (codes "ex:Assets") (Some (codes "1")) (Some (pos 16)) ≡ Err DecimalsOutOfRange
 decimals_out_of_range = refl

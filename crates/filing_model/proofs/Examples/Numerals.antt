@@ -3,28 +3,31 @@ use Rattle.std.specs.Prelude.{◌≡◌, ◌^◌, ◌-◌, pos, neg_ℤ, Ok, Err
 use Rattle.filing_model.specs.Numerals.{number_of}
 use Rattle.filing_model.specs.declared.faults.NumberFault.TheVariants.{NotANumber, TooLarge}
 
-pub the_greatest_number : number_of (codes "99999999999999999999.999999999999") ≡ Ok (pos (10 ^ 32 - 1))
+pub the_greatest_number : number_of (codes "99999999999999999999.999999999999999") ≡ Ok (pos (10 ^ 35 - 1))
 the_greatest_number = refl
 
 pub a_whole_digit_too_many : number_of (codes "100000000000000000000") ≡ Err TooLarge
 a_whole_digit_too_many = refl
 
-pub outer_zeros_do_not_count : number_of (codes "0001.5000000000000") ≡ Ok (pos 1500000000000)
+pub outer_zeros_do_not_count : number_of (codes "0001.5000000000000000") ≡ Ok (pos 1500000000000000)
 outer_zeros_do_not_count = refl
 
-pub a_fraction_digit_too_many : number_of (codes "0.0000000000001") ≡ Err TooLarge
+pub a_fraction_digit_too_many : number_of (codes "0.0000000000000001") ≡ Err TooLarge
 a_fraction_digit_too_many = refl
 
-pub a_plus_and_no_whole_digit : number_of (codes "+.5") ≡ Ok (pos 500000000000)
+pub thirteen_fraction_digits : number_of (codes "0.0000000000001") ≡ Ok (pos 100)
+thirteen_fraction_digits = refl
+
+pub a_plus_and_no_whole_digit : number_of (codes "+.5") ≡ Ok (pos 500000000000000)
 a_plus_and_no_whole_digit = refl
 
-pub a_point_and_no_fraction_digit : number_of (codes "5.") ≡ Ok (pos 5000000000000)
+pub a_point_and_no_fraction_digit : number_of (codes "5.") ≡ Ok (pos 5000000000000000)
 a_point_and_no_fraction_digit = refl
 
 pub minus_zero_is_zero : number_of (codes "-0.0") ≡ number_of (codes "0")
 minus_zero_is_zero = refl
 
-pub a_negative_number : number_of (codes "-12.5") ≡ Ok (neg_ℤ (pos 12500000000000))
+pub a_negative_number : number_of (codes "-12.5") ≡ Ok (neg_ℤ (pos 12500000000000000))
 a_negative_number = refl
 
 pub a_point_alone : number_of (codes ".") ≡ Err NotANumber
@@ -42,7 +45,7 @@ the_empty_text = refl
 pub blanks_alone : number_of (codes " \t") ≡ Err NotANumber
 blanks_alone = refl
 
-pub outer_blanks_are_dropped : number_of (codes " \t-1.5\r\n") ≡ Ok (neg_ℤ (pos 1500000000000))
+pub outer_blanks_are_dropped : number_of (codes " \t-1.5\r\n") ≡ Ok (neg_ℤ (pos 1500000000000000))
 outer_blanks_are_dropped = refl
 
 pub an_inner_blank : number_of (codes "1 5") ≡ Err NotANumber

@@ -59,7 +59,7 @@ pub facts_are_fitted : read_literal (report_with bound (codes "{\"b\":{\"value\"
       facts = from_entries (
           ([], record { dims = (codes "concept", Some (codes "ex:Name")) ∷ (codes "ex:d", None) ∷ []; value = Nil; links = None })
           ∷ (codes "a", record { dims = (codes "concept", Some (codes "ex:Name")) ∷ []; value = Written (codes "1000"); links = None })
-          ∷ (codes "b", record { dims = (codes "concept", Some (codes "ex:Assets")) ∷ []; value = Number (codes "1000") (pos 1000000000000000) (Some (negsuc 2)); links = None })
+          ∷ (codes "b", record { dims = (codes "concept", Some (codes "ex:Assets")) ∷ []; value = Number (codes "1000") (pos 1000000000000000000) (Some (negsuc 2)); links = None })
           ∷ []);
     })
 unfolding filing_on_literals

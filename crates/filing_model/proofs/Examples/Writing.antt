@@ -9,12 +9,12 @@ use Rattle.filing_model.specs.ReadReport.{ReportFault}
 use Rattle.filing_model.proofs.Examples.ReadFact.{raw}
 use Rattle.filing_model.proofs.Examples.ReadReport.{read_literal, report_with, bound, basic}
 
-pub thousands : fact_text (record { dims = (codes "concept", Some (codes "ex:Assets")) ∷ []; value = Number (codes "1000") (pos 1000000000000000) (Some (negsuc 2)); links = None })
+pub thousands : fact_text (record { dims = (codes "concept", Some (codes "ex:Assets")) ∷ []; value = Number (codes "1000") (pos 1000000000000000000) (Some (negsuc 2)); links = None })
     ≡ codes "{\"decimals\":-3,\"dimensions\":{\"concept\":\"ex:Assets\"},\"value\":\"1000\"}"
 unfolding filing_on_literals
 thousands = refl
 
-pub exact_number_as_it_was_read : fact_text (record { dims = (codes "concept", Some (codes "ex:Assets")) ∷ []; value = Number (codes " +01.0 ") (pos 1000000000000) None; links = None })
+pub exact_number_as_it_was_read : fact_text (record { dims = (codes "concept", Some (codes "ex:Assets")) ∷ []; value = Number (codes " +01.0 ") (pos 1000000000000000) None; links = None })
     ≡ codes "{\"dimensions\":{\"concept\":\"ex:Assets\"},\"value\":\" +01.0 \"}"
 unfolding filing_on_literals
 exact_number_as_it_was_read = refl

@@ -31,7 +31,7 @@ no_fact = refl
 
 pub a_number : reply_text (Found (record {
   dims = (codes "concept", Some (codes "ex:Assets")) ∷ [];
-  value = Number (codes "1000") (pos 1000000000000000) (Some (negsuc 2));
+  value = Number (codes "1000") (pos 1000000000000000000) (Some (negsuc 2));
   links = None;
 }))
     ≡ codes "[\"fact\",{\"decimals\":-3,\"dimensions\":{\"concept\":\"ex:Assets\"},\"value\":\"1000\"}]"

@@ -210,7 +210,7 @@ pub disallowed_commit : told (load_with (codes ",\"features\":{\"xbrl:allowedDup
     ∷ codes "[\"add\",\"s1\",\"r1\",\"b\",{\"value\":\"1500\",\"dimensions\":{\"concept\":\"ex:Assets\"}}]"
     ∷ codes "[\"commit\",\"s1\"]"
     ∷ open_s1
-    ∷ codes "[\"add\",\"s1\",\"r1\",\"c\",{\"value\":\"1500.000000000001\",\"dimensions\":{\"concept\":\"ex:Assets\"}}]"
+    ∷ codes "[\"add\",\"s1\",\"r1\",\"c\",{\"value\":\"1500.000000000000001\",\"dimensions\":{\"concept\":\"ex:Assets\"}}]"
     ∷ codes "[\"commit\",\"s1\"]"
     ∷ codes "[\"commit\",\"s1\"]"
     ∷ [])
@@ -234,7 +234,7 @@ pub refused_facts : told (load_r1
     ∷ codes "[\"add\",\"s1\",\"r1\",\"a\",{\"value\":\"1\",\"dimensions\":{\"concept\":\"ex:Name\",\"period\":null}}]"
     ∷ codes "[\"add\",\"s1\",\"r1\",\"a\",{\"value\":\"1\",\"dimensions\":{}}]"
     ∷ codes "[\"add\",\"s1\",\"r1\",\"a\",{\"value\":\"1\",\"decimals\":0,\"dimensions\":{\"concept\":\"ex:Name\"}}]"
-    ∷ codes "[\"add\",\"s1\",\"r1\",\"a\",{\"value\":\"1\",\"decimals\":13,\"dimensions\":{\"concept\":\"ex:Assets\"}}]"
+    ∷ codes "[\"add\",\"s1\",\"r1\",\"a\",{\"value\":\"1\",\"decimals\":16,\"dimensions\":{\"concept\":\"ex:Assets\"}}]"
     ∷ [])
     ≡ codes "[\"loaded\",1]"
     ∷ codes "[\"opened\"]"
