@@ -26,6 +26,10 @@ pub mod PlayedHistories
 pub mod AllowedCells
 pub mod VersionChain
 pub mod RisingNumbers
+pub mod NewestNumbers
+pub mod Stamps
+pub mod TouchedRanges
+pub mod MarkStamps
 -- ---- serial validation: each session's whole run, and the repository turn by turn
 pub mod SessionRuns
 pub mod UncommittedLeaveNothing
@@ -43,6 +47,7 @@ pub mod ReadingOrders
 -- ---- the laws at worked histories and reports
 pub mod Instances
 pub mod NumberInstances
+pub mod MarkInstances
 pub mod WholeRunInstances
 pub mod NetChangeInstances
 pub mod ReadingOrderInstances

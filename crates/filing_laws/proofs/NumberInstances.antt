@@ -9,7 +9,8 @@ use Rattle.filing_model.specs.Touches.{last_touch}
 use Rattle.filing_model.proofs.Examples.Setting.{played}
 use Rattle.filing_model.proofs.Examples.Histories.{r1, earliest_thing_lines, no_net_change_lines}
 use Rattle.filing_laws.specs.Numbers.{IsEntryOf, numbers, has_opening, greatest_touch}
-use Rattle.filing_laws.proofs.RisingNumbers.{numbers_rise_by_one, each_number_is_the_count, numbers_tell_what_is_later, each_touch_is_the_greatest, stamps_tell_the_last_touch}
+use Rattle.filing_laws.proofs.RisingNumbers.{numbers_rise_by_one, each_number_is_the_count, numbers_tell_what_is_later}
+use Rattle.filing_laws.proofs.Stamps.{each_touch_is_the_greatest, stamps_tell_the_last_touch}
 use Rattle.filing_laws.proofs.Instances.{played_is_lawful}
 
 -- a load and three commits, of which the first changes f2, and both others f1. Session 1 opened before them all, session 3 after the first, and session 4 after the second

@@ -1,4 +1,5 @@
 pub mod Numbers
+pub mod Marks
 pub mod Played
 pub mod WholeRuns
 pub mod NextReply

@@ -6,6 +6,7 @@
 //! - `untouched`: a session whose reads nobody touched was told what it is told alone, at its opening and now.
 //! - `obeying`: a report obeys its allowed duplicates exactly where it has no disallowed cell.
 //! - `numbers`: the numbers of loads and commits rise by one, and tell what was touched since an opening.
+//! - `marks`: the stamps of ranges are the greatest of the marks that commits leave in them.
 //! - `played`: lawful histories are those that steps make, each with its one next reply.
 //! - `versions`: each version of a lawful history obeys, and the versions are a chain.
 //! - `whole_runs`: a committed session ran whole at its commit, every other replied as at its opening, and nothing else changed the repository.
@@ -14,6 +15,7 @@
 //! - `reading_order`: a history may be read from its first entry on, and the entry at which it departs is determined.
 #![tactic(auto)]
 
+mod marks;
 mod net_change;
 mod next_reply;
 mod numbers;
@@ -25,6 +27,10 @@ mod updates;
 mod versions;
 mod whole_runs;
 
+pub use marks::{
+    each_mark_is_the_greatest, each_range_has_the_greatest_of_its_marks,
+    ranges_are_touched_by_marks,
+};
 pub use net_change::{
     each_change_is_decided_by_its_new_facts, each_commit_lays_its_net_change,
     each_disallowed_cell_holds_a_new_fact, each_net_change_makes_the_copy,
