@@ -25,6 +25,9 @@ pub mod Limits
 -- ---- JSON texts, and what is read item by item
 pub mod JsonTexts
 pub mod Tries
+pub mod ReadValues
+pub mod WrittenValues
+pub mod DeclaredValues
 -- ---- histories
 pub mod NextReply
 -- ---- examples that compute

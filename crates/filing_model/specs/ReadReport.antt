@@ -1,8 +1,9 @@
 -- Reading a report (xBRL-JSON 1.0; the feature `xbrl:allowedDuplicates` of Open Information Model 1.0). Members at the top other than `documentInfo` and `facts` are passed over. The order of the faults, that a URI has one prefix and that numbers are whole are the project's own.
-use Rattle.std.specs.Prelude.{ℕ, if◌then◌else◌, List, [], ◌∷◌, map, codes, Option, None, Some, Result, Ok, Err, ok_or, option_and_then}
+use Rattle.std.specs.Prelude.{ℕ, nat_le, if◌then◌else◌, List, [], ◌∷◌, map, codes, Option, None, Some, Result, Ok, Err, ok_or, option_and_then}
 use Rattle.std.specs.FinMap.Entries.{find}
-use Rattle.serde_json.specs.Data.{Data, object}
+use Rattle.serde_json.specs.Data.{Data, object, depth}
 use Rattle.serde_json.specs.Find.{get, as_str}
+use Rattle.serde_json.specs.Read.{max_depth}
 use Rattle.serde_json.specs.Written.{has_float, compact_text}
 use Rattle.filing_model.specs.Text.{Text, text_cmp, text_eq}
 use Rattle.filing_model.specs.TextMap.{TextMap, empty, from_entries}
@@ -73,9 +74,10 @@ prefixes_of_namespaces (Some (object ms)) = do
   map_err (λ _. AliasTwice) (prefixes_of bound)
 prefixes_of_namespaces (Some d) = Err WrongShape
 
--- the compact text of a value with whole numbers alone
+-- the compact text of a value with whole numbers alone. A value of a JSON text nests no deeper than a reader goes; one that nests deeper is of none
 abbrev pub whole_text_of : Data → Result Text ReportFault
-whole_text_of d = if has_float d then Err NotWhole else Ok (compact_text d)
+whole_text_of d =
+    if nat_le (depth d) max_depth then (if has_float d then Err NotWhole else Ok (compact_text d)) else Err NotJson
 
 -- an identifier with its fact
 abbrev pub entry_of : Names → Text × Data → Result (Text × Fact) ReportFault

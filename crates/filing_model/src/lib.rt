@@ -8,6 +8,7 @@ mod duplicate_laws;
 mod duplicates;
 mod fact_laws;
 mod faults;
+mod info_laws;
 mod kind;
 mod number_laws;
 mod text;
@@ -22,6 +23,7 @@ pub use fact_laws::{
     dims_again, dims_in_any_order, facts_fit_again, prefixes_in_any_order, rows_are_kept,
 };
 pub use faults::{DimFault, FactFault, NamesFault, NumberFault, TableFault, Trouble};
+pub use info_laws::{texts_are_read_again, the_last_value_stays, the_others_stay};
 pub use kind::Kind;
 pub use number_laws::{
     intervals_hold_what_is_near, intervals_meet_where_a_number_is_shared,

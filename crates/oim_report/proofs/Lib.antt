@@ -11,7 +11,11 @@ pub mod TableLines
 -- ---- what is written, and read back
 pub mod Fronts
 pub mod WrittenPieces
-pub mod WrittenValues
+pub mod ReadBackValues
 pub mod WrittenFacts
 pub mod WrittenReports
 pub mod ReadBackInstances
+-- ---- setting the declared value
+pub mod Utf8Texts
+pub mod SetInfos
+pub mod SetMembers

@@ -20,13 +20,13 @@ use Rattle.filing_model.specs.ReadReport.{NotJson, read_report_of}
 use Rattle.filing_model.specs.Writing.{raw_fact_text, report_text}
 use Rattle.filing_model.specs.declared.duplicates.Allowed.TheVariants.{Never}
 use Rattle.filing_model.proofs.OnLiterals.{filing_on_literals}
+use Rattle.filing_model.proofs.WrittenValues.{same_json}
 use Rattle.oim_report.specs.JsonValues.{IsJsonValue}
 use Rattle.oim_report.specs.Nesting.{NestsWithin}
 use Rattle.oim_report.specs.Parts.{IsInfo, document_type}
 use Rattle.oim_report.specs.Readable.{IsReadable}
 use Rattle.oim_report.specs.ReadableFact.{IsReadableFact}
 use Rattle.oim_report.proofs.ReadFacts.{readable}
-use Rattle.oim_report.proofs.WrittenValues.{same_json}
 use Rattle.oim_report.proofs.WrittenFacts.{raw_fact_back}
 use Rattle.oim_report.proofs.WrittenReports.{report_back}
 
@@ -197,6 +197,7 @@ is_info = record {
       ),
     ),
   );
+  shallow = omega arith;
   text = refl;
   type = refl;
   declares = refl;

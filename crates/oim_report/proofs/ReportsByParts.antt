@@ -1,9 +1,10 @@
 -- A report by its parts.
-use Rattle.std.proofs.Common.{◌≡◌, ◌∙◌, ap, sym, refl, Bool, true, false, cond, Option, None, Some, is_some, Result, Ok, Err, codes, subst, true≢false}
+use Rattle.std.proofs.Common.{◌≡◌, ◌∙◌, ap, sym, refl, Bool, true, false, cond, nat_le, leb-true, Option, None, Some, is_some, Result, Ok, Err, codes, subst, true≢false}
 use Rattle.std.specs.Result.{result_map_both}
 use Rattle.std.specs.Option.{option_and_then, option_map_or, ok_or}
-use Rattle.serde_json.specs.Data.{Data, null, boolean, number, string, array, object}
+use Rattle.serde_json.specs.Data.{Data, null, boolean, number, string, array, object, depth}
 use Rattle.serde_json.specs.Find.{get, as_str, as_object}
+use Rattle.serde_json.specs.Read.{max_depth}
 use Rattle.serde_json.specs.Written.{has_float, compact_text}
 use Rattle.filing_model.specs.Text.{Text, text_eq}
 use Rattle.filing_model.specs.TextMap.{TextMap}
@@ -155,9 +156,13 @@ accepted (Some (number n)) d h = cc
 accepted (Some (string s)) d h = cc
 accepted (Some (array ds)) d h = cc
 
-text_if : (b : Bool) (t info : Text) → cond b (Err report.NotWhole) (Ok t) ≡ Ok info → info ≡ t
-text_if true t info h = cc
-text_if false t info h = cc
+-- the value nests no deeper than a reader goes, and the text is its own
+text_if : (shallow float : Bool) (t info : Text)
+    → cond shallow (cond float (Err report.NotWhole) (Ok t)) (Err report.NotJson) ≡ Ok info
+    → (shallow ≡ true) × (info ≡ t)
+text_if false float t info h = cc
+text_if true true t info h = cc
+text_if true false t info h = (refl, cc)
 
 bound_by : (table : Table) (r : Result (TextMap Text) ReportFault) (names : Names)
     → (r >>= λ prefixes. Ok (named table prefixes)) ≡ Ok names → r ≡ Ok names.prefixes
@@ -167,16 +172,19 @@ bound_by table (Err fault) names h = cc
 info_of_object : (table : Table) (d : Data) (info : Text) (names : Names) (allowed : Allowed) → IsAccepted d
     → allowed_of_features (get (codes "features") d) ≡ Ok allowed → declared_names table d ≡ Ok names
     → whole_text_of d ≡ Ok info → IsWritable d → IsInfo info names.prefixes allowed
-info_of_object table (object ms) info names allowed is declares named_by text writable = record {
-  members = ms;
-  writable = writable;
-  text = text_if (has_float (object ms)) (compact_text (object ms)) info text;
-  type = is.type;
-  declares = declares;
-  binds =
-      bound_by table (prefixes_of_namespaces (get (codes "namespaces") (object ms))) names
-      (sym (names_by_prefixes table (get (codes "namespaces") (object ms))) ∙ named_by);
-}
+info_of_object table (object ms) info names allowed is declares named_by text writable =
+    let both = text_if (nat_le (depth (object ms)) max_depth) (has_float (object ms)) (compact_text (object ms)) info text in
+    record {
+      members = ms;
+      writable = writable;
+      shallow = leb-true (depth (object ms)) max_depth both.0;
+      text = both.1;
+      type = is.type;
+      declares = declares;
+      binds =
+          bound_by table (prefixes_of_namespaces (get (codes "namespaces") (object ms))) names
+          (sym (names_by_prefixes table (get (codes "namespaces") (object ms))) ∙ named_by);
+    }
 info_of_object table null info names allowed is declares named_by text writable = absurd (true≢false (sym is.is_object))
 info_of_object table (boolean b) info names allowed is declares named_by text writable = absurd (true≢false (sym is.is_object))
 info_of_object table (number n) info names allowed is declares named_by text writable = absurd (true≢false (sym is.is_object))

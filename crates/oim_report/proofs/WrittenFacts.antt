@@ -19,10 +19,11 @@ use Rattle.filing_model.specs.Writing.{listed, member_text, nullable_text, dims_
 use Rattle.filing_model.specs.declared.faults.Trouble.TheVariants as trouble
 use Rattle.filing_model.proofs.JsonTexts.{whole-IsWritable}
 use Rattle.filing_model.proofs.DimensionSets.{Ok-from_AreDims}
+use Rattle.filing_model.proofs.WrittenValues.{Reads, EachReads, Reads-number, Reads-object, Reads-writable}
 use Rattle.serde_json.specs.Read.{max_depth}
 use Rattle.oim_report.specs.Nesting.{NestsWithin}
 use Rattle.oim_report.specs.ReadableFact.{AreWholeDecimals, IsReadableFact}
-use Rattle.oim_report.proofs.WrittenValues.{Reads, EachReads, Reads-number, Reads-object, Reads-writable, read_back}
+use Rattle.oim_report.proofs.ReadBackValues.{read_back}
 
 -- ---- the object
 

@@ -1,10 +1,10 @@
 -- The JSON object that stands for a report: what is written of it, and what is read of it.
-use Rattle.std.proofs.Common.{◌≡◌, ◌-◌, ℤ, pos, negsuc, neg_ℤ, T, ◌&&◌, Bool, true, false, cond, int_le, List, [], ◌∷◌, ◌++◌, codes, Option, Some, None, Result, Ok, Err, IfOk, is_lt, refl, sym, ap, ◌∙◌, arith, append_assoc, subst}
+use Rattle.std.proofs.Common.{◌≡◌, ◌-◌, ℤ, pos, negsuc, neg_ℤ, T, ◌&&◌, Bool, true, false, cond, int_le, List, [], ◌∷◌, ◌++◌, codes, Option, Some, None, Result, Ok, Err, IfOk, is_lt, le-leb, ◌≤◌, refl, sym, ap, ◌∙◌, arith, append_assoc, subst}
 use Rattle.std.proofs.lemmas.Bool.{leb-true, and_parts}
 use Rattle.std.specs.Option.{option_and_then, ok_or}
 use Rattle.std.specs.FinMap.Entries.{is_sorted, below_all}
 use Rattle.json.specs.Print.{quoted, escape_byte}
-use Rattle.serde_json.specs.Data.{Data, object, Members, no_members, member}
+use Rattle.serde_json.specs.Data.{Data, object, Members, no_members, member, depth}
 use Rattle.serde_json.specs.Find.{get, as_str}
 use Rattle.serde_json.specs.Read.{max_depth}
 use Rattle.serde_json.specs.Written.{comma_if, compact_text, members_text, has_float}
@@ -29,11 +29,12 @@ use Rattle.filing_model.specs.declared.faults.Trouble.TheVariants as trouble
 use Rattle.filing_model.proofs.FitAgain.{fit_again}
 use Rattle.filing_model.proofs.JsonTexts.{whole-IsWritable}
 use Rattle.filing_model.proofs.TextMaps.{from_entries-entries}
+use Rattle.filing_model.proofs.WrittenValues.{Reads, EachReads, Reads-object, Reads-writable}
 use Rattle.oim_report.specs.Nesting.{NestsWithin}
 use Rattle.oim_report.specs.Parts.{IsInfo, document_type}
 use Rattle.oim_report.specs.Readable.{AreFitted, IsReadable}
 use Rattle.oim_report.specs.ReadableFact.{AreWholeDecimals, IsReadableFact}
-use Rattle.oim_report.proofs.WrittenValues.{Reads, EachReads, Reads-object, Reads-writable, read_back}
+use Rattle.oim_report.proofs.ReadBackValues.{read_back}
 use Rattle.oim_report.proofs.WrittenFacts.{fact_members, stands_for}
 
 -- ---- a fitted fact is written as a raw fact that can be read
@@ -103,13 +104,13 @@ IsReadableFact-fitted names fact dims fitted =
 -- ---- the members of `facts`
 
 -- members stand for these entries
-record StandFor (names : Names) (es : List (Text × Fact)) : Type 0 where
-  members : Members
-  reads : EachReads members
-  below : (k : Text) → below_all text_cmp k (pairs members) ≡ below_all text_cmp k es
-  sorted : is_sorted text_cmp (pairs members) ≡ is_sorted text_cmp es
-  written : (later : Bool) → members_text later members ≡ listed later (λ e. member_text e.0 (fact_text e.1)) es ++ codes "}"
-  read : each (entry_of names) (pairs members) ≡ Ok es
+pub record StandFor (names : Names) (es : List (Text × Fact)) : Type 0 where
+  pub members : Members
+  pub reads : EachReads members
+  pub below : (k : Text) → below_all text_cmp k (pairs members) ≡ below_all text_cmp k es
+  pub sorted : is_sorted text_cmp (pairs members) ≡ is_sorted text_cmp es
+  pub written : (later : Bool) → members_text later members ≡ listed later (λ e. member_text e.0 (fact_text e.1)) es ++ codes "}"
+  pub read : each (entry_of names) (pairs members) ≡ Ok es
 
 entry_read : (names : Names) (id : Text) (fact : Fact) (d : Data) → raw_fact_of d ≡ Ok (raw_of fact)
     → fit_of names (raw_of fact) ≡ Ok fact → entry_of names (id, d) ≡ Ok (id, fact)
@@ -121,7 +122,7 @@ regrouped : (comma name value rest : Text)
     → comma ++ (name ++ 58 ∷ (value ++ (rest ++ codes "}"))) ≡ (comma ++ ((name ++ 58 ∷ value) ++ rest)) ++ codes "}"
 regrouped comma name value rest = simp append_assoc
 
-stand_for : (names : Names) (es : List (Text × Fact)) → AreFitted names es → StandFor names es
+pub stand_for : (names : Names) (es : List (Text × Fact)) → AreFitted names es → StandFor names es
 stand_for names [] h = record { members = no_members; reads = tt; below = λ k. refl; sorted = refl; written = λ later. refl; read = refl }
 stand_for names (e ∷ es) h =
     let fact = stands_for (raw_of e.1) (IsReadableFact-fitted names e.1 h.0 h.1) in
@@ -141,7 +142,7 @@ stand_for names (e ∷ es) h =
 
 -- ---- the report
 
-abbrev report_members : Members → Members → Members
+abbrev pub report_members : Members → Members → Members
 report_members info facts = member (codes "documentInfo") (object info) (member (codes "facts") (object facts) no_members)
 
 close_both : (facts : Text) → (facts ++ codes "}") ++ codes "}" ≡ facts ++ codes "}}"
@@ -169,8 +170,10 @@ document_read info facts type =
     >>= λ type. cond (text_eq type document_type) (Ok (object info))
     (Err WrongDocumentType)) type
 
-whole_read : (d : Data) → has_float d ≡ false → whole_text_of d ≡ Ok (compact_text d)
-whole_read d whole = ap (λ b. cond b (Err NotWhole) (Ok (compact_text d))) whole
+whole_read : (d : Data) → has_float d ≡ false → depth d ≤ max_depth → whole_text_of d ≡ Ok (compact_text d)
+whole_read d whole shallow =
+    (λ i. cond (le-leb (depth d) max_depth shallow i)
+    (cond (whole i) (Err NotWhole) (Ok (compact_text d))) (Err NotJson))
 
 facts_read : (names : Names) (facts : Members) (all : TextMap Fact)
     → each (entry_of names) (pairs facts) ≡ Ok all.entries → facts_of names (Some (object facts)) ≡ Ok all
@@ -190,26 +193,42 @@ report_read report is facts read =
     ∙ (λ i.
     is.declares i >>= λ allowed.
     is.binds i >>= λ prefixes.
-    whole_read (object is.members) (whole-IsWritable (object is.members) is.writable) i >>= λ info.
+    whole_read (object is.members) (whole-IsWritable (object is.members) is.writable) is.shallow i >>= λ info.
     facts_of (record { prefixes = prefixes; table = report.names.table }) (Some (object facts)) >>= λ facts.
     Ok (record { info = info; names = record { prefixes = prefixes; table = report.names.table }; allowed = allowed; facts = facts }))
     ∙ (λ i.
     facts_read report.names facts report.facts read i >>= λ facts.
     Ok (record { info = sym is.text i; names = report.names; allowed = report.allowed; facts = facts }))
 
+-- the members of `facts` in the text of a report
+abbrev pub written_facts : (report : Report) → IsReadable report → Members
+written_facts report is = (stand_for report.names report.facts.entries is.facts).members
+
+-- the value that a report's text stands for
+pub record StandsFor (report : Report) (value : Data) : Type 0 where
+  pub reads : Reads value
+  pub text : report_text report ≡ compact_text value
+
+pub report_value : (report : Report) (is : IsReadable report)
+    → StandsFor report (object (report_members is.info.members (written_facts report is)))
+report_value report is =
+    let facts = stand_for report.names report.facts.entries is.facts in
+    let sorted : T (is_sorted text_cmp (pairs facts.members)) = subst T (sym facts.sorted) report.facts.sorted in
+    record {
+      reads =
+          Reads-object (report_members is.info.members facts.members) tt (
+            Reads-writable (object is.info.members) is.info.writable,
+            (Reads-object facts.members sorted facts.reads, tt),
+          );
+      text = text_written report is.info.members facts.members is.info.text (facts.written false);
+    }
+
 pub report_back : (report : Report) → IsReadable report → NestsWithin max_depth (report_text report)
     → read_report_of report.names.table (report_text report) ≡ Ok report
 report_back report is nests =
     let facts = stand_for report.names report.facts.entries is.facts in
-    let value = object (report_members is.info.members facts.members) in
-    let sorted : T (is_sorted text_cmp (pairs facts.members)) = subst T (sym facts.sorted) report.facts.sorted in
-    let reads : Reads value =
-    Reads-object (report_members is.info.members facts.members) tt (
-      Reads-writable (object is.info.members) is.info.writable,
-      (Reads-object facts.members sorted facts.reads, tt),
-    ) in
+    let value = report_value report is in
     ap (λ text. ok_or (json_of text) NotJson >>= λ d. report_of report.names.table d) (no_mark report)
     ∙ ap (λ o. ok_or o NotJson >>= λ d. report_of report.names.table d)
-    (read_back value (report_text report) reads
-    (text_written report is.info.members facts.members is.info.text (facts.written false)) nests)
+    (read_back (object (report_members is.info.members facts.members)) (report_text report) value.reads value.text nests)
     ∙ report_read report is.info facts.members facts.read

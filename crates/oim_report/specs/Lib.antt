@@ -8,6 +8,8 @@ pub mod ReadBack
 pub mod Nesting
 pub mod ReadableFact
 pub mod JsonValues
+-- ---- the laws of an info in which a value was set
+pub mod SetValues
 -- ---- cited within the crate alone, but for `same`
 pub mod Readings
 pub mod Lines

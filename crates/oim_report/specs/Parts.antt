@@ -1,11 +1,12 @@
 -- The parts of a report, as a program holds them: its facts are a list.
-use Rattle.std.specs.Prelude.{◌≡◌, T, List, map, Some, Ok, codes, String, string_bytes, option_and_then}
+use Rattle.std.specs.Prelude.{◌≡◌, ◌≤◌, T, List, map, Some, Ok, codes, String, string_bytes, option_and_then}
 use Rattle.std.specs.Arc.{arc_value}
 use Rattle.std.specs.FinMap.Entries.{is_sorted}
 use Rattle.std.specs.declared.sync.Arc.{Arc}
 use Rattle.std.specs.declared.alloc.Global.{Global}
-use Rattle.serde_json.specs.Data.{Members, object}
+use Rattle.serde_json.specs.Data.{Members, object, depth}
 use Rattle.serde_json.specs.Find.{get, as_str}
+use Rattle.serde_json.specs.Read.{max_depth}
 use Rattle.serde_json.specs.Written.{compact_text}
 use Rattle.filing_model.specs.Text.{Text, text_cmp}
 use Rattle.filing_model.specs.TextMap.{TextMap, from_entries}
@@ -34,19 +35,18 @@ abbrev pub document_type : Text
 document_type = codes "https://xbrl.org/2021/xbrl-json"
 
 -- a text is the info of these prefixes and this declared value: the compact text of an object, with whole numbers
--- alone,
--- that is accepted as `documentInfo` (xBRL-JSON 1.0) and says them
+-- alone and nested no deeper than a reader goes, that is accepted as `documentInfo` (xBRL-JSON 1.0) and says them
 pub record IsInfo (info : Text) (prefixes : TextMap Text) (allowed : Allowed) : Type 0 where
   pub members : Members
   pub writable : IsWritable (object members)
+  pub shallow : depth (object members) ≤ max_depth
   pub text : info ≡ compact_text (object members)
   pub type : option_and_then as_str (get (codes "documentType") (object members)) ≡ Some document_type
   pub declares : allowed_of_features (get (codes "features") (object members)) ≡ Ok allowed
   pub binds : prefixes_of_namespaces (get (codes "namespaces") (object members)) ≡ Ok prefixes
 
 -- parts are those of a report: the identifiers strictly rise in byte order, and the info is that of the prefixes and
--- the
--- declared value
+-- the declared value
 pub record AreParts (parts : Parts) : Type 0 where
   pub rise : T (is_sorted text_cmp parts.facts)
   pub info : IsInfo parts.info parts.names.prefixes parts.allowed

@@ -6,13 +6,13 @@ ghost use Rattle.serde_json.specs.Find.{get};
 ghost use Rattle.serde_json.specs.View.{view, members_view};
 ghost use Rattle.filing_model.specs.Try.{Gives, each};
 ghost use Rattle.filing_model.specs.JsonText.{pairs, IsWritable};
-ghost use Rattle.filing_model.specs.ReadReport.{allowed_of_word, allowed_of_features, prefix_of, whole_text_of};
+ghost use Rattle.filing_model.specs.ReadReport.{allowed_word, allowed_of_word, allowed_of_features, prefix_of, whole_text_of};
 ghost use Rattle.oim_fact.specs.Texts.{row_of, rows_view};
 ghost use Rattle.oim_report.specs.Faults.{report_fault};
 ghost use Rattle.oim_report.specs.Readings.{bound_of, document_info_at, has_document_type, declared_names, same};
 
 use crate::fault::ReportFault;
-use crate::values::whole_text;
+use crate::values::{MAX_DEPTH, nests_within, whole_text};
 use filing_model::{Allowed, is_same_text};
 use oim_fact::{Names, NumericTable};
 use serde_json::{Map, Value};
@@ -49,6 +49,18 @@ pub(crate) fn document_info(value: Option<Value>) -> Result<Value, ReportFault>
         return Err(ReportFault::WrongDocumentType);
     }
     Ok(info)
+}
+
+/// The word that declares allowed duplicates.
+pub(crate) fn allowed_word(allowed: Allowed) -> &'static str
+    ensures { result.now ≡ allowed_word allowed }
+{
+    match allowed {
+        Allowed::Never => "none",
+        Allowed::Complete => "complete",
+        Allowed::Consistent => "consistent",
+        Allowed::All => "all",
+    }
 }
 
 /// The allowed duplicates that a word declares.
@@ -145,11 +157,14 @@ pub(crate) fn names(
     }
 }
 
-/// The compact text of `documentInfo`, where each number in it is whole.
+/// The compact text of `documentInfo`, where each number in it is whole. A value that was not read of a text may nest deeper than one can.
 pub(crate) fn info_text(alloc: Global, info: &Value) -> Result<String, ReportFault>
     ensures text { Gives report_fault string_bytes result (whole_text_of (view info.now)) }
     ensures writable { IfOk result (λ _. IsWritable (view info.now)) }
 {
+    if !nests_within(info, MAX_DEPTH) {
+        return Err(ReportFault::NotJson);
+    }
     match whole_text(alloc, info)? {
         Some(text) => Ok(text),
         None => Err(ReportFault::NotWhole),

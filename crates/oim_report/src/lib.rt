@@ -1,15 +1,17 @@
 //! Reports and numeric tables of xBRL-JSON 1.0, read from their texts, and facts and reports written.
 //!
-//! In reading, `values` makes a JSON value of bytes, `reading` a report of the value, `info` reads `documentInfo`, `facts` all facts and `fact` one; `table` reads numeric tables, and `fault` says why a text is no report. `report` is what was read. In writing, `report_text` and `fact_text` put texts together of `pieces`. `read_back` has the laws that what is written is read back.
+//! In reading, `values` makes a JSON value of bytes, `reading` a report of the value, `info` reads `documentInfo`, `facts` all facts and `fact` one; `table` reads numeric tables, and `fault` says why a text is no report. `report` is what was read, and `declared_value` sets the value that a report declares. In writing, `report_text` and `fact_text` put texts together of `pieces`. `read_back` has the laws that what is written is read back, and `info_laws` those of an info in which a value was set.
 //!
 //! It knows nothing of versions, of sessions or of devices.
 #![tactic(auto)]
 
+mod declared_value;
 mod fact;
 mod fact_text;
 mod facts;
 mod fault;
 mod info;
+mod info_laws;
 mod pieces;
 mod read_back;
 mod reading;
@@ -18,10 +20,14 @@ mod report_text;
 mod table;
 mod values;
 
+pub use declared_value::with_allowed;
 pub use fact::raw_fact;
 pub use fact_text::{push_dims, push_fact, push_raw, write_fact, write_raw};
 pub use fault::ReportFault;
 pub use filing_model::{TableFault, Trouble};
+pub use info_laws::{
+    each_set_info_is_an_info, each_set_report_is_read_back, each_set_value_is_declared,
+};
 pub use pieces::{push_comma, push_nullable, push_quoted};
 pub use read_back::{
     facts_are_read_back, raw_facts_are_read_back, raw_facts_are_readable, reports_are_read_back,

@@ -142,7 +142,7 @@ pub fn report_from(
     report_of_members(alloc, top_members(value), table)
 }
 
-/// The report that a JSON value is (xBRL-JSON 1.0) by this numeric table, or the first fault, in this order: not the shape of a report, the document type, the features, the namespaces, a number in `documentInfo` that is not whole, the shape of `facts`, and the first refused fact in byte order of the identifiers.
+/// The report that a JSON value is (xBRL-JSON 1.0) by this numeric table, or the first fault, in this order: not the shape of a report, the document type, the features, the namespaces, `documentInfo` that nests deeper than a JSON text may, a number in it that is not whole, the shape of `facts`, and the first refused fact in byte order of the identifiers.
 #[tactic(auto, using(crate::proofs::ReportsByParts::report_by_members))]
 pub fn report_of(
     alloc: Global,

@@ -1,11 +1,13 @@
 //! Reports, and the parts that they are made of.
 
 ghost use Rattle.std.specs.Prelude.{◌≡◌, IfOk};
+ghost use Rattle.filing_model.specs.DeclaredValue.{report_declaring};
 ghost use Rattle.oim_report.specs.Parts.{AreParts, facts_view, parts_of, whole};
 
+use crate::declared_value::with_allowed;
 use filing_model::Allowed;
 use oim_fact::{Fact, Names};
-use std::alloc::AllocError;
+use std::alloc::{AllocError, Global};
 use std::marker::Model;
 use std::sync::Arc;
 
@@ -125,6 +127,25 @@ impl Report {
             allowed,
             facts,
         }
+    }
+
+    /// The report with this declared value, whatever it declared before: its info says it. The names and the facts are those of the report, which is given up.
+    pub fn with_allowed(self, alloc: Global, allowed: Allowed) -> Result<Report, AllocError>
+        ensures { IfOk result (λ r. r ≡ report_declaring self allowed) }
+    {
+        let Report {
+            info,
+            names,
+            facts,
+            ..
+        } = self;
+        let info = with_allowed(alloc, &info, allowed)?;
+        Ok(Report {
+            info,
+            names,
+            allowed,
+            facts,
+        })
     }
 
     /// The compact text of `documentInfo`, with its members in byte order of their names.

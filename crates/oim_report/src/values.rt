@@ -1,7 +1,7 @@
 //! JSON values, and what is looked for in them.
 
-ghost use Rattle.std.specs.Prelude.{◌≡◌, not, false, if◌then◌else◌, Option, option_map, IfOk, IfSome, IsTrue, IsUtf8, string_bytes};
-ghost use Rattle.serde_json.specs.Data.{object};
+ghost use Rattle.std.specs.Prelude.{◌≡◌, nat_le, not, false, if◌then◌else◌, Option, option_map, IfOk, IfSome, IsTrue, IsUtf8, string_bytes};
+ghost use Rattle.serde_json.specs.Data.{object, depth, items_depth, members_depth};
 ghost use Rattle.serde_json.specs.Find.{as_object, get, get_member, is_float};
 ghost use Rattle.serde_json.specs.View.{view, number_view, items_view, members_view};
 ghost use Rattle.serde_json.specs.Written.{compact_text, has_float, items_have_float, members_have_float};
@@ -73,6 +73,47 @@ fn is_whole_number(number: &Number) -> bool
     ensures bounds { IsTrue result → IsWhole (number_view number.now) }
 {
     number.as_u64().is_some() || number.as_i64().is_some()
+}
+
+/// How deep the arrays and objects of a JSON text may nest.
+pub(crate) const MAX_DEPTH: usize = 127;
+
+/// Whether the arrays and objects of a value nest so deep at most.
+#[cycle(nests)]
+pub(crate) fn nests_within(value: &Value, most: usize) -> bool
+    ensures { result ≡ nat_le (depth (view value.now)) most }
+{
+    match value {
+        Value::Array(items) => most > 0 && items_nest_within(items, most - 1),
+        Value::Object(members) => most > 0 && members_nest_within(members, most - 1),
+        _ => true,
+    }
+}
+
+/// As `nests_within`, of each item.
+#[cycle(nests)]
+fn items_nest_within(items: &Vec<Value>, most: usize) -> bool
+    ensures { result ≡ nat_le (items_depth (items_view items.now.items)) most }
+{
+    for item in items {
+        if !nests_within(item, most) {
+            return false;
+        }
+    }
+    true
+}
+
+/// As `nests_within`, of each member's value.
+#[cycle(nests)]
+fn members_nest_within(members: &Map<String, Value>, most: usize) -> bool
+    ensures { result ≡ nat_le (members_depth (members_view members.now.entries)) most }
+{
+    for (_, value) in members {
+        if !nests_within(value, most) {
+            return false;
+        }
+    }
+    true
 }
 
 /// The text of a name, which is UTF-8.

@@ -1,10 +1,11 @@
 -- Worked examples of what is read of a report's text, and of each fault.
-use Rattle.std.specs.Prelude.{◌≡◌, pos, negsuc, [], ◌∷◌, ◌++◌, codes, None, Some, Result, Ok, Err, refl}
+use Rattle.std.specs.Prelude.{◌≡◌, ℕ, zero, suc, replicate, pos, negsuc, [], ◌∷◌, ◌++◌, codes, None, Some, Result, Ok, Err, refl}
+use Rattle.serde_json.specs.Data.{Data, null, array, item, no_items}
 use Rattle.filing_model.specs.Text.{Text}
 use Rattle.filing_model.specs.TextMap.{empty, from_entries}
 use Rattle.filing_model.specs.Try.{◌>>=◌}
 use Rattle.filing_model.specs.JsonText.{byte_order_mark}
-use Rattle.filing_model.specs.ReadReport.{ReportFault, NotJson, WrongShape, WrongDocumentType, BadPolicy, AliasTwice, NotWhole, BadFact, read_report_of}
+use Rattle.filing_model.specs.ReadReport.{ReportFault, NotJson, WrongShape, WrongDocumentType, BadPolicy, AliasTwice, NotWhole, BadFact, whole_text_of, read_report_of}
 use Rattle.filing_model.specs.Facts.{Table, Written, Number, Nil}
 use Rattle.filing_model.specs.Reports.{Report}
 use Rattle.filing_model.specs.declared.duplicates.Allowed.{Allowed}
@@ -194,3 +195,15 @@ no_number = refl
 pub first_identifier : read_literal (report_with bound (codes "{\"b\":1,\"a\":{\"value\":\"1\",\"dimensions\":{}}}")) ≡ Err (BadFact (codes "a") (trouble.Dims NoConcept))
 unfolding filing_on_literals
 first_identifier = refl
+
+-- ---- how deep `documentInfo` may nest, where it was read of no text
+
+abbrev nested : ℕ → Data
+nested zero = null
+nested (suc n) = array (item (nested n) no_items)
+
+pub deep_as_a_text : whole_text_of (nested 127) ≡ Ok (replicate 127 91 ++ (codes "null" ++ replicate 127 93))
+deep_as_a_text = refl
+
+pub deeper_than_a_text : whole_text_of (nested 128) ≡ Err NotJson
+deeper_than_a_text = refl

@@ -1,6 +1,7 @@
 -- Values that are read back from their compact text.
-use Rattle.std.proofs.Common.{◌≡◌, ℕ, ◌≤◌, ◌<◌, ◌^◌, max, pos, negsuc, T, List, [], ◌++◌, Option, Some, None, option_map, option_and_then, Less, Greater, refl, sym, ap, ◌∙◌, arith, append-nil, subst, inl, inr, eq-or-lt_of_le}
+use Rattle.std.proofs.Common.{◌≡◌, ℕ, suc, ◌≤◌, ◌<◌, ◌^◌, max, Bool, false, true≢false, pos, negsuc, T, List, [], ◌++◌, Option, Some, None, option_map, option_and_then, Less, Greater, refl, sym, ap, ◌∙◌, arith, append-nil, subst, inl, inr, eq-or-lt_of_le}
 use Rattle.std.proofs.lemmas.Cmp.{nat_list_cmp_total}
+use Rattle.std.proofs.lemmas.Bool.{or_parts}
 use Rattle.std.specs.Prelude.{⊤}
 use Rattle.std.specs.Fmt.{digits, signed_decimal}
 use Rattle.std.specs.Ordering.{ordering_reverse}
@@ -15,16 +16,18 @@ use Rattle.json.specs.Tree as tree
 use Rattle.json.proofs.Printed.Decimals.{IsNumber-decimal, IsNumber-signed_decimal}
 use Rattle.json.proofs.Printed.Tokens.{tokens-print}
 use Rattle.json.proofs.Printed.Trees.{value-json_tokens, ArePrintable-json_tokens}
-use Rattle.serde_json.specs.Data.{Num, unsigned, negative, float, Data, null, boolean, number, string, array, object, Items, no_items, item, Members, no_members, member, put}
-use Rattle.serde_json.specs.Read.{of_json, of_items, of_members, number_of, max_depth}
-use Rattle.serde_json.specs.Written.{outline, items_outline, members_outline, number_text, compact_text}
+use Rattle.serde_json.specs.Data.{Num, unsigned, negative, float, Data, null, boolean, number, string, array, object, Items, no_items, item, Members, no_members, member, put, depth, items_depth, members_depth}
+use Rattle.serde_json.specs.Find.{is_float}
+use Rattle.serde_json.specs.Read.{of_json, of_items, of_members, number_of, max_depth, read}
+use Rattle.serde_json.specs.Written.{outline, items_outline, members_outline, number_text, compact_text, has_float, items_have_float, members_have_float}
+use Rattle.serde_json.proofs.Nesting.{depth-read}
 use Rattle.serde_json.proofs.Numbers.{number_of-decimal, number_of-negative}
 use Rattle.serde_json.proofs.Texts.{print-outline}
 use Rattle.filing_model.specs.Text.{Text, text_cmp}
-use Rattle.filing_model.specs.JsonText.{json_of, pairs, IsWhole, IsWritable, AreWritable, AreMembersWritable}
-use Rattle.filing_model.proofs.JsonTexts.{json_of-Some}
+use Rattle.filing_model.specs.JsonText.{pairs, IsWhole, IsWritable}
+use Rattle.filing_model.proofs.JsonTexts.{whole-IsWritable}
+use Rattle.filing_model.proofs.ReadValues.{IsBounded, IsRead, AreRead, AreMembersRead, IsRead-writable, IsRead-read}
 use Rattle.filing_model.proofs.Tests.{first_holds, second_holds, less_from_is_lt}
-use Rattle.oim_report.specs.Nesting.{NestsWithin}
 
 -- what is written for the value stands for it
 pub record Reads (d : Data) : Type 0 where
@@ -133,32 +136,87 @@ Reads-object ms sorted each =
       back = ap (option_map object) (members_back no_members ms (none_precede ms) sorted each);
     }
 
--- ---- values with whole numbers alone
+-- ---- values with whole numbers alone, as a text is read
+
+whole_number : (n : Num) → IsBounded n → is_float n ≡ false → IsWhole n
+whole_number (unsigned n) h whole = h
+whole_number (negative (pos n)) h whole = absurd h
+whole_number (negative (negsuc n)) h whole = h
+whole_number (float x) h whole = absurd (true≢false whole)
 
 mutual
-  pub Reads-writable : (d : Data) → IsWritable d → Reads d
-  Reads-writable null h = record { numbers = tt; back = refl }
-  Reads-writable (boolean b) h = record { numbers = tt; back = refl }
-  Reads-writable (number n) h = Reads-number n h
-  Reads-writable (string text) h = record { numbers = tt; back = refl }
-  Reads-writable (array ds) h = let items = ItemsRead-writable ds h in record { numbers = items.numbers; back = ap (option_map array) items.back }
-  Reads-writable (object ms) h = Reads-object ms h.0 (EachReads-writable ms h.1)
+  pub Reads-read : (d : Data) → IsRead d → has_float d ≡ false → Reads d
+  Reads-read null h whole = record { numbers = tt; back = refl }
+  Reads-read (boolean b) h whole = record { numbers = tt; back = refl }
+  Reads-read (number n) h whole = Reads-number n (whole_number n h whole)
+  Reads-read (string text) h whole = record { numbers = tt; back = refl }
+  Reads-read (array ds) h whole = let items = ItemsRead-read ds h whole in record { numbers = items.numbers; back = ap (option_map array) items.back }
+  Reads-read (object ms) h whole = Reads-object ms h.0 (EachReads-read ms h.1 whole)
 
-  ItemsRead-writable : (ds : Items) → AreWritable ds → ItemsRead ds
-  ItemsRead-writable no_items h = record { numbers = tt; back = refl }
-  ItemsRead-writable (item d ds) h =
-      let first = Reads-writable d h.0 in
-      let rest = ItemsRead-writable ds h.1 in
+  ItemsRead-read : (ds : Items) → AreRead ds → items_have_float ds ≡ false → ItemsRead ds
+  ItemsRead-read no_items h whole = record { numbers = tt; back = refl }
+  ItemsRead-read (item d ds) h whole =
+      let parts = or_parts (has_float d) _ whole in
+      let first = Reads-read d h.0 parts.0 in
+      let rest = ItemsRead-read ds h.1 parts.1 in
       record {
         numbers = (first.numbers, rest.numbers);
         back = ap (option_and_then (λ d. option_map (item d) (of_items (items_outline ds)))) first.back ∙ ap (option_map (item d)) rest.back;
       }
 
-  EachReads-writable : (ms : Members) → AreMembersWritable ms → EachReads ms
-  EachReads-writable no_members h = tt
-  EachReads-writable (member name d ms) h = (Reads-writable d h.1, EachReads-writable ms h.2)
+  EachReads-read : (ms : Members) → AreMembersRead ms → members_have_float ms ≡ false → EachReads ms
+  EachReads-read no_members h whole = tt
+  EachReads-read (member name d ms) h whole =
+      let parts = or_parts (has_float d) _ whole in
+      (Reads-read d h.0 parts.0, EachReads-read ms h.1 parts.1)
 
--- ---- texts
+-- a writable value is one
+pub Reads-writable : (d : Data) → IsWritable d → Reads d
+Reads-writable d h = Reads-read d (IsRead-writable d h) (whole-IsWritable d h)
+
+-- ---- the text of a value, and what is read of it
+
+mutual
+  pub outline_depth : (d : Data) → tree.depth (outline d) ≡ depth d
+  outline_depth null = refl
+  outline_depth (boolean b) = refl
+  outline_depth (number n) = refl
+  outline_depth (string text) = refl
+  outline_depth (array ds) = ap suc (items_outline_depth ds)
+  outline_depth (object ms) = ap suc (members_outline_depth ms)
+
+  items_outline_depth : (ds : Items) → tree.items_depth (items_outline ds) ≡ items_depth ds
+  items_outline_depth no_items = refl
+  items_outline_depth (item d ds) = λ i. max (outline_depth d i) (items_outline_depth ds i)
+
+  members_outline_depth : (ms : Members) → tree.members_depth (members_outline ms) ≡ members_depth ms
+  members_outline_depth no_members = refl
+  members_outline_depth (member k d ms) = λ i. max (outline_depth d i) (members_outline_depth ms i)
+
+-- the tokens of the text are those of the value's outline
+pub written_tokens : (d : Data) → Reads d → tokens (compact_text d) ≡ json_tokens (outline d)
+written_tokens d reads =
+    ap tokens (sym (print-outline d)) ∙ tokens-print (json_tokens (outline d)) (ArePrintable-json_tokens (outline d) reads.numbers)
+
+-- the outline is read to its end, where it nests no deeper than a reader goes
+pub outline_back : (d : Data) (text : Text) → Reads d → tokens text ≡ json_tokens (outline d) → tree.depth (outline d) ≤ max_depth
+    → read text ≡ Some d
+outline_back d text reads written shallow =
+    let value : json.value max_depth (tokens text) ≡ Some (outline d, []) =
+    ap (json.value max_depth) (written ∙ sym (append-nil (json_tokens (outline d))))
+    ∙ value-json_tokens (outline d) max_depth [] shallow in
+    ap (λ o. option_and_then of_json (option_and_then (λ p. json.if_last p.0 p.1) o)) value ∙ reads.back
+
+pub read_written : (d : Data) → Reads d → depth d ≤ max_depth → read (compact_text d) ≡ Some d
+read_written d reads shallow =
+    outline_back d (compact_text d) reads (written_tokens d reads) (omega (arith, outline_depth d))
+
+-- what was read of a text is read of its compact text again
+pub read_again : (text : Text) (d : Data) → read text ≡ Some d → has_float d ≡ false
+    → (read (compact_text d) ≡ Some d) × (depth d ≤ max_depth)
+read_again text d is whole =
+    let shallow = depth-read text d is in
+    (read_written d (Reads-read d (IsRead-read text d is) whole) shallow, shallow)
 
 -- the tokens of a value are those of no other
 pub same_json : (i j : json.Json) → json_tokens i ≡ json_tokens j → i ≡ j
@@ -168,18 +226,3 @@ same_json i j h =
     let other : json.value n (json_tokens j ++ []) ≡ Some (j, []) = value-json_tokens j n [] (omega arith) in
     let same : ◌≡◌ {A = Option (json.Json × List Token)} (Some (i, [])) (Some (j, [])) = sym one ∙ ap (λ ts. json.value n (ts ++ [])) h ∙ other in
     ap (λ o. elim o as (λ _. json.Json) [ None ↦ i | Some p ↦ p.0 ]) same
-
--- the text of a value is JSON: its tokens are those of the value's outline, which is read to its end
-pub read_back : (d : Data) (text : Text) → Reads d → text ≡ compact_text d → NestsWithin max_depth text
-    → json_of text ≡ Some d
-read_back d text reads is nests =
-    let written : tokens text ≡ json_tokens (outline d) =
-    ap tokens (is ∙ sym (print-outline d))
-    ∙ tokens-print (json_tokens (outline d)) (ArePrintable-json_tokens (outline d) reads.numbers) in
-    let value : json.value max_depth (tokens text) ≡ Some (outline d, []) =
-    ap (json.value max_depth) (written ∙ sym (append-nil (json_tokens (outline d))))
-    ∙ value-json_tokens (outline d) max_depth [] (nests.shallow (outline d) written) in
-    json_of-Some text d (
-      nests.utf8,
-      ap (λ o. option_and_then of_json (option_and_then (λ p. json.if_last p.0 p.1) o)) value ∙ reads.back,
-    )

@@ -1,0 +1,5 @@
+use Rattle.filing_model.proofs.DeclaredValues.{set_twice}
+use Rattle.filing_model.proofs.info_laws.the_last_value_stays.Goals as goal
+
+pub returns : goal.returns
+returns c = set_twice
