@@ -1,5 +1,5 @@
--- The laws of marks at a worked history: each premise is met there, and what the law says of it computes.
-use Rattle.std.proofs.Common.{◌≡◌, refl, ℕ, ◌≤◌, List, [], ◌∷◌, Option, Some, None, take, true, false}
+-- The laws of marks at worked histories: each premise is met there, and what the law says of it computes.
+use Rattle.std.proofs.Common.{◌≡◌, refl, ℕ, ◌≤◌, List, [], ◌∷◌, ◌++◌, Option, Some, None, take, true, false}
 use Rattle.std.specs.Prelude.{codes}
 use Rattle.filing_model.specs.Text.{Text}
 use Rattle.filing_model.specs.Calls.{Any, Without, Exactly}
@@ -7,7 +7,7 @@ use Rattle.filing_model.specs.Replies.{Committed}
 use Rattle.filing_model.specs.Things.{Range}
 use Rattle.filing_model.specs.History.{Entry, Commit, History}
 use Rattle.filing_model.specs.Touches.{touches}
-use Rattle.filing_model.proofs.Examples.Setting.{Line, amend, sought, removes, commits, played}
+use Rattle.filing_model.proofs.Examples.Setting.{Line, raw, amend, sought, adds, removes, commits, played}
 use Rattle.filing_model.proofs.Examples.Histories.{r1, loads}
 use Rattle.filing_model.proofs.Examples.Ranges.{with_periods}
 use Rattle.filing_laws.specs.Numbers.{greatest_touch}
@@ -30,6 +30,19 @@ half_removed = played (take 6 removing_lines)
 abbrev last_commit : Entry
 last_commit = record { session = Some 2; step = Commit; reply = Committed 3 }
 
+abbrev first_commit : Entry
+first_commit = record { session = Some 1; step = Commit; reply = Committed 2 }
+
+abbrev none_removed : History
+none_removed = played (take 5 removing_lines)
+
+-- then a fact c without a period is added
+abbrev adding_lines : List Line
+adding_lines = removing_lines ++ amend ∷ adds 3 r1 (codes "c") (raw (codes "x")) ∷ commits 3 ∷ []
+
+abbrev added : History
+added = played adding_lines
+
 abbrev mark_of : Text → Option Text → Mark
 mark_of id period = record { report = r1; concept = codes "ex:Name"; period = period; id = id }
 
@@ -45,6 +58,10 @@ last_commit_marks_b = refl
 pub last_commit_marks_one_period : marks last_commit half_removed (mark_of (codes "b") None) ≡ false
 last_commit_marks_one_period = refl
 
+-- a fact that stands there, but was not changed, is not marked
+pub first_commit_does_not_mark_b : marks first_commit none_removed (mark_of (codes "b") (Some (codes "2024"))) ≡ false
+first_commit_does_not_mark_b = refl
+
 pub last_commit_does_not_mark_a : marks last_commit half_removed (mark_of (codes "a") None) ≡ false
 last_commit_does_not_mark_a = refl
 
@@ -54,6 +71,14 @@ stamp_of_b = each_mark_is_the_greatest half_removed last_commit (mark_of (codes 
 pub stamp_of_a : greatest_mark (mark_of (codes "a") None) removed ≡ Some 2
 stamp_of_a = each_mark_is_the_greatest half_removed last_commit (mark_of (codes "a") None) (played_is_lawful removing_lines)
 
+-- what was added is marked too
+pub stamp_of_c : greatest_mark (mark_of (codes "c") None) added ≡ Some 4
+stamp_of_c = each_mark_is_the_greatest (played (take 9 adding_lines)) (record { session = Some 3; step = Commit; reply = Committed 4 }) (mark_of (codes "c") None) (played_is_lawful adding_lines)
+
+-- a load marks nothing
+pub load_leaves_no_mark : greatest_mark (mark_of (codes "a") None) none_removed ≡ None
+load_leaves_no_mark = refl
+
 -- ---- ranges
 
 pub b_lies_in_any_period : LiesIn r1 (sought Any None) None (mark_of (codes "b") (Some (codes "2024")))
@@ -61,6 +86,19 @@ b_lies_in_any_period = record { report = refl; concept = refl; period = refl; wi
 
 pub a_lies_in_any_period : LiesIn r1 (sought Any None) None (mark_of (codes "a") None)
 a_lies_in_any_period = record { report = refl; concept = refl; period = refl; within = refl }
+
+-- a range holds its end, and not the identifier that it goes on after
+pub b_lies_up_to_itself : LiesIn r1 (sought (Exactly (codes "2024")) None) (Some (codes "b")) (mark_of (codes "b") (Some (codes "2024")))
+b_lies_up_to_itself = record { report = refl; concept = refl; period = refl; within = refl }
+
+pub b_does_not_lie_behind_itself : ¬ LiesIn r1 (sought Any (Some (codes "b"))) None (mark_of (codes "b") (Some (codes "2024")))
+b_does_not_lie_behind_itself lies = let apart : false ≡ true = lies.within in cc
+
+pub b_does_not_lie_up_to_a : ¬ LiesIn r1 (sought Any None) (Some (codes "a")) (mark_of (codes "b") (Some (codes "2024")))
+b_does_not_lie_up_to_a lies = let apart : false ≡ true = lies.within in cc
+
+pub b_does_not_lie_without_a_period : ¬ LiesIn r1 (sought Without None) None (mark_of (codes "b") (Some (codes "2024")))
+b_does_not_lie_without_a_period lies = let apart : false ≡ true = lies.period in cc
 
 pub last_commit_touches_any_period : touches last_commit half_removed (Range r1 (sought Any None) None) ≡ true
 last_commit_touches_any_period =
@@ -88,6 +126,9 @@ behind_a_was_touched_last_by_3 = (each_range_has_the_greatest_of_its_marks remov
 
 pub without_a_period_was_touched_last_by_2 : IsGreatestIn removed r1 (sought Without None) None 2
 without_a_period_was_touched_last_by_2 = (each_range_has_the_greatest_of_its_marks removed r1 (sought Without None) None (Some 2) (played_is_lawful removing_lines)).0 refl
+
+pub then_touched_last_by_4 : IsGreatestIn added r1 (sought Without None) None 4
+then_touched_last_by_4 = (each_range_has_the_greatest_of_its_marks added r1 (sought Without None) None (Some 4) (played_is_lawful adding_lines)).0 refl
 
 pub another_period_has_no_mark : HasNoMarkIn removed r1 (sought (Exactly (codes "2023")) None) None
 another_period_has_no_mark = (each_range_has_the_greatest_of_its_marks removed r1 (sought (Exactly (codes "2023")) None) None None (played_is_lawful removing_lines)).0 refl

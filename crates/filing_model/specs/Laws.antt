@@ -36,16 +36,22 @@ FactsFitAgain = (names : Names) (raw : RawFact) (fact : Fact) → fit_of names r
 
 -- of two declared values that are set in a text the last stays
 abbrev pub TheLastValueStays : Type 0
-TheLastValueStays = (info : Text) (first last : Allowed) → with_allowed (with_allowed info first) last ≡ with_allowed info last
+TheLastValueStays = (info : Text) (first last : Allowed)
+    → with_allowed (with_allowed info first) last ≡ with_allowed info last
 
--- the info that is made of an object with whole numbers alone is read as an object with the value's word as its feature. The other features and the other members are those that were there
+-- the info that is made of an object with whole numbers alone is read as an object with the value's word as its
+-- feature. The other features and the other members are those that were there
 abbrev pub TheOthersStay : Type 0
-TheOthersStay = (info : Text) (members : Members) (allowed : Allowed) → read info ≡ Some (object members) → has_float (object members) ≡ false
+TheOthersStay = (info : Text) (members : Members) (allowed : Allowed)
+    → read info ≡ Some (object members) → has_float (object members) ≡ false
     → (made : Members) × (read (with_allowed info allowed) ≡ Some (object made))
     × (get_member (codes "xbrl:allowedDuplicates") (features_in made) ≡ Some (string (allowed_word allowed)))
-    × ((feature : Text) → text_eq feature (codes "xbrl:allowedDuplicates") ≡ false → get_member feature (features_in made) ≡ get_member feature (features_in members))
+    × ((feature : Text) → text_eq feature (codes "xbrl:allowedDuplicates") ≡ false
+    → get_member feature (features_in made) ≡ get_member feature (features_in members))
     × ((name : Text) → text_eq name (codes "features") ≡ false → get_member name made ≡ get_member name members)
 
--- a value with whole numbers alone that was read of a text is read of its compact text again, and nests as deep as a text may
+-- a value with whole numbers alone that was read of a text is read of its compact text again, and nests no deeper than
+-- a text may
 abbrev pub TextsAreReadAgain : Type 0
-TextsAreReadAgain = (text : Text) (d : Data) → read text ≡ Some d → has_float d ≡ false → (read (compact_text d) ≡ Some d) × (depth d ≤ max_depth)
+TextsAreReadAgain = (text : Text) (d : Data) → read text ≡ Some d → has_float d ≡ false
+    → (read (compact_text d) ≡ Some d) × (depth d ≤ max_depth)

@@ -28,5 +28,7 @@ EachSetInfoIsAnInfo = (info : Text) (prefixes : TextMap Text) (before set : Allo
 
 -- where a report can be read back from its text, so can the report with a value set: nothing is asked of its own text
 abbrev pub EachSetReportIsReadBack : Type 0
-EachSetReportIsReadBack = (report : Report) (set : Allowed) → IsReadable report → NestsWithin max_depth (report_text report)
-    → read_report_of report.names.table (report_text (report_declaring report set)) ≡ Ok (report_declaring report set)
+EachSetReportIsReadBack = (report : Report) (set : Allowed) → IsReadable report
+    → NestsWithin max_depth (report_text report)
+    → read_report_of report.names.table (report_text (report_declaring report set))
+    ≡ Ok (report_declaring report set)

@@ -5,6 +5,7 @@ ghost use Rattle.std.specs.Prelude.{◌<◌};
 use crate::classes::{allowed_answer, class_answer, least_answer, pair_answer};
 use crate::dimensions::{dims_answer, names_answer, order_answer};
 use crate::facts::{fact_answer, raw_answer};
+use crate::infos::info_answer;
 use crate::numbers::{interval_answer, number_answer, numeral_answer};
 use crate::reports::{fronts_answer, parts_answer, report_answer, written_answer};
 use crate::scripts::run_lines;
@@ -43,6 +44,7 @@ fn value_answer(alloc: Global, table: &Table, kind: Asked, value: &Value) -> Res
         Asked::Report | Asked::Fronts => Ok(String::new(alloc)),
         Asked::Written => written_answer(alloc, value, &table.numeric),
         Asked::Parts => parts_answer(alloc, value, &table.numeric),
+        Asked::Info => info_answer(alloc, value, &table.numeric),
         Asked::RawFact => raw_answer(alloc, value),
         Asked::Fact => fact_answer(alloc, value, table.report.names()),
         Asked::Numeral => numeral_answer(alloc, value),

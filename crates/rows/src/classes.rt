@@ -135,7 +135,7 @@ pub(crate) fn class_answer(alloc: Global, question: &Value) -> Result<String> {
 }
 
 /// What a word says to be allowed.
-fn allowed(word: &str) -> Allowed {
+pub(crate) fn allowed(word: &str) -> Allowed {
     for kind in KINDS {
         if allowed_word(kind) == word {
             return kind;

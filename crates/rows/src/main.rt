@@ -2,7 +2,7 @@
 //!
 //! A file of `data/` has scripts. A line that begins with `# ` begins one and is its title; a line that begins with `=> ` is the reply that is expected to the line before it; one that begins with `= ` is the number of steps that the script takes; every other line is a line of the script. `sheet` reads them, and `beside` compares the replies with those of the program.
 //!
-//! `scripts` runs scripts over memory. The lines of other files are questions: `steps` takes steps of a core, `tables` and `reports` read texts and write them again, `facts` does so with one fact, `numbers` has numerals and intervals, `dimensions` dimension sets and prefixes, and `classes` what facts are to one another. `question` has the parts of a question. `drawn` and `loads` compare fast answers with slow ones.
+//! `scripts` runs scripts over memory. The lines of other files are questions: `steps` takes steps of a core, `tables` and `reports` read texts and write them again, `infos` sets what a report declares, `facts` reads and writes with one fact, `numbers` has numerals and intervals, `dimensions` dimension sets and prefixes, and `classes` what facts are to one another. `question` has the parts of a question. `drawn` and `loads` compare fast answers with slow ones.
 #![tactic(auto)]
 
 mod beside;
@@ -10,6 +10,7 @@ mod classes;
 mod dimensions;
 mod drawn;
 mod facts;
+mod infos;
 mod loads;
 mod numbers;
 mod question;
@@ -48,6 +49,7 @@ pub(crate) enum Asked {
     Fronts,
     Written,
     Parts,
+    Info,
     RawFact,
     Fact,
     Numeral,
@@ -66,7 +68,7 @@ pub(crate) enum Asked {
 const PIECE: usize = 65536;
 
 /// Each is the file NAME.rows.
-const FILES: [(&str, Kind); 24] = [
+const FILES: [(&str, Kind); 25] = [
     ("sessions", Kind::Script(PIECE)),
     ("sessions", Kind::Script(1)),
     ("lines", Kind::Script(PIECE)),
@@ -79,6 +81,7 @@ const FILES: [(&str, Kind); 24] = [
     ("fronts", Kind::Each(Asked::Fronts)),
     ("written", Kind::Each(Asked::Written)),
     ("parts", Kind::Each(Asked::Parts)),
+    ("infos", Kind::Each(Asked::Info)),
     ("raw_facts", Kind::Each(Asked::RawFact)),
     ("facts", Kind::Each(Asked::Fact)),
     ("numerals", Kind::Each(Asked::Numeral)),

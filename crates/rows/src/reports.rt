@@ -24,7 +24,10 @@ pub(crate) fn allowed_word(allowed: Allowed) -> &'static str {
 }
 
 /// Whether a report was read, or the reply that refuses it.
-fn told(alloc: Global, answer: Result<Report, ReportFault>) -> Result<String, AllocError> {
+pub(crate) fn told(
+    alloc: Global,
+    answer: Result<Report, ReportFault>,
+) -> Result<String, AllocError> {
     match answer {
         Ok(_) => String::from_str(alloc, "read"),
         Err(fault) => bad_report_reply(alloc, &fault),
