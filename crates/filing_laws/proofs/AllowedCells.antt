@@ -35,7 +35,8 @@ pub facts-cell_of : (dims : Dims) (entries : List (Text × Fact)) → facts_of (
 facts-cell_of dims [] = refl
 facts-cell_of dims (e ∷ es) = by (facts-cell_of dims es) (has_dims dims e.1)
   where
-    by : facts_of (cell_of dims es) ≡ facts_at dims (facts_of es) → (b : Bool) → facts_of (cond b (e ∷ cell_of dims es) (cell_of dims es)) ≡ cond b (e.1 ∷ facts_at dims (facts_of es)) (facts_at dims (facts_of es))
+    by : facts_of (cell_of dims es) ≡ facts_at dims (facts_of es) → (b : Bool)
+        → facts_of (cond b (e ∷ cell_of dims es) (cell_of dims es)) ≡ cond b (e.1 ∷ facts_at dims (facts_of es)) (facts_at dims (facts_of es))
     by rest true = ap (λ fs. e.1 ∷ fs) rest
     by rest false = rest
 
@@ -80,7 +81,8 @@ pub kept_where_passed : (p : Dims → Bool) (dims : Dims) (ds : List Dims) → p
 kept_where_passed p dims [] passes there = there
 kept_where_passed p dims (d ∷ ds) passes there = by (kept_where_passed p dims ds passes) (dims_eq dims d) refl (p d) refl there
   where
-    by : (has_these dims ds ≡ true → has_these dims (filter p ds) ≡ true) → (same : Bool) → dims_eq dims d ≡ same → (b : Bool) → p d ≡ b → (same || has_these dims ds) ≡ true → has_these dims (cond b (d ∷ filter p ds) (filter p ds)) ≡ true
+    by : (has_these dims ds ≡ true → has_these dims (filter p ds) ≡ true) → (same : Bool) → dims_eq dims d ≡ same → (b : Bool) → p d ≡ b
+        → (same || has_these dims ds) ≡ true → has_these dims (cond b (d ∷ filter p ds) (filter p ds)) ≡ true
     by rest true same true is there = ap (λ b. b || has_these dims (filter p ds)) same
     by rest true same false is there = absurd (true≢false (sym passes ∙ ap p (dims_same dims d same) ∙ is))
     by rest false same true is there = ap (λ b. b || has_these dims (filter p ds)) same ∙ rest there
@@ -176,7 +178,8 @@ least_disallowed_is_the_least a entries dims is = record {
 
 -- ---- repositories
 
-refused_where_some : (entries : List (Text × Report)) → (list_all (λ e. report_obeys e.1) entries ≡ true) ↔ (option_map (λ e. disallowed_cell e.0 e.1) (find (λ e. not (report_obeys e.1)) entries) ≡ None)
+refused_where_some : (entries : List (Text × Report))
+    → (list_all (λ e. report_obeys e.1) entries ≡ true) ↔ (option_map (λ e. disallowed_cell e.0 e.1) (find (λ e. not (report_obeys e.1)) entries) ≡ None)
 refused_where_some [] = (λ h. refl, λ h. refl)
 refused_where_some (e ∷ es) = by (refused_where_some es) (report_obeys e.1)
   where

@@ -67,7 +67,8 @@ module _ (c d : Repository) (name : Text) (r s : Report) (in_c : report_at c nam
   fact_alike : (id : Text) → Agree (thing.Id name id) c d → fact_in r id ≡ fact_in s id
   fact_alike id agree = sym (fact_there c name r id in_c) ∙ agree_fact name id c d agree ∙ fact_there d name s id in_d
 
-  facts_alike : (test : Text → Fact → Bool) → ((id : Text) → only (test id) (fact_at c name id) ≡ only (test id) (fact_at d name id)) → (id : Text) → only (test id) (fact_in r id) ≡ only (test id) (fact_in s id)
+  facts_alike : (test : Text → Fact → Bool) → ((id : Text) → only (test id) (fact_at c name id) ≡ only (test id) (fact_at d name id)) → (id : Text)
+      → only (test id) (fact_in r id) ≡ only (test id) (fact_in s id)
   facts_alike test same id = ap (only (test id)) (sym (fact_there c name r id in_c)) ∙ same id ∙ ap (only (test id)) (fact_there d name s id in_d)
 
   get_alike : (id : Text) → Agree (thing.Id name id) c d → Alike (call.Get name id)
@@ -156,7 +157,8 @@ alike_in c d (call.Declare name value) r s in_c in_d names agree = declare_alike
 
 -- ---- one call
 
-pub call_alike : (kind : Kind) (ask : Call) (c d : Repository) → Stays c d → AgreeOn (read_by kind ask c) c d → IsAlike c d (answer kind ask c) (answer kind ask d) (read_by kind ask c) (read_by kind ask d)
+pub call_alike : (kind : Kind) (ask : Call) (c d : Repository) → Stays c d → AgreeOn (read_by kind ask c) c d
+    → IsAlike c d (answer kind ask c) (answer kind ask d) (read_by kind ask c) (read_by kind ask d)
 call_alike kind ask c d stays = by (may_make kind ask) (report_at c name) (report_at d name) refl refl
   where
     name : Text
@@ -178,7 +180,8 @@ call_alike kind ask c d stays = by (may_make kind ask) (report_at c name) (repor
         let apart : None ≡ Some r.names = sym (ap (option_map (λ (r : Report). r.names)) gone) ∙ stays name r.names (names_there c name r is) in
         cc
 
-    by : (may : Bool) (o p : Option Report) → report_at c name ≡ o → report_at d name ≡ p → AgreeOn (reading may o) c d → IsAlike c d (answered c may o) (answered d may p) (reading may o) (reading may p)
+    by : (may : Bool) (o p : Option Report) → report_at c name ≡ o → report_at d name ≡ p → AgreeOn (reading may o) c d
+        → IsAlike c d (answered c may o) (answered d may p) (reading may o) (reading may p)
     by false o p in_c in_d agree = record { reply = refl; kept = λ t agree. agree; read = refl }
     by true None None in_c in_d agree = record { reply = refl; kept = λ t agree. agree; read = refl }
     by true None (Some s) in_c in_d agree = absurd (new_there s agree in_c in_d)

@@ -42,7 +42,8 @@ change_in-insert change name new m = ap (λ o. unwrap_or o no_change) (get-inser
     by true = refl
     by false = refl
 
-pub change_at-with_change : (change : Change) (name id : Text) (fact : Option Fact) (m q : Text) → change_at (with_change change name id fact) m q ≡ cond (text_eq m name && text_eq q id) (Some fact) (change_at change m q)
+pub change_at-with_change : (change : Change) (name id : Text) (fact : Option Fact) (m q : Text)
+    → change_at (with_change change name id fact) m q ≡ cond (text_eq m name && text_eq q id) (Some fact) (change_at change m q)
 change_at-with_change change name id fact m q = ap (λ (x : ReportChange). get x.facts q) (change_in-insert change name new m) ∙ by (text_eq m name) refl
   where
     new : ReportChange
@@ -74,7 +75,8 @@ change_at-with_declared change name value m q = ap (λ (x : ReportChange). get x
     by true same = ap (λ n. change_at change n q) (sym (text_same m name same))
     by false other = refl
 
-declared_in-with_declared : (change : Change) (name : Text) (value : Allowed) (m : Text) → declared_in (with_declared change name value) m ≡ option_or (value_for m (Some (name, value))) (declared_in change m)
+declared_in-with_declared : (change : Change) (name : Text) (value : Allowed) (m : Text)
+    → declared_in (with_declared change name value) m ≡ option_or (value_for m (Some (name, value))) (declared_in change m)
 declared_in-with_declared change name value m = ap (λ (x : ReportChange). x.declared) (change_in-insert change name new m) ∙ by (text_eq m name)
   where
     new : ReportChange
@@ -170,7 +172,8 @@ hidden_both test before after name id fails =
     not_passed test (fact_at before name id) parts.0 ∙ sym (not_passed test (fact_at after name id) parts.1)
 
 -- what fails of each changed identifier fails of one of them
-of_changed : (test : Text × Option Fact → Bool) (change : Change) (name id : Text) → IsNever test (change_in change name).facts.entries → is_some (change_at change name id) ≡ true → (fact : Option Fact) × (test (id, fact) ≡ false)
+of_changed : (test : Text × Option Fact → Bool) (change : Change) (name id : Text) → IsNever test (change_in change name).facts.entries
+    → is_some (change_at change name id) ≡ true → (fact : Option Fact) × (test (id, fact) ≡ false)
 of_changed test change name id never changed = by (change_at change name id) refl changed
   where
     by : (o : Option (Option Fact)) → change_at change name id ≡ o → is_some o ≡ true → (fact : Option Fact) × (test (id, fact) ≡ false)

@@ -26,7 +26,8 @@ pub fact_in-with_facts : (es : List (Text × Option Fact)) (r : Report) (q : Tex
 fact_in-with_facts [] r q = refl
 fact_in-with_facts (e ∷ es) r q = fact_in-with_fact (with_facts es r) e.0 e.1 q ∙ by (text_eq q e.0) (fact_in-with_facts es r q)
   where
-    by : (b : Bool) → fact_in (with_facts es r) q ≡ unwrap_or (find text_cmp q es) (fact_in r q) → cond b e.1 (fact_in (with_facts es r) q) ≡ unwrap_or (cond b (Some e.1) (find text_cmp q es)) (fact_in r q)
+    by : (b : Bool) → fact_in (with_facts es r) q ≡ unwrap_or (find text_cmp q es) (fact_in r q)
+        → cond b e.1 (fact_in (with_facts es r) q) ≡ unwrap_or (cond b (Some e.1) (find text_cmp q es)) (fact_in r q)
     by true later = refl
     by false later = later
 
@@ -71,7 +72,8 @@ unchanged (Some r) = refl
 abbrev change_of : List (Text × ReportChange) → Text → ReportChange
 change_of es m = unwrap_or (find text_cmp m es) no_change
 
-report_at-with_changes : (es : List (Text × ReportChange)) (c : Repository) (m : Text) → T (is_sorted text_cmp es) → report_at (with_changes es c) m ≡ option_map (changed (change_of es m)) (report_at c m)
+report_at-with_changes : (es : List (Text × ReportChange)) (c : Repository) (m : Text) → T (is_sorted text_cmp es)
+    → report_at (with_changes es c) m ≡ option_map (changed (change_of es m)) (report_at c m)
 report_at-with_changes [] c m sorted = sym (unchanged (report_at c m))
 report_at-with_changes (e ∷ es) c m sorted =
     report_at-changed_at (with_changes es c) e m

@@ -16,7 +16,8 @@ run_whole h lawful s (n, told) =
     let whole = (known h s lawful).committed n told in
     record { kind = whole.kind; replies = whole.replies; effect = whole.effect }
 
-as_opened : (h : History) (s : ℕ) → IsLawful h → (o : Option Kind) → kind_of s h ≡ o → MatchOption o (all_replies_of s h ≡ []) (λ kind. AreSoloReplies kind (ending_of s h) (base_of s h) (calls_of s h) (all_replies_of s h))
+as_opened : (h : History) (s : ℕ) → IsLawful h → (o : Option Kind) → kind_of s h ≡ o
+    → MatchOption o (all_replies_of s h ≡ []) (λ kind. AreSoloReplies kind (ending_of s h) (base_of s h) (calls_of s h) (all_replies_of s h))
 as_opened h s lawful None is = (known h s lawful).unopened is
 as_opened h s lawful (Some kind) is = (known h s lawful).opened kind is
 

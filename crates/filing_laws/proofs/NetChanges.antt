@@ -81,7 +81,9 @@ change_at-change_between opening copy (p ∷ ps) m q = by (is_place m q p) refl 
 -- ---- what a run leaves of the count
 
 -- a call leaves the copy as it is, puts or removes one fact, or declares one value
-answer_either : (P : Repository → Type 0) (kind : Kind) (ask : Call) (c : Repository) → P c → ((name id : Text) (fact : Option Fact) → P (with_fact_at c name id fact)) → ((name : Text) (value : Allowed) → P (declaring_at c name value)) → P (answer kind ask c).1
+answer_either : (P : Repository → Type 0) (kind : Kind) (ask : Call) (c : Repository) → P c
+    → ((name id : Text) (fact : Option Fact) → P (with_fact_at c name id fact)) → ((name : Text) (value : Allowed) → P (declaring_at c name value))
+    → P (answer kind ask c).1
 answer_either P kind ask c same put declare = by (may_make kind ask) (report_at c (report_of_call ask))
   where
     fitting : (name id : Text) (taken : Bool) (fit : Result Fact FactFault) → P (cond taken (reply.Taken, c) (fitted c name id fit)).1

@@ -121,14 +121,17 @@ module _ (r : Report) (ids : TextMap (Option Fact)) where
           ap (λ b. cond b (Some f) None) (each_found (λ e. OnEach (λ f. has_dims dims f ≡ false) e.1) q (Some f) ids.entries (none_new (has_dims dims) ids.entries never) is)
 
   -- it is allowed, as it was
-  allowed_without_new : report_obeys r ≡ true → (dims : Dims) → IsNever (has_dims dims) (put_facts ids) → is_allowed (with_facts ids.entries r).allowed (with_facts ids.entries r).facts.entries dims ≡ true
+  allowed_without_new : report_obeys r ≡ true → (dims : Dims) → IsNever (has_dims dims) (put_facts ids)
+      → is_allowed (with_facts ids.entries r).allowed (with_facts ids.entries r).facts.entries dims ≡ true
   allowed_without_new holds dims never =
       ap (λ (x : Report). is_allowed x.allowed (with_facts ids.entries r).facts.entries dims) (bare-with_facts ids.entries r)
       ∙ ap (λ es. allows r.allowed (class_of (facts_of es))) (those_same (λ id fact. has_dims dims fact) (with_facts ids.entries r).facts left_facts (λ q. left_alike dims q never))
       ∙ (obeys_where_each_cell_is_allowed r.allowed left_facts.entries).0 (fewer_obey r.allowed (λ e. is_left e.0) r.facts.entries holds) dims
 
   -- so each disallowed cell has a new fact
-  new_where_disallowed : report_obeys r ≡ true → (dims : Dims) → is_allowed (with_facts ids.entries r).allowed (with_facts ids.entries r).facts.entries dims ≡ false → list_any (has_dims dims) (put_facts ids) ≡ true
+  new_where_disallowed : report_obeys r ≡ true → (dims : Dims)
+      → is_allowed (with_facts ids.entries r).allowed (with_facts ids.entries r).facts.entries dims ≡ false
+      → list_any (has_dims dims) (put_facts ids) ≡ true
   new_where_disallowed holds dims disallowed = by (list_any (has_dims dims) (put_facts ids)) refl
     where
       by : (b : Bool) → list_any (has_dims dims) (put_facts ids) ≡ b → b ≡ true
@@ -142,7 +145,8 @@ any_map test g [] = refl
 any_map test g (x ∷ xs) = ap (λ b. test (g x) || b) (any_map test g xs)
 
 -- all that pass are in both lists, so the least that passes is the same
-least_where : (p : Dims → Bool) (xs ys : List Dims) → ((d : Dims) → p d ≡ true → has_these d xs ≡ true) → ((d : Dims) → p d ≡ true → has_these d ys ≡ true) → least_dims (filter p xs) ≡ least_dims (filter p ys)
+least_where : (p : Dims → Bool) (xs ys : List Dims) → ((d : Dims) → p d ≡ true → has_these d xs ≡ true)
+    → ((d : Dims) → p d ≡ true → has_these d ys ≡ true) → least_dims (filter p xs) ≡ least_dims (filter p ys)
 least_where p xs ys in_xs in_ys = by (least_dims (filter p xs)) refl (least_dims (filter p ys)) refl
   where
     IsLeastIn : List Dims → Dims → Type 0

@@ -50,7 +50,8 @@ pub newest : (h : History) → last_or None (versions h) ≡ Some (repository h)
 newest [] = refl
 newest (e ∷ older) = by (counts e.reply) refl (newest older)
   where
-    by : (b : Bool) → counts e.reply ≡ b → last_or None (versions older) ≡ Some (repository older) → last_or None (versions older ++ cond b (repository (e ∷ older) ∷ []) []) ≡ Some (repository (e ∷ older))
+    by : (b : Bool) → counts e.reply ≡ b → last_or None (versions older) ≡ Some (repository older)
+        → last_or None (versions older ++ cond b (repository (e ∷ older) ∷ []) []) ≡ Some (repository (e ∷ older))
     by true is rest = last_pushed None (versions older) (repository (e ∷ older))
     by false quiet rest = ap (last_or None) (append-nil (versions older)) ∙ rest ∙ ap Some (sym (quiet_repository older e quiet))
 

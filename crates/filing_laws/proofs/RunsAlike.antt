@@ -109,7 +109,8 @@ apart_parts : (m q : Text) (o : Option (Text × Text)) (ps : List (Text × Text)
 apart_parts m q None ps h = (refl, h)
 apart_parts m q (Some p) ps h = never_parts (is_place m q) p ps h
 
-pub run_leaves_facts : (kind : Kind) (calls : List Call) (c : Repository) (m q : Text) → IsNever (is_place m q) (staged_places calls (solo_replies kind c calls)) → fact_at (solo_copy kind c calls) m q ≡ fact_at c m q
+pub run_leaves_facts : (kind : Kind) (calls : List Call) (c : Repository) (m q : Text)
+    → IsNever (is_place m q) (staged_places calls (solo_replies kind c calls)) → fact_at (solo_copy kind c calls) m q ≡ fact_at c m q
 run_leaves_facts kind [] c m q out = refl
 run_leaves_facts kind (ask ∷ calls) c m q out =
     let after = answer kind ask c in
@@ -217,7 +218,8 @@ only_staged : {A : Type 0} (Q : A → Type 0) (r : Reply) (o : Option A) → OnE
 only_staged Q reply.Staged o h = h
 only_staged Q r o h = tt
 
-call_read : (P : Thing → Type 0) (kind : Kind) (ask : Call) (c : Repository) → OnEach P (read_by kind ask c) → OnEach (λ (p : Text × Text). P (thing.Id p.0 p.1)) (if_staged (answer kind ask c).0 (place_of_call ask))
+call_read : (P : Thing → Type 0) (kind : Kind) (ask : Call) (c : Repository) → OnEach P (read_by kind ask c)
+    → OnEach (λ (p : Text × Text). P (thing.Id p.0 p.1)) (if_staged (answer kind ask c).0 (place_of_call ask))
 call_read P kind ask c = by (may_make kind ask) (report_at c (report_of_call ask))
   where
     by : (may : Bool) (o : Option Report) → OnEach P (cond may (option_map_or (read_in ask) o (Some (thing.Report (report_of_call ask)))) None)
@@ -226,7 +228,8 @@ call_read P kind ask c = by (may_make kind ask) (report_at c (report_of_call ask
     by true None h = tt
     by true (Some r) h = only_staged (λ (p : Text × Text). P (thing.Id p.0 p.1)) (answer_in c ask r).0 (place_of_call ask) (staged_reading P c ask r h)
 
-pub staged_were_read : (P : Thing → Type 0) (kind : Kind) (calls : List Call) (c : Repository) → Each P (reads kind c calls) → Each (λ (p : Text × Text). P (thing.Id p.0 p.1)) (staged_places calls (solo_replies kind c calls))
+pub staged_were_read : (P : Thing → Type 0) (kind : Kind) (calls : List Call) (c : Repository) → Each P (reads kind c calls)
+    → Each (λ (p : Text × Text). P (thing.Id p.0 p.1)) (staged_places calls (solo_replies kind c calls))
 staged_were_read P kind [] c h = tt
 staged_were_read P kind (ask ∷ calls) c h =
     let after = answer kind ask c in

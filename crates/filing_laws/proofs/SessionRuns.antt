@@ -107,7 +107,8 @@ untold o n none some = let apart : None ≡ Some (reply.Committed n) = sym none 
 
 module _ (older : History) (session : Option ℕ) (s : ℕ) (r : Reply) where
   -- all its replies with the last one
-  all_at_end : (kind : Kind) → IsLawful older → status_of s older ≡ Live kind → IsGoing kind (part_of s older) → all_replies_of s older ++ r ∷ [] ≡ reply.Opened ∷ solo_replies kind (base_of s older) (calls_of s older ++ []) ++ r ∷ []
+  all_at_end : (kind : Kind) → IsLawful older → status_of s older ≡ Live kind → IsGoing kind (part_of s older)
+      → all_replies_of s older ++ r ∷ [] ≡ reply.Opened ∷ solo_replies kind (base_of s older) (calls_of s older ++ []) ++ r ∷ []
   all_at_end kind lawful live going =
       ap (λ rs. rs ++ r ∷ []) going.all
       ∙ ap (λ rs. reply.Opened ∷ rs ++ r ∷ []) (own_replies older s kind lawful live)
@@ -128,7 +129,8 @@ module _ (older : History) (session : Option ℕ) (s : ℕ) (r : Reply) where
       → IsKnown (part_with true s (record { session = session; step = Close; reply = r }) older)
   closing kind lawful live going is = record {
     committed = λ n e. absurd (untold (told_at_commit s older) n going.told e);
-    opened = λ k of_kind. subst (λ k. AreSoloReplies k Closing (base_of s older) (calls_of s older ++ []) (all_replies_of s older ++ r ∷ [])) (same_Some kind k (sym going.of_kind ∙ of_kind)) (closed_at kind lawful live going is);
+    opened =
+        λ k of_kind. subst (λ k. AreSoloReplies k Closing (base_of s older) (calls_of s older ++ []) (all_replies_of s older ++ r ∷ [])) (same_Some kind k (sym going.of_kind ∙ of_kind)) (closed_at kind lawful live going is);
     unopened = was_opened (kind_of s older) kind (all_replies_of s older ++ r ∷ []) going.of_kind;
   }
 
@@ -143,21 +145,26 @@ module _ (older : History) (session : Option ℕ) (s : ℕ) (r : Reply) where
   passed kind n next mine live going told (Passed it) =
       let same : it.s ≡ s = number_known session it.s s it.of_it mine in
       let amends : kind ≡ Amend = same_kind kind Amend (sym live ∙ ap (λ m. status_of m older) (sym same) ∙ it.live) in
-      let earlier : replies_of s older ≡ solo_replies Amend (repository older) (calls_of s older) = subst (λ m. replies_of m older ≡ solo_replies Amend (repository older) (calls_of m older)) same it.earlier in
+      let earlier : replies_of s older ≡ solo_replies Amend (repository older) (calls_of s older) =
+          subst (λ m. replies_of m older ≡ solo_replies Amend (repository older) (calls_of m older)) same it.earlier in
       let obeys : refusal_of (passed_copy s older) ≡ None = subst (λ m. refusal_of (passed_copy m older) ≡ None) same it.obeys in
-      let result : repository (entry ∷ older) ≡ record (passed_copy s older) { count = (repository older).count + 1 } = subst (λ m. repository (entry ∷ older) ≡ record (passed_copy m older) { count = (repository older).count + 1 }) same it.result in
-      let number : r ≡ unwrap_or (refusal_of (passed_copy s older)) (reply.Committed ((repository older).count + 1)) = it.reply ∙ sym (ap (λ o. unwrap_or o (reply.Committed ((repository older).count + 1))) obeys) in
+      let result : repository (entry ∷ older) ≡ record (passed_copy s older) { count = (repository older).count + 1 } =
+          subst (λ m. repository (entry ∷ older) ≡ record (passed_copy m older) { count = (repository older).count + 1 }) same it.result in
+      let number : r ≡ unwrap_or (refusal_of (passed_copy s older)) (reply.Committed ((repository older).count + 1)) = it.reply
+          ∙ sym (ap (λ o. unwrap_or o (reply.Committed ((repository older).count + 1))) obeys) in
       subst (λ cs. IsWhole (record (part_with true s entry older) { calls = cs })) (sym (append-nil (calls_of s older))) (record {
         kind = going.of_kind ∙ ap Some amends;
         replies = ap (λ rs. rs ++ r ∷ []) going.all ∙ (λ i. reply.Opened ∷ earlier i ++ number i ∷ []);
         effect = result ∙ sym (ap (λ (o : Option Reply). option_map_or (λ (refusal : Reply). repository older) o (record (passed_copy s older) { count = (repository older).count + 1 })) obeys);
       })
 
-  committing : (kind : Kind) → IsLawful older → IsNext older entry → option_map_or (λ n. n == s) session false ≡ true → status_of s older ≡ Live kind → IsGoing kind (part_of s older) → IsCommitReply kind older s r
+  committing : (kind : Kind) → IsLawful older → IsNext older entry → option_map_or (λ n. n == s) session false ≡ true → status_of s older ≡ Live kind
+      → IsGoing kind (part_of s older) → IsCommitReply kind older s r
       → IsKnown (part_with true s entry older)
   committing kind lawful next mine live going is = record {
     committed = λ n e. passed kind n next mine live going (let told : Some r ≡ Some (reply.Committed n) = e in cc) (entry_case older entry next);
-    opened = λ k of_kind. subst (λ k. AreSoloReplies k Committing (base_of s older) (calls_of s older ++ []) (all_replies_of s older ++ r ∷ [])) (same_Some kind k (sym going.of_kind ∙ of_kind)) (committed_at kind lawful live going is);
+    opened =
+        λ k of_kind. subst (λ k. AreSoloReplies k Committing (base_of s older) (calls_of s older ++ []) (all_replies_of s older ++ r ∷ [])) (same_Some kind k (sym going.of_kind ∙ of_kind)) (committed_at kind lawful live going is);
     unopened = was_opened (kind_of s older) kind (all_replies_of s older ++ r ∷ []) going.of_kind;
   }
 
@@ -186,7 +193,8 @@ pub record IsLiveStep (older : History) (s : ℕ) (kind : Kind) : Type 0 where
   pub live : status_of s older ≡ Live kind
   pub going : IsGoing kind (part_of s older)
 
-live_step : (older : History) (session : Option ℕ) (s n : ℕ) (k : Kind) → IsOngoing older session n k → option_map_or (λ n. n == s) session false ≡ true → IsAt (status_of s older) (part_of s older) → (n ≡ s) × IsLiveStep older s k
+live_step : (older : History) (session : Option ℕ) (s n : ℕ) (k : Kind) → IsOngoing older session n k
+    → option_map_or (λ n. n == s) session false ≡ true → IsAt (status_of s older) (part_of s older) → (n ≡ s) × IsLiveStep older s k
 live_step older session s n k ongoing mine before =
     let same : n ≡ s = number_known session n s ongoing.of_it mine in
     let live : status_of s older ≡ Live k = sym (ap (λ m. status_of m older) same) ∙ ongoing.live in

@@ -40,7 +40,8 @@ module _ (s n : ℕ) (other : (n == s) ≡ false) where
       by false not_mine rest = ap (λ calls. calls ++ cond (is_of n e) (call_in e.step) []) rest
 
 -- an entry of another session has the same effect
-effect_without : (s : ℕ) (r : Reply) (session : Option ℕ) (step : Step) (older : History) (c : Repository) → option_map_or (λ n. n == s) session false ≡ false → effect_of r session step (without s older) c ≡ effect_of r session step older c
+effect_without : (s : ℕ) (r : Reply) (session : Option ℕ) (step : Step) (older : History) (c : Repository)
+    → option_map_or (λ n. n == s) session false ≡ false → effect_of r session step (without s older) c ≡ effect_of r session step older c
 effect_without s (reply.Committed n) None step older c other = refl
 effect_without s (reply.Committed n) (Some m) step older c other = λ i. committed (status_without s m other older i) c (calls_without s m other older i)
 effect_without s _ session step older c other = refl
@@ -58,7 +59,8 @@ live_is_not_ended older session s n k ongoing mine ended =
     cc
 
 -- before an entry of its own a session has not ended
-going_before : (older : History) (session : Option ℕ) (step : Step) (r : Reply) (s : ℕ) → IsLawful older → IsNextStep older session step r → option_map_or (λ n. n == s) session false ≡ true → status_of s older ≡ Ended → ⊥
+going_before : (older : History) (session : Option ℕ) (step : Step) (r : Reply) (s : ℕ) → IsLawful older → IsNextStep older session step r
+    → option_map_or (λ n. n == s) session false ≡ true → status_of s older ≡ Ended → ⊥
 going_before older session (Load name x) r s lawful next mine ended = absurd (true≢false (sym mine ∙ ap (λ o. option_map_or (λ n. n == s) o false) next.0))
 going_before older session (Open k) r s lawful next mine ended =
     let fresh = not_opened older s lawful (let same : openings older + 1 ≡ s = number_known session (openings older + 1) s next.0 mine in omega arith) in
@@ -87,7 +89,8 @@ pub leaves : (h : History) (s : ℕ) → IsLawful h → ¬ IsCommitted s h → r
 leaves [] s lawful not_committed = refl
 leaves (e ∷ older) s lawful not_committed = by (is_of s e) refl (leaves older s lawful.0)
   where
-    by : (mine : Bool) → is_of s e ≡ mine → (¬ IsCommitted s older → repository (without s older) ≡ repository older) → repository (cond (not mine) (e ∷ without s older) (without s older)) ≡ repository (e ∷ older)
+    by : (mine : Bool) → is_of s e ≡ mine → (¬ IsCommitted s older → repository (without s older) ≡ repository older)
+        → repository (cond (not mine) (e ∷ without s older) (without s older)) ≡ repository (e ∷ older)
     by true mine rest = rest (not_committed_before older e s lawful mine) ∙ sym (own_entry older e s lawful mine not_committed (entry_case older e lawful.1))
     by false other rest =
         effect_without s e.reply e.session e.step older (repository (without s older)) other

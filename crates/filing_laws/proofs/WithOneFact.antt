@@ -25,7 +25,8 @@ names-with_fact r id (Some fact) = refl
 
 -- ---- repositories
 
-pub report_at-with_fact_at : (c : Repository) (name id : Text) (fact : Option Fact) (r : Report) (m : Text) → report_at c name ≡ Some r → report_at (with_fact_at c name id fact) m ≡ cond (text_eq m name) (Some (with_fact r id fact)) (report_at c m)
+pub report_at-with_fact_at : (c : Repository) (name id : Text) (fact : Option Fact) (r : Report) (m : Text) → report_at c name ≡ Some r
+    → report_at (with_fact_at c name id fact) m ≡ cond (text_eq m name) (Some (with_fact r id fact)) (report_at c m)
 report_at-with_fact_at c name id fact r m there =
     ap (λ o. report_at (option_map_or (λ r. with_report_at c name (with_fact r id fact)) o c) m) there
     ∙ get-insert c.reports name (with_fact r id fact) m
@@ -43,10 +44,12 @@ names_at-with_fact_at c name id fact m = by (report_at c name) refl
     by (Some r) there = ap (option_map (λ (r : Report). r.names)) (report_at-with_fact_at c name id fact r m there) ∙ found r there (text_eq m name) refl
 
 -- in a report that is there, the fact is new at that identifier, and each other is as before
-pub fact_at-with_fact_at : (c : Repository) (name id : Text) (fact : Option Fact) (m q : Text) → is_some (report_at c name) ≡ true → fact_at (with_fact_at c name id fact) m q ≡ cond (text_eq m name && text_eq q id) fact (fact_at c m q)
+pub fact_at-with_fact_at : (c : Repository) (name id : Text) (fact : Option Fact) (m q : Text) → is_some (report_at c name) ≡ true
+    → fact_at (with_fact_at c name id fact) m q ≡ cond (text_eq m name && text_eq q id) fact (fact_at c m q)
 fact_at-with_fact_at c name id fact m q there = by (report_at c name) refl
   where
-    found : (r : Report) → report_at c name ≡ Some r → (b : Bool) → text_eq m name ≡ b → option_and_then (λ r. fact_in r q) (cond b (Some (with_fact r id fact)) (report_at c m)) ≡ cond (b && text_eq q id) fact (fact_at c m q)
+    found : (r : Report) → report_at c name ≡ Some r → (b : Bool) → text_eq m name ≡ b
+        → option_and_then (λ r. fact_in r q) (cond b (Some (with_fact r id fact)) (report_at c m)) ≡ cond (b && text_eq q id) fact (fact_at c m q)
     found r is true same = fact_in-with_fact r id fact q ∙ ap (λ o. cond (text_eq q id) fact o) (sym (ap (option_and_then (λ r. fact_in r q)) (ap (report_at c) (text_same m name same) ∙ is)))
     found r is false other = refl
 

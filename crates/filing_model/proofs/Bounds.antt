@@ -49,9 +49,11 @@ kept_digits digits e =
 pub all_digits : (whole fraction : Text) → list_all is_ascii_digit (whole ++ fraction) ≡ true → list_all is_ascii_digit (without_front is_zero whole ++ without_end is_zero fraction) ≡ true
 all_digits whole fraction e =
     let t = and_parts (list_all is_ascii_digit whole) (list_all is_ascii_digit fraction) (sym (list_all-append is_ascii_digit whole fraction) ∙ e) in
-    list_all-append is_ascii_digit (without_front is_zero whole) (without_end is_zero fraction) ∙ ap (λ b. b && list_all is_ascii_digit (without_end is_zero fraction)) (cut_digits whole t.0) ∙ kept_digits fraction t.1
+    list_all-append is_ascii_digit (without_front is_zero whole) (without_end is_zero fraction)
+        ∙ ap (λ b. b && list_all is_ascii_digit (without_end is_zero fraction)) (cut_digits whole t.0) ∙ kept_digits fraction t.1
 
-pub scaled_below : (whole fraction : Text) → list_all is_ascii_digit (whole ++ fraction) ≡ true → length whole ≤ most_whole_digits → length fraction ≤ most_fraction_digits → scaled whole fraction < 10 ^ (most_whole_digits + most_fraction_digits)
+pub scaled_below : (whole fraction : Text) → list_all is_ascii_digit (whole ++ fraction) ≡ true → length whole ≤ most_whole_digits
+    → length fraction ≤ most_fraction_digits → scaled whole fraction < 10 ^ (most_whole_digits + most_fraction_digits)
 scaled_below whole fraction digits few_whole few_fraction =
     let left = most_fraction_digits - length fraction in
     let positive : 0 < 10 ^ left = pow-le-pow_right {n = 10} (omega arith) {i = 0} {j = left} (omega arith) in

@@ -19,34 +19,44 @@ module _ {X Y : Type 0} (kept : Y → Bool) (view : X → Y) where
   -- a test of the elements that are kept
   pub list_all_kept : (test : Y → Bool) (xs : List X) → list_all (λ x. not (kept (view x)) || test (view x)) xs ≡ list_all test (filter kept (map view xs))
   list_all_kept test [] = refl
-  list_all_kept test (x ∷ xs) = elim (kept (view x)) as (λ b. ((not b || test (view x)) && list_all (λ x. not (kept (view x)) || test (view x)) xs) ≡ list_all test (cond b (view x ∷ filter kept (map view xs)) (filter kept (map view xs)))) [
+  list_all_kept test (x ∷ xs) =
+      elim (kept (view x)) as (λ b. ((not b || test (view x)) && list_all (λ x. not (kept (view x)) || test (view x)) xs) ≡ list_all test (cond b (view x ∷ filter kept (map view xs)) (filter kept (map view xs)))) [
     | true ↦ ap (λ b. test (view x) && b) (list_all_kept test xs)
     | false ↦ list_all_kept test xs
   ]
 
   -- what is asked of the first element of a list, whether it is kept or not
-  pub front : (test : Y → Y → Bool) (first : X) (rest : List X) → every_pair test (filter kept (map view (first ∷ rest))) ≡ ((not (kept (view first)) || list_all (λ x. not (kept (view x)) || test (view first) (view x)) rest) && every_pair test (filter kept (map view rest)))
-  front test first rest = elim (kept (view first)) as (λ b. every_pair test (cond b (view first ∷ filter kept (map view rest)) (filter kept (map view rest))) ≡ ((not b || list_all (λ x. not (kept (view x)) || test (view first) (view x)) rest) && every_pair test (filter kept (map view rest)))) [
+  pub front : (test : Y → Y → Bool) (first : X) (rest : List X)
+      → every_pair test (filter kept (map view (first ∷ rest))) ≡ ((not (kept (view first)) || list_all (λ x. not (kept (view x)) || test (view first) (view x)) rest) && every_pair test (filter kept (map view rest)))
+  front test first rest =
+      elim (kept (view first)) as (λ b. every_pair test (cond b (view first ∷ filter kept (map view rest)) (filter kept (map view rest))) ≡ ((not b || list_all (λ x. not (kept (view x)) || test (view first) (view x)) rest) && every_pair test (filter kept (map view rest)))) [
     | true ↦ ap (λ b. b && every_pair test (filter kept (map view rest))) (sym (list_all_kept (test (view first)) rest))
     | false ↦ refl
   ]
 
   -- one turn of a walk down the list
-  turn : (test : Y → Y → Bool) (xs : List X) (first : X) (passed : Bool) → 1 ≤ length xs → first ≡ get_or xs 0 first → passed ≡ (not (kept (view first)) || list_all (λ x. not (kept (view x)) || test (view first) (view x)) (take (length xs - 1) (drop 1 xs))) → every_pair test (filter kept (map view xs)) ≡ (passed && every_pair test (filter kept (map view (take (length xs - 1) (drop 1 xs)))))
+  turn : (test : Y → Y → Bool) (xs : List X) (first : X) (passed : Bool) → 1 ≤ length xs → first ≡ get_or xs 0 first
+      → passed ≡ (not (kept (view first)) || list_all (λ x. not (kept (view x)) || test (view first) (view x)) (take (length xs - 1) (drop 1 xs)))
+      → every_pair test (filter kept (map view xs)) ≡ (passed && every_pair test (filter kept (map view (take (length xs - 1) (drop 1 xs)))))
   turn test xs first passed some e p =
       ap (λ ys. every_pair test (filter kept (map view ys))) (first_and_rest xs first some e)
       ∙ front test first (take (length xs - 1) (drop 1 xs))
       ∙ ap (λ b. b && every_pair test (filter kept (map view (take (length xs - 1) (drop 1 xs))))) (sym p)
 
-  pub turn_passes : (test : Y → Y → Bool) (xs : List X) (first : X) (passed : Bool) → 1 ≤ length xs → first ≡ get_or xs 0 first → passed ≡ (not (kept (view first)) || list_all (λ x. not (kept (view x)) || test (view first) (view x)) (take (length xs - 1) (drop 1 xs))) → passed ≡ true → every_pair test (filter kept (map view xs)) ≡ every_pair test (filter kept (map view (take (length xs - 1) (drop 1 xs))))
+  pub turn_passes : (test : Y → Y → Bool) (xs : List X) (first : X) (passed : Bool) → 1 ≤ length xs → first ≡ get_or xs 0 first
+      → passed ≡ (not (kept (view first)) || list_all (λ x. not (kept (view x)) || test (view first) (view x)) (take (length xs - 1) (drop 1 xs)))
+      → passed ≡ true → every_pair test (filter kept (map view xs)) ≡ every_pair test (filter kept (map view (take (length xs - 1) (drop 1 xs))))
   turn_passes test xs first passed some e p passes = turn test xs first passed some e p ∙ ap (λ b. b && every_pair test (filter kept (map view (take (length xs - 1) (drop 1 xs))))) passes
 
-  pub turn_fails : (test : Y → Y → Bool) (xs : List X) (first : X) (passed : Bool) → 1 ≤ length xs → first ≡ get_or xs 0 first → passed ≡ (not (kept (view first)) || list_all (λ x. not (kept (view x)) || test (view first) (view x)) (take (length xs - 1) (drop 1 xs))) → passed ≡ false → every_pair test (filter kept (map view xs)) ≡ false
+  pub turn_fails : (test : Y → Y → Bool) (xs : List X) (first : X) (passed : Bool) → 1 ≤ length xs → first ≡ get_or xs 0 first
+      → passed ≡ (not (kept (view first)) || list_all (λ x. not (kept (view x)) || test (view first) (view x)) (take (length xs - 1) (drop 1 xs)))
+      → passed ≡ false → every_pair test (filter kept (map view xs)) ≡ false
   turn_fails test xs first passed some e p fails = turn test xs first passed some e p ∙ ap (λ b. b && every_pair test (filter kept (map view (take (length xs - 1) (drop 1 xs))))) fails
 
   same_length : (xs : List X) → length (filter (λ x. kept (view x)) xs) ≡ length (filter kept (map view xs))
   same_length [] = refl
-  same_length (x ∷ xs) = elim (kept (view x)) as (λ b. length (cond b (x ∷ filter (λ x. kept (view x)) xs) (filter (λ x. kept (view x)) xs)) ≡ length (cond b (view x ∷ filter kept (map view xs)) (filter kept (map view xs)))) [
+  same_length (x ∷ xs) =
+      elim (kept (view x)) as (λ b. length (cond b (x ∷ filter (λ x. kept (view x)) xs) (filter (λ x. kept (view x)) xs)) ≡ length (cond b (view x ∷ filter kept (map view xs)) (filter kept (map view xs)))) [
     | true ↦ ap (λ n. suc n) (same_length xs)
     | false ↦ same_length xs
   ]
@@ -78,13 +88,19 @@ kept_or_not true f z x xs = refl
 kept_or_not false f z x xs = refl
 
 -- one turn of a search for the least dimensions
-pub least_turn : {X : Type 0} (view : X → Fact) (test : Dims → Bool) (least next : Option Dims) (xs : List X) (i : ℕ) (x : X) (total : Option Dims) → i < length xs → x ≡ get_or xs i x → next ≡ cond (test (view x).dims) (lesser_dims least (view x).dims) least → fold lesser_dims least (filter test (map (λ f. f.dims) (map view (drop i xs)))) ≡ total → fold lesser_dims next (filter test (map (λ f. f.dims) (map view (drop (i + 1) xs)))) ≡ total
+pub least_turn : {X : Type 0} (view : X → Fact) (test : Dims → Bool) (least next : Option Dims) (xs : List X) (i : ℕ) (x : X) (total : Option Dims)
+    → i < length xs → x ≡ get_or xs i x → next ≡ cond (test (view x).dims) (lesser_dims least (view x).dims) least
+    → fold lesser_dims least (filter test (map (λ f. f.dims) (map view (drop i xs)))) ≡ total
+    → fold lesser_dims next (filter test (map (λ f. f.dims) (map view (drop (i + 1) xs)))) ≡ total
 least_turn view test least next xs i x total below e step so_far =
     let cut : drop i xs ≡ x ∷ drop (i + 1) xs = rw add-one (drop-cons xs i x below ∙ ap (λ y. y ∷ drop (suc i) xs) (sym e)) in
     let later = filter test (map (λ f. f.dims) (map view (drop (i + 1) xs))) in
-    ap (λ o. fold lesser_dims o later) step ∙ sym (ap (λ ys. fold lesser_dims least (filter test (map (λ f. f.dims) (map view ys)))) cut ∙ kept_or_not (test (view x).dims) lesser_dims least (view x).dims later) ∙ so_far
+    ap (λ o. fold lesser_dims o later) step
+        ∙ sym (ap (λ ys. fold lesser_dims least (filter test (map (λ f. f.dims) (map view ys)))) cut ∙ kept_or_not (test (view x).dims) lesser_dims least (view x).dims later)
+        ∙ so_far
 
-pub least_end : {X : Type 0} (view : X → Fact) (test : Dims → Bool) (least : Option Dims) (xs : List X) (i : ℕ) → length xs ≤ i → fold lesser_dims least (filter test (map (λ f. f.dims) (map view (drop i xs)))) ≡ least
+pub least_end : {X : Type 0} (view : X → Fact) (test : Dims → Bool) (least : Option Dims) (xs : List X) (i : ℕ) → length xs ≤ i
+    → fold lesser_dims least (filter test (map (λ f. f.dims) (map view (drop i xs)))) ≡ least
 least_end view test least xs i past = ap (λ ys. fold lesser_dims least (filter test (map (λ f. f.dims) (map view ys)))) (drop_all i xs past)
 
 same_prefix : {X Y : Type 0} (test : Y → Bool) (view : X → Y) (xs : List X) → position_or_len test (map view xs) ≡ position_or_len (λ x. test (view x)) xs

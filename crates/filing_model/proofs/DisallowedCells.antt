@@ -96,7 +96,8 @@ within_cell : (Fact → Fact → Bool) → List Fact → Dims → Bool
 within_cell test facts d = every_pair test (filter (has_dims d) facts)
 
 -- a test that holds of facts with other dimensions
-others_pass : (test : Fact → Fact → Bool) → ((f g : Fact) → dims_eq f.dims g.dims ≡ false → test f g ≡ true) → (f : Fact) (facts : List Fact) → list_all (test f) (filter (has_dims f.dims) facts) ≡ true → list_all (test f) facts ≡ true
+others_pass : (test : Fact → Fact → Bool) → ((f g : Fact) → dims_eq f.dims g.dims ≡ false → test f g ≡ true) → (f : Fact) (facts : List Fact)
+    → list_all (test f) (filter (has_dims f.dims) facts) ≡ true → list_all (test f) facts ≡ true
 others_pass test other f [] e = refl
 others_pass test other f (g ∷ facts) e =
     (elim (dims_eq f.dims g.dims) as (λ b. dims_eq f.dims g.dims ≡ b → list_all (test f) (cond b (g ∷ filter (has_dims f.dims) facts) (filter (has_dims f.dims) facts)) ≡ true → (test f g && list_all (test f) facts) ≡ true) [
@@ -112,12 +113,14 @@ behind test f facts d e =
       | false ↦ (λ h. h)
     ]) e
 
-from_cells : (test : Fact → Fact → Bool) → ((f g : Fact) → dims_eq f.dims g.dims ≡ false → test f g ≡ true) → (facts : List Fact) → list_all (within_cell test facts) (map (λ f. f.dims) facts) ≡ true → every_pair test facts ≡ true
+from_cells : (test : Fact → Fact → Bool) → ((f g : Fact) → dims_eq f.dims g.dims ≡ false → test f g ≡ true) → (facts : List Fact)
+    → list_all (within_cell test facts) (map (λ f. f.dims) facts) ≡ true → every_pair test facts ≡ true
 unfolding within_cell
 from_cells test other [] e = refl
 from_cells test other (f ∷ facts) e =
     let t = and_parts (within_cell test (f ∷ facts) f.dims) (list_all (within_cell test (f ∷ facts)) (map (λ f. f.dims) facts)) e in
-    let cell : every_pair test (f ∷ filter (has_dims f.dims) facts) ≡ true = sym (ap (λ b. every_pair test (cond b (f ∷ filter (has_dims f.dims) facts) (filter (has_dims f.dims) facts))) (dims_eq-refl f.dims)) ∙ t.0 in
+    let cell : every_pair test (f ∷ filter (has_dims f.dims) facts) ≡ true = sym (ap (λ b. every_pair test (cond b (f ∷ filter (has_dims f.dims) facts) (filter (has_dims f.dims) facts))) (dims_eq-refl f.dims))
+        ∙ t.0 in
     let first = (and_parts (list_all (test f) (filter (has_dims f.dims) facts)) (every_pair test (filter (has_dims f.dims) facts)) cell).0 in
     and_from (list_all (test f) facts) (every_pair test facts)
     (others_pass test other f facts first)
@@ -139,7 +142,9 @@ unfolding permitted
 others_are_permitted a f g e = ap (λ b. permits a (cond b (value_pair f.value g.value) pair.Apart)) e ∙ apart_is_permitted a
 
 -- facts are permitted beside one another where those of each cell are
-pub permitted_by_cells : (a : Allowed) (facts : List Fact) → ((dims : Dims) → every_pair (λ f g. permits a (pair_of f g)) (filter (has_dims dims) facts) ≡ true) → every_pair (λ f g. permits a (pair_of f g)) facts ≡ true
+pub permitted_by_cells : (a : Allowed) (facts : List Fact)
+    → ((dims : Dims) → every_pair (λ f g. permits a (pair_of f g)) (filter (has_dims dims) facts) ≡ true)
+    → every_pair (λ f g. permits a (pair_of f g)) facts ≡ true
 unfolding within_cell permitted
 permitted_by_cells a facts each = from_cells (permitted a) (others_are_permitted a) facts (all_always (within_cell (permitted a) facts) each (map (λ f. f.dims) facts))
 

@@ -19,7 +19,8 @@ accuracy_again (Some z) d h =
     let parts = passed_test (are_decimals z) (Ok (Some z)) DecimalsOutOfRange d h in
     subst (λ o. accuracy_of o ≡ Ok o) (same_Ok _ _ parts.1) (ap (λ b. cond b (Ok (Some z)) (Err DecimalsOutOfRange)) parts.0)
 
-number_again : (text : Text) (decimals : Option ℤ) (r : Result ℤ NumberFault) (a : Result (Option ℤ) NumberFault) → number_of text ≡ r → accuracy_of decimals ≡ a → (v : FactValue) → number_with text r a ≡ Ok v → numeric_value (text_of v) (decimals_in v) ≡ Ok v
+number_again : (text : Text) (decimals : Option ℤ) (r : Result ℤ NumberFault) (a : Result (Option ℤ) NumberFault) → number_of text ≡ r
+    → accuracy_of decimals ≡ a → (v : FactValue) → number_with text r a ≡ Ok v → numeric_value (text_of v) (decimals_in v) ≡ Ok v
 number_again text decimals (Err e) a p q v h = no_Err (number_fault e) v h
 number_again text decimals (Ok n) (Err e) p q v h = no_Err (number_fault e) v h
 number_again text decimals (Ok n) (Ok d) p q v h = subst (λ w. numeric_value (text_of w) (decimals_in w) ≡ Ok w) (same_Ok _ _ h) (λ i. number_with text (p i) (accuracy_again decimals d q i))
@@ -47,11 +48,13 @@ value_again false raw v h =
     let alone = or_parts (is_some (unit_of raw.dims)) _ parts.0 in
     subst (λ w. placed (is_some (unit_of raw.dims)) w ≡ Ok w) (same_Ok _ _ parts.1) (written_again (is_some (unit_of raw.dims)) raw.value alone.0)
 
-made_again : (raw : RawFact) (numeric : Bool) (r : Result FactValue FactFault) (fact : Fact) → value_of numeric raw ≡ r → with_value raw r ≡ Ok fact → (v : FactValue) × (made raw v ≡ fact) × (value_of numeric (raw_of (made raw v)) ≡ Ok v)
+made_again : (raw : RawFact) (numeric : Bool) (r : Result FactValue FactFault) (fact : Fact) → value_of numeric raw ≡ r → with_value raw r ≡ Ok fact
+    → (v : FactValue) × (made raw v ≡ fact) × (value_of numeric (raw_of (made raw v)) ≡ Ok v)
 made_again raw numeric (Err e) fact p h = no_Err e fact h
 made_again raw numeric (Ok v) fact p h = (v, same_Ok _ _ h, value_again numeric raw v p)
 
-bound_again : (names : Names) (raw : RawFact) (concept : Option (Text × Text)) (fact : Fact) → fit_bound names raw concept ≡ Ok fact → (raw.dims ≡ fact.dims) × (fit_bound names (raw_of fact) concept ≡ Ok fact)
+bound_again : (names : Names) (raw : RawFact) (concept : Option (Text × Text)) (fact : Fact) → fit_bound names raw concept ≡ Ok fact
+    → (raw.dims ≡ fact.dims) × (fit_bound names (raw_of fact) concept ≡ Ok fact)
 bound_again names raw None fact h = no_Err UnboundPrefix fact h
 bound_again names raw (Some concept) fact h =
     let parts = passed_test (are_bound names.prefixes raw.dims) _ UnboundPrefix fact h in

@@ -31,7 +31,8 @@ find-keyed f q (e ∷ es) =
 pub get_keyed_map : {V X : Type 0} (f : V → X) (es : List (String Global × V)) (q : Text) → get (keyed_map f es) q ≡ option_map f (lookup (is_at (λ k. text_cmp q (string_bytes k))) es)
 get_keyed_map f es q = get-from_entries (keyed f es) q ∙ find-keyed f q es
 
-pub keyed-insert_entry : {V X : Type 0} (f : V → X) (es : List (String Global × V)) (k : String Global) (v : V) → keyed f (insert_entry string_cmp es k v) ≡ put text_cmp (string_bytes k) (f v) (keyed f es)
+pub keyed-insert_entry : {V X : Type 0} (f : V → X) (es : List (String Global × V)) (k : String Global) (v : V)
+    → keyed f (insert_entry string_cmp es k v) ≡ put text_cmp (string_bytes k) (f v) (keyed f es)
 keyed-insert_entry f [] k v = refl
 keyed-insert_entry f (e ∷ es) k v =
     elim (text_cmp (string_bytes k) (string_bytes e.0)) as (λ o. keyed f (match_ordering o ((k, v) ∷ e ∷ es) ((e.0, v) ∷ es) (e ∷ insert_entry string_cmp es k v)) ≡ by_order o ((string_bytes k, f v) ∷ keyed f (e ∷ es)) ((string_bytes e.0, f v) ∷ keyed f es) ((string_bytes e.0, f e.1) ∷ put text_cmp (string_bytes k) (f v) (keyed f es))) [
@@ -41,11 +42,13 @@ keyed-insert_entry f (e ∷ es) k v =
     ]
 
 -- an insertion into the map is one into the tree
-pub keyed_map_insert_entry : {V X : Type 0} (f : V → X) (es : List (String Global × V)) (k : String Global) (v : V) → keyed_map f (insert_entry string_cmp es k v) ≡ insert (keyed_map f es) (string_bytes k) (f v)
+pub keyed_map_insert_entry : {V X : Type 0} (f : V → X) (es : List (String Global × V)) (k : String Global) (v : V)
+    → keyed_map f (insert_entry string_cmp es k v) ≡ insert (keyed_map f es) (string_bytes k) (f v)
 keyed_map_insert_entry f es k v = ap (λ x. from_entries x) (keyed-insert_entry f es k v) ∙ from_entries-put (string_bytes k) (f v) (keyed f es)
 
 -- the keys of a tree rise, so its entries are those of the map
-sorted_below : {V X : Type 0} (f : V → X) (k : String Global) (es : List (String Global × V)) → AllByRecursion (λ y. string_cmp k y ≡ Less) (keys_of es) → T (below_all text_cmp (string_bytes k) (keyed f es))
+sorted_below : {V X : Type 0} (f : V → X) (k : String Global) (es : List (String Global × V))
+    → AllByRecursion (λ y. string_cmp k y ≡ Less) (keys_of es) → T (below_all text_cmp (string_bytes k) (keyed f es))
 sorted_below f k [] h = tt
 sorted_below f k (e ∷ es) (less, rest) = both_hold _ _ (subst (λ o. T (is_lt o)) (sym less) tt) (sorted_below f k es rest)
 

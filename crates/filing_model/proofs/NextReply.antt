@@ -10,7 +10,8 @@ use Rattle.filing_model.specs.Lawful.{IsLawful, IsNext, IsNextStep, IsSessionSte
 use Rattle.filing_model.specs.declared.kind.Kind.{Kind}
 use Rattle.filing_model.specs.declared.kind.Kind.TheVariants.{Review, Amend}
 
-amendment : (older : History) (s : ℕ) (r : Reply) (c : Option (ℕ × Thing)) → MatchOption c (IsPassed older s r) (λ c. r ≡ reply.Conflict c.0 c.1) → option_map_or (λ c. reply.Conflict c.0 c.1) c (passed_reply s older) ≡ r
+amendment : (older : History) (s : ℕ) (r : Reply) (c : Option (ℕ × Thing)) → MatchOption c (IsPassed older s r) (λ c. r ≡ reply.Conflict c.0 c.1)
+    → option_map_or (λ c. reply.Conflict c.0 c.1) c (passed_reply s older) ≡ r
 amendment older s r None h = sym h.commit
 amendment older s r (Some c) h = sym h
 

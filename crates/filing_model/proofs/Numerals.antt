@@ -38,11 +38,13 @@ sign_is_not_blank Unsigned = refl
 sign_is_not_blank Plus = refl
 sign_is_not_blank Minus = refl
 
-tail_is_not_blank : (whole : Text) (fraction : Option Text) → list_all is_ascii_digit (whole ++ fraction_digits fraction) ≡ true → list_all (λ c. not (is_blank c)) (whole ++ fraction_text fraction) ≡ true
+tail_is_not_blank : (whole : Text) (fraction : Option Text) → list_all is_ascii_digit (whole ++ fraction_digits fraction) ≡ true
+    → list_all (λ c. not (is_blank c)) (whole ++ fraction_text fraction) ≡ true
 tail_is_not_blank whole None e = digits_are_not_blank (whole ++ []) e
 tail_is_not_blank whole (Some digits) e =
     let t = and_parts (list_all is_ascii_digit whole) (list_all is_ascii_digit digits) (sym (list_all-append is_ascii_digit whole digits) ∙ e) in
-    list_all-append (λ c. not (is_blank c)) whole (46 ∷ digits) ∙ and_from (list_all (λ c. not (is_blank c)) whole) (list_all (λ c. not (is_blank c)) digits) (digits_are_not_blank whole t.0) (digits_are_not_blank digits t.1)
+    list_all-append (λ c. not (is_blank c)) whole (46 ∷ digits)
+        ∙ and_from (list_all (λ c. not (is_blank c)) whole) (list_all (λ c. not (is_blank c)) digits) (digits_are_not_blank whole t.0) (digits_are_not_blank digits t.1)
 
 tail_is_some : (whole : Text) (fraction : Option Text) → 0 < length (whole ++ fraction_digits fraction) → 0 < length (whole ++ fraction_text fraction)
 tail_is_some whole None some = some
@@ -56,7 +58,8 @@ trimmed s good =
     let filled : 0 < length tail = tail_is_some s.whole s.fraction good.some_digit in
     let whole_body : 0 < length body = omega (arith, length-append (sign_text s.sign) tail) in
     let tail_clean : list_all (λ c. not (is_blank c)) tail ≡ true = tail_is_not_blank s.whole s.fraction good.digits in
-    let clean : list_all (λ c. not (is_blank c)) body ≡ true = list_all-append (λ c. not (is_blank c)) (sign_text s.sign) tail ∙ and_from (list_all (λ c. not (is_blank c)) (sign_text s.sign)) (list_all (λ c. not (is_blank c)) tail) (sign_is_not_blank s.sign) tail_clean in
+    let clean : list_all (λ c. not (is_blank c)) body ≡ true = list_all-append (λ c. not (is_blank c)) (sign_text s.sign) tail
+        ∙ and_from (list_all (λ c. not (is_blank c)) (sign_text s.sign)) (list_all (λ c. not (is_blank c)) tail) (sign_is_not_blank s.sign) tail_clean in
     ap without_blanks grouped
     ∙ ap (without_end is_blank) (front_skip is_blank s.before (body ++ s.after) good.before_is_blank ∙ front_keep is_blank body s.after clean whole_body)
     ∙ end_skip is_blank body s.after good.after_is_blank
@@ -72,7 +75,9 @@ rest_by_sign Unsigned tail e = e
 rest_by_sign Plus tail e = refl
 rest_by_sign Minus tail e = refl
 
-no_sign : (whole : Text) (fraction : Option Text) → list_all is_ascii_digit (whole ++ fraction_digits fraction) ≡ true → 0 < length (whole ++ fraction_digits fraction) → (is_negative (whole ++ fraction_text fraction) ≡ false) × (without_sign (whole ++ fraction_text fraction) ≡ whole ++ fraction_text fraction)
+no_sign : (whole : Text) (fraction : Option Text) → list_all is_ascii_digit (whole ++ fraction_digits fraction) ≡ true
+    → 0 < length (whole ++ fraction_digits fraction)
+    → (is_negative (whole ++ fraction_text fraction) ≡ false) × (without_sign (whole ++ fraction_text fraction) ≡ whole ++ fraction_text fraction)
 no_sign [] None e some = absurd (omega arith)
 no_sign [] (Some digits) e some = (refl, refl)
 no_sign (d ∷ ds) fraction e some =
@@ -100,14 +105,17 @@ after_point (d ∷ ds) fraction e =
 is_some_digit : (digits : Text) → list_all is_ascii_digit digits ≡ true → 0 < length digits → are_digits digits ≡ true
 is_some_digit digits e some = and_from (nat_lt 0 (length digits)) (list_all is_ascii_digit digits) (grind (arith, nat_tests)) e
 
-number_of_spelling : (s : Spelling) → IsSpelling s → number_of (spelled s) ≡ with_sign (is_minus_sign s.sign) (size_of_few (without_front is_zero s.whole) (without_end is_zero (fraction_digits s.fraction)))
+number_of_spelling : (s : Spelling) → IsSpelling s
+    → number_of (spelled s) ≡ with_sign (is_minus_sign s.sign) (size_of_few (without_front is_zero s.whole) (without_end is_zero (fraction_digits s.fraction)))
 number_of_spelling s good =
     let digits = fraction_digits s.fraction in
     let tail = s.whole ++ fraction_text s.fraction in
     let whole_digits = (and_parts (list_all is_ascii_digit s.whole) (list_all is_ascii_digit digits) (sym (list_all-append is_ascii_digit s.whole digits) ∙ good.digits)).0 in
     let unsigned = no_sign s.whole s.fraction good.digits good.some_digit in
     let few = size_of_few (without_front is_zero s.whole) (without_end is_zero digits) in
-    let size : size_of tail ≡ few = ap (λ w. size_of_parts w (after_first is_point tail)) (before_point s.whole s.fraction whole_digits) ∙ ap (λ f. size_of_parts s.whole f) (after_point s.whole s.fraction whole_digits) ∙ ap (λ b. cond b few (Err NotANumber)) (is_some_digit (s.whole ++ digits) good.digits good.some_digit) in
+    let size : size_of tail ≡ few = ap (λ w. size_of_parts w (after_first is_point tail)) (before_point s.whole s.fraction whole_digits)
+        ∙ ap (λ f. size_of_parts s.whole f) (after_point s.whole s.fraction whole_digits)
+        ∙ ap (λ b. cond b few (Err NotANumber)) (is_some_digit (s.whole ++ digits) good.digits good.some_digit) in
     ap number_of_body (trimmed s good)
     ∙ ap (λ b. with_sign b (size_of (without_sign (sign_text s.sign ++ tail)))) (negative_by_sign s.sign tail unsigned.0)
     ∙ ap (λ l. with_sign (is_minus_sign s.sign) (size_of l)) (rest_by_sign s.sign tail unsigned.1)
@@ -154,16 +162,20 @@ reordered : (p a b z m : ℕ) → a * b ≡ m → (p * a) * (b * z) ≡ (p * z) 
 reordered p a b z m e = (let q : (p * a) * (b * z) ≡ (p * z) * (a * b) = omega arith in q) ∙ ap (λ n. (p * z) * n) e
 
 -- as many places as fraction digits, with any number of zeros behind
-scaled_is : (whole fraction : Text) → length (without_end is_zero fraction) ≤ most_fraction_digits → scaled (without_front is_zero whole) (without_end is_zero fraction) * 10 ^ length fraction ≡ place_sum (whole ++ fraction) * 10 ^ most_fraction_digits
+scaled_is : (whole fraction : Text) → length (without_end is_zero fraction) ≤ most_fraction_digits
+    → scaled (without_front is_zero whole) (without_end is_zero fraction) * 10 ^ length fraction ≡ place_sum (whole ++ fraction) * 10 ^ most_fraction_digits
 scaled_is whole fraction few =
     let kept = without_end is_zero fraction in
     let cut = without_front is_zero whole in
     let parts = end_parts is_zero fraction in
     let zeros = parts.0 in
-    let sum : place_sum (whole ++ fraction) ≡ place_sum (cut ++ kept) * 10 ^ length zeros = sym (leading_zeros whole fraction) ∙ ap (λ l. place_sum (cut ++ l)) parts.1 ∙ ap place_sum (sym (append_assoc cut kept zeros)) ∙ trailing_zeros (cut ++ kept) zeros parts.2 in
-    let places : 10 ^ length fraction ≡ 10 ^ length kept * 10 ^ length zeros = ap (λ l. 10 ^ length l) parts.1 ∙ ap (λ n. 10 ^ n) (length-append kept zeros) ∙ pow-add 10 (length kept) (length zeros) in
+    let sum : place_sum (whole ++ fraction) ≡ place_sum (cut ++ kept) * 10 ^ length zeros = sym (leading_zeros whole fraction)
+        ∙ ap (λ l. place_sum (cut ++ l)) parts.1 ∙ ap place_sum (sym (append_assoc cut kept zeros)) ∙ trailing_zeros (cut ++ kept) zeros parts.2 in
+    let places : 10 ^ length fraction ≡ 10 ^ length kept * 10 ^ length zeros = ap (λ l. 10 ^ length l) parts.1
+        ∙ ap (λ n. 10 ^ n) (length-append kept zeros) ∙ pow-add 10 (length kept) (length zeros) in
     let filled : most_fraction_digits - length kept + length kept ≡ most_fraction_digits = omega arith in
-    let whole_power : 10 ^ (most_fraction_digits - length kept) * 10 ^ length kept ≡ 10 ^ most_fraction_digits = sym (pow-add 10 (most_fraction_digits - length kept) (length kept)) ∙ ap (λ n. 10 ^ n) filled in
+    let whole_power : 10 ^ (most_fraction_digits - length kept) * 10 ^ length kept ≡ 10 ^ most_fraction_digits = sym (pow-add 10 (most_fraction_digits - length kept) (length kept))
+        ∙ ap (λ n. 10 ^ n) filled in
     ap (λ n. scaled cut kept * n) places
     ∙ reordered (place_sum (cut ++ kept)) (10 ^ (most_fraction_digits - length kept)) (10 ^ length kept) (10 ^ length zeros) (10 ^ most_fraction_digits) whole_power
     ∙ ap (λ n. n * 10 ^ most_fraction_digits) (sym sum)
@@ -220,7 +232,8 @@ fraction_of : Text → Option Text
 fraction_of [] = None
 fraction_of (c ∷ text) = cond (is_point c) (Some text) (fraction_of text)
 
-by_sign : (c : ℕ) (text : Text) (plus minus : Bool) → (plus ≡ true → c ≡ 43) → (minus ≡ true → c ≡ 45) → c ∷ text ≡ sign_text (cond minus Minus (cond plus Plus Unsigned)) ++ cond (plus || minus) text (c ∷ text)
+by_sign : (c : ℕ) (text : Text) (plus minus : Bool) → (plus ≡ true → c ≡ 43) → (minus ≡ true → c ≡ 45)
+    → c ∷ text ≡ sign_text (cond minus Minus (cond plus Plus Unsigned)) ++ cond (plus || minus) text (c ∷ text)
 by_sign c text true true p m = ap (λ d. d ∷ text) (m refl)
 by_sign c text true false p m = ap (λ d. d ∷ text) (p refl)
 by_sign c text false true p m = ap (λ d. d ∷ text) (m refl)
@@ -231,7 +244,8 @@ unfolding sign_of
 sign_parts [] = refl
 sign_parts (c ∷ text) = by_sign c text (c == 43) (is_minus c) (eqb-true c 43) (eqb-true c 45)
 
-by_point : (c : ℕ) (text before : Text) (fraction : Option Text) (b : Bool) → (b ≡ true → c ≡ 46) → text ≡ before ++ fraction_text fraction → c ∷ text ≡ cond b [] (c ∷ before) ++ fraction_text (cond b (Some text) fraction)
+by_point : (c : ℕ) (text before : Text) (fraction : Option Text) (b : Bool) → (b ≡ true → c ≡ 46) → text ≡ before ++ fraction_text fraction
+    → c ∷ text ≡ cond b [] (c ∷ before) ++ fraction_text (cond b (Some text) fraction)
 by_point c text before fraction true point e = ap (λ d. d ∷ text) (point refl)
 by_point c text before fraction false point e = ap (λ l. c ∷ l) e
 
@@ -251,7 +265,8 @@ unfolding fraction_of
 fraction_is [] = refl
 fraction_is (c ∷ text) = by_fraction text (after_first is_point text) (fraction_of text) (is_point c) (fraction_is text) ∙ sym (after_cons is_point c text)
 
-has_digits : (text : Text) → number_of text ≢ Err NotANumber → are_digits (before_first is_point (without_sign (without_blanks text)) ++ after_first is_point (without_sign (without_blanks text))) ≡ true
+has_digits : (text : Text) → number_of text ≢ Err NotANumber
+    → are_digits (before_first is_point (without_sign (without_blanks text)) ++ after_first is_point (without_sign (without_blanks text))) ≡ true
 has_digits text number =
     let body = without_blanks text in
     let whole = before_first is_point (without_sign body) in
@@ -274,7 +289,8 @@ only_spellings_are_numbers text number =
     let whole = before_first is_point tail in
     let digits : are_digits (whole ++ fraction_digits (fraction_of tail)) ≡ true = ap (λ l. are_digits (whole ++ l)) (fraction_is tail) ∙ has_digits text number in
     let tests = and_parts (nat_lt 0 (length (whole ++ fraction_digits (fraction_of tail)))) (list_all is_ascii_digit (whole ++ fraction_digits (fraction_of tail))) digits in
-    let grouped : front ++ (sign_text (sign_of body) ++ (whole ++ (fraction_text (fraction_of tail) ++ end.0))) ≡ front ++ ((sign_text (sign_of body) ++ (whole ++ fraction_text (fraction_of tail))) ++ end.0) = simp append_assoc in (
+    let grouped : front ++ (sign_text (sign_of body) ++ (whole ++ (fraction_text (fraction_of tail) ++ end.0))) ≡ front ++ ((sign_text (sign_of body) ++ (whole ++ fraction_text (fraction_of tail))) ++ end.0) =
+        simp append_assoc in (
       record { before = front; sign = sign_of body; whole = whole; fraction = fraction_of tail; after = end.0 },
       record { before_is_blank = dropped is_blank text; after_is_blank = end.2; digits = tests.1; some_digit = some_length (whole ++ fraction_digits (fraction_of tail)) tests.0 },
       grouped

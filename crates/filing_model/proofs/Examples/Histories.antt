@@ -122,7 +122,8 @@ pub newest_version : told newest_version_lines ≡
 newest_version = refl
 
 pub review_does_not_read_the_newest_version : ¬ IsLawful (with_last_reply (Found (fact (codes "new"))) (played newest_version_lines))
-review_does_not_read_the_newest_version = not_lawful (with_last_reply (Found (fact (codes "new"))) (played newest_version_lines)) (λ same. let bytes : 111 ≡ 110 = ap first_byte same in absurd (omega (arith, bytes)))
+review_does_not_read_the_newest_version =
+    not_lawful (with_last_reply (Found (fact (codes "new"))) (played newest_version_lines)) (λ same. let bytes : 111 ≡ 110 = ap first_byte same in absurd (omega (arith, bytes)))
 
 -- two sessions add duplicates where none are allowed, and the second is told at its commit: the steps before that, and all
 abbrev pub no_duplicates_before : List Line
