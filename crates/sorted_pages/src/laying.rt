@@ -1,0 +1,257 @@
+//! How changes are laid over entries, pages and runs. Where nothing changes a page or a run is shared.
+ghost use Rattle.std.specs.Prelude.{◌≡◌, ◌++◌, ◌∷◌, [], ◌-◌, ◌<◌, map, length, not, OnOk, T as Holds};
+ghost use Rattle.std.specs.List.{list_all};
+ghost use Rattle.std.specs.Ordering.{is_lt};
+ghost use Rattle.sorted_pages.specs.Edges.{begins_with};
+ghost use Rattle.sorted_pages.specs.Pages.{flat, all_of, IsFirstBlock};
+ghost use Rattle.sorted_pages.specs.Sorted.{IsRising, AllBelow, PassesBelow};
+ghost use Rattle.sorted_pages.specs.Changes.{entry_of, entries_put, with_changes, without_tied};
+
+use crate::block::{Block, Page, Run};
+use crate::change::Change;
+use crate::cutter::{Cutter, Layout};
+use crate::edge::{AtFirst, Below, UpTo, split_at_edge, split_before_edge};
+use crate::entry::{Entry, Peaked};
+use std::alloc::{AllocError, Global};
+use std::sync::Arc;
+
+/// The same entries in one more page.
+fn share_entries<E: Entry>(entries: &[E], cutter: &mut Cutter<E>) -> Result<(), AllocError>
+    ensures { OnOk result (cutter.new ≡ cutter.old ++ entries.now) }
+{
+    for entry in entries {
+        cutter.push(entry.share()?)?;
+    }
+    Ok(())
+}
+
+/// The same pages in one more run.
+fn share_pages<E: Entry>(pages: &[Page<E>], cutter: &mut Cutter<Page<E>>) -> Result<(), AllocError>
+    ensures { OnOk result (flat cutter.new ≡ flat cutter.old ++ flat pages.now) }
+{
+    for page in pages {
+        cutter.push(Arc::try_clone(page)?)?;
+    }
+    Ok(())
+}
+
+/// The same runs in one more list.
+fn share_runs<E: Entry>(runs: &[Run<E>], list: &mut Vec<Run<E>>) -> Result<(), AllocError>
+    ensures { OnOk result (flat list.new.items ≡ flat list.old.items ++ flat runs.now) }
+{
+    for run in runs {
+        list.push(Arc::try_clone(run)?)?;
+    }
+    Ok(())
+}
+
+/// The entry that a change puts.
+fn push_change<E: Entry>(change: &Change<E>, cutter: &mut Cutter<E>) -> Result<(), AllocError>
+    ensures { OnOk result (cutter.new ≡ cutter.old ++ entries_put change.now) }
+{
+    match change {
+        Change::Put(entry) => cutter.push(entry.share()?),
+        Change::Remove(_) => Ok(()),
+    }
+}
+
+/// The entries without the first, where that ties with this entry.
+fn after_tied<'a, E: Entry>(entries: &'a [E], entry: &E) -> &'a [E]
+    ensures { result.now ≡ without_tied E.order entry.now entries.now }
+{
+    match entries {
+        [first, rest @ ..] if entry.order(first).is_eq() => rest,
+        _ => entries,
+    }
+}
+
+/// Pushes the entries of a page with changes laid over them.
+fn lay_entries<E: Entry>(
+    entries: &[E],
+    changes: &[Change<E>],
+    cutter: &mut Cutter<E>,
+) -> Result<(), AllocError>
+    requires entries { IsRising E.order entries.now }
+    requires changes { IsRising E.order (map entry_of changes.now) }
+    ensures { OnOk result (cutter.new ≡ cutter.old ++ with_changes E.order changes.now entries.now) }
+{
+    let mut left = entries;
+    let mut ahead = changes;
+    while let Some((change, later)) = ahead.split_first() {
+        let entry = change.entry();
+        let (less, rest) = split_at_edge(left, &Below(entry));
+        share_entries(less, cutter)?;
+        push_change(change, cutter)?;
+        left = after_tied(rest, entry);
+        ahead = later;
+    }
+    share_entries(left, cutter)
+}
+
+/// Pushes the pages that the entries of one page become under changes.
+fn lay_page<E: Entry>(
+    alloc: Global,
+    entries: &[E],
+    changes: &[Change<E>],
+    pages: &mut Cutter<Page<E>>,
+) -> Result<(), AllocError>
+    requires entries { IsRising E.order entries.now }
+    requires changes { IsRising E.order (map entry_of changes.now) }
+    ensures { OnOk result (flat pages.new ≡ flat pages.old ++ with_changes E.order changes.now entries.now) }
+{
+    let room = entries.len().saturating_add(changes.len());
+    let mut cutter = Cutter::new(alloc, Layout::Halved, room)?;
+    lay_entries(entries, changes, &mut cutter)?;
+    let laid = cutter.finish()?;
+    share_pages(&laid, pages)
+}
+
+/// The changes that go before this entry, and the others.
+fn changes_before<'a, E: Entry>(
+    changes: &'a [Change<E>],
+    next: &E,
+) -> (&'a [Change<E>], &'a [Change<E>])
+    requires { IsRising E.order (map entry_of changes.now) }
+    ensures parts { changes.now ≡ result.0.now ++ result.1.now }
+    ensures mine { Holds (list_all (λ e. is_lt (E.order e next.now)) (map entry_of result.0.now)) }
+    ensures later { Holds (begins_with (λ e. not (is_lt (E.order e next.now))) (map entry_of result.1.now)) }
+{
+    split_at_edge(changes, &Below(next))
+}
+
+/// The changes that go before these pages, and the others.
+fn changes_before_pages<'a, E: Entry>(
+    changes: &'a [Change<E>],
+    pages: &[Page<E>],
+) -> (&'a [Change<E>], &'a [Change<E>])
+    requires pages { IsRising E.order (flat pages.now) }
+    requires changes { IsRising E.order (map entry_of changes.now) }
+    ensures parts { changes.now ≡ result.0.now ++ result.1.now }
+    ensures mine { AllBelow E.order (map entry_of result.0.now) (flat pages.now) }
+    ensures later { PassesBelow E.order (flat pages.now) (map entry_of result.1.now) }
+    ensures all { length pages.now ≡ 0 → length result.1.now ≡ 0 }
+{
+    match pages.first() {
+        Some(page) => changes_before(changes, page.first()),
+        None => changes.split_at(changes.len()),
+    }
+}
+
+/// The pages before the one where an entry goes, and the others.
+fn split_at_place<'a, E: Entry>(pages: &'a [Page<E>], entry: &E) -> (&'a [Page<E>], &'a [Page<E>])
+    requires { IsRising E.order (flat pages.now) }
+    ensures parts { pages.now ≡ result.0.now ++ result.1.now }
+    ensures before { AllBelow E.order (flat result.0.now) (entry.now ∷ []) }
+{
+    split_before_edge(pages, &AtFirst(&UpTo(entry)))
+}
+
+/// The items of the first block, if there is one, and the other blocks.
+pub(crate) fn split_first_block<T: Peaked>(blocks: &[Arc<Block<T>>]) -> (&[T], &[Arc<Block<T>>])
+    ensures parts { flat blocks.now ≡ result.0.now ++ flat result.1.now }
+    ensures first { IsFirstBlock blocks.now result.0.now result.1.now }
+    ensures some { 0 < length blocks.now → 0 < length result.0.now }
+    ensures fewer { length result.1.now ≡ length blocks.now - 1 }
+{
+    match blocks.split_first() {
+        Some((block, rest)) => (block.items(), rest),
+        None => (&[], blocks),
+    }
+}
+
+/// Pushes pages with changes laid over them.
+fn lay_pages<E: Entry>(
+    alloc: Global,
+    pages: &[Page<E>],
+    changes: &[Change<E>],
+    cutter: &mut Cutter<Page<E>>,
+) -> Result<(), AllocError>
+    requires pages { IsRising E.order (flat pages.now) }
+    requires changes { IsRising E.order (map entry_of changes.now) }
+    ensures { OnOk result (flat cutter.new ≡ flat cutter.old ++ with_changes E.order changes.now (flat pages.now)) }
+{
+    let mut left = pages;
+    let mut ahead = changes;
+    while let Some((change, _)) = ahead.split_first() {
+        let (before, from) = split_at_place(left, change.entry());
+        share_pages(before, cutter)?;
+        let (entries, rest) = split_first_block(from);
+        let (mine, later) = changes_before_pages(ahead, rest);
+        lay_page(alloc, entries, mine, cutter)?;
+        left = rest;
+        ahead = later;
+    }
+    share_pages(left, cutter)
+}
+
+/// Pushes the runs that the pages of one run become under changes.
+fn lay_run<E: Entry>(
+    alloc: Global,
+    pages: &[Page<E>],
+    changes: &[Change<E>],
+    runs: &mut Vec<Run<E>>,
+) -> Result<(), AllocError>
+    requires pages { IsRising E.order (flat pages.now) }
+    requires changes { IsRising E.order (map entry_of changes.now) }
+    ensures { OnOk result (all_of runs.new.items ≡ all_of runs.old.items
+        ++ with_changes E.order changes.now (flat pages.now)) }
+{
+    let room = pages.len().saturating_add(1);
+    let mut cutter = Cutter::new(alloc, Layout::Halved, room)?;
+    lay_pages(alloc, pages, changes, &mut cutter)?;
+    let laid = cutter.finish()?;
+    share_runs(&laid, runs)
+}
+
+/// The changes that go before these runs, and the others.
+fn changes_before_runs<'a, E: Entry>(
+    changes: &'a [Change<E>],
+    runs: &[Run<E>],
+) -> (&'a [Change<E>], &'a [Change<E>])
+    requires runs { IsRising E.order (all_of runs.now) }
+    requires changes { IsRising E.order (map entry_of changes.now) }
+    ensures parts { changes.now ≡ result.0.now ++ result.1.now }
+    ensures mine { AllBelow E.order (map entry_of result.0.now) (all_of runs.now) }
+    ensures later { PassesBelow E.order (all_of runs.now) (map entry_of result.1.now) }
+    ensures all { length runs.now ≡ 0 → length result.1.now ≡ 0 }
+{
+    match runs.first() {
+        Some(run) => changes_before(changes, run.first().first()),
+        None => changes.split_at(changes.len()),
+    }
+}
+
+/// The runs before the one where an entry goes, and the others.
+fn split_at_run<'a, E: Entry>(runs: &'a [Run<E>], entry: &E) -> (&'a [Run<E>], &'a [Run<E>])
+    requires { IsRising E.order (all_of runs.now) }
+    ensures parts { runs.now ≡ result.0.now ++ result.1.now }
+    ensures before { AllBelow E.order (all_of result.0.now) (entry.now ∷ []) }
+{
+    split_before_edge(runs, &AtFirst(&AtFirst(&UpTo(entry))))
+}
+
+/// Pushes runs with changes laid over them.
+pub(crate) fn lay_runs<E: Entry>(
+    alloc: Global,
+    runs: &[Run<E>],
+    changes: &[Change<E>],
+    list: &mut Vec<Run<E>>,
+) -> Result<(), AllocError>
+    requires runs { IsRising E.order (all_of runs.now) }
+    requires changes { IsRising E.order (map entry_of changes.now) }
+    ensures { OnOk result (all_of list.new.items ≡ all_of list.old.items
+        ++ with_changes E.order changes.now (all_of runs.now)) }
+{
+    let mut left = runs;
+    let mut ahead = changes;
+    while let Some((change, _)) = ahead.split_first() {
+        let (before, from) = split_at_run(left, change.entry());
+        share_runs(before, list)?;
+        let (pages, rest) = split_first_block(from);
+        let (mine, later) = changes_before_runs(ahead, rest);
+        lay_run(alloc, pages, mine, list)?;
+        left = rest;
+        ahead = later;
+    }
+    share_runs(left, list)
+}
