@@ -171,7 +171,7 @@ fn main(rt: HostRuntime) -> Result<()> {
     let sizes: &[u64] = if is_timed {
         &[1_000, 10_000, 100_000, 1_000_000, 10_000_000]
     } else {
-        &[1_000]
+        &[1_000, 10_000]
     };
     for count in sizes {
         measure(&rt, *count, is_timed)?;

@@ -1,6 +1,5 @@
 -- Pages one after another.
-use Rattle.std.proofs.Common.{◌≡◌, ◌∙◌, ap, sym, refl, ◌+◌, ◌<◌, length, get_or, List, [], ◌∷◌, ◌++◌, append_assoc, append-nil, take, drop, take-append-drop, T, Bool}
-use Rattle.std.proofs.lemmas.List.{take_more}
+use Rattle.std.proofs.Common.{◌≡◌, ◌∙◌, ap, sym, refl, List, [], ◌∷◌, ◌++◌, append_assoc, append-nil, T, Bool}
 use Rattle.std.specs.Arc.{arc_value}
 use Rattle.std.specs.declared.sync.Arc.{Arc}
 use Rattle.std.specs.List.{flat_map}
@@ -13,23 +12,6 @@ flat-append (x ∷ xs) ys = ap (λ zs. arc_value x ++ zs) (flat-append xs ys) �
 
 pub flat-push : {X Z : Type 0} (xs : List (Arc (List X) Z)) (x : Arc (List X) Z) → flat (xs ++ x ∷ []) ≡ flat xs ++ arc_value x
 flat-push xs x = flat-append xs (x ∷ []) ∙ ap (λ ys. flat xs ++ ys) (append-nil (arc_value x))
-
--- a block that was cut off
-pub flat_cut : {X Z : Type 0} (blocks : List (Arc (List X) Z)) (block : Arc (List X) Z) (n : _) (rest later : List X)
-    → arc_value block ≡ take n rest → later ≡ drop n rest
-    → flat (blocks ++ block ∷ []) ++ later ≡ flat blocks ++ rest
-flat_cut blocks block n rest later e d =
-    ap (λ ys. ys ++ later) (flat-push blocks block) ∙ append_assoc (flat blocks) (arc_value block) later
-    ∙ ap (λ ys. flat blocks ++ (ys ++ later)) e ∙ ap (λ ys. flat blocks ++ (take n rest ++ ys)) d ∙ ap (λ ys. flat blocks ++ ys) (take-append-drop n rest)
-
--- one more block is shared, and all of them are
-pub shared_more : {X Z : Type 0} (done new blocks : List (Arc (List X) Z)) (i : _) (block copy : Arc (List X) Z) (start : List X)
-    → i < length blocks → block ≡ get_or blocks i block → arc_value copy ≡ arc_value block
-    → flat done ≡ start ++ flat (take i blocks) → new ≡ done ++ copy ∷ [] → flat new ≡ start ++ flat (take (i + 1) blocks)
-shared_more done new blocks i block copy start h read same e n =
-    ap flat n ∙ flat-push done copy ∙ (λ k. e k ++ same k) ∙ append_assoc start (flat (take i blocks)) (arc_value block)
-    ∙ ap (λ ys. start ++ ys) (sym (flat-push (take i blocks) block) ∙ ap (λ b. flat (take i blocks ++ b ∷ [])) read
-    ∙ ap flat (sym (take_more blocks i block h)))
 
 pub all_of-append : {X Y Z : Type 0} (xs ys : List (Arc (List (Arc (List X) Z)) Y)) → all_of (xs ++ ys) ≡ all_of xs ++ all_of ys
 all_of-append xs ys = ap flat (flat-append xs ys) ∙ flat-append (flat xs) (flat ys)
@@ -59,9 +41,6 @@ pub all_of_parts : {X Y Z : Type 0} (left before from rest : List (Arc (List (Ar
 all_of_parts left before from rest pages e f =
     ap flat (flat_parts left before from rest pages e f) ∙ flat-append (flat before) (pages ++ flat rest)
     ∙ ap (λ es. all_of before ++ es) (flat-append pages (flat rest))
-
-pub flat_joined : {X Z : Type 0} (new old more : List (Arc (List X) Z)) → new ≡ old ++ more → flat new ≡ flat old ++ flat more
-flat_joined new old more e = ap flat e ∙ flat-append old more
 
 -- the first entry of the first page of the first run
 pub all_of_first : {X Y Z : Type 0} (runs others : List (Arc (List (Arc (List X) Z)) Y)) (run : Arc (List (Arc (List X) Z)) Y)

@@ -1,5 +1,5 @@
 -- What pages hold, and the numbers that stand beside them.
-use Rattle.std.specs.Prelude.{◌≡◌, ℕ, ◌+◌, ◌&&◌, T, nat_lt, nat_le, sum, List, [], ◌∷◌, ◌++◌, max}
+use Rattle.std.specs.Prelude.{◌≡◌, ℕ, ◌+◌, ◌&&◌, T, nat_lt, nat_le, sum, List, [], ◌∷◌, ◌++◌, max, Option, Some, None}
 use Rattle.std.specs.List.{flat_map, list_all}
 use Rattle.std.specs.Arc.{arc_value}
 use Rattle.std.specs.declared.sync.Arc.{Arc}
@@ -11,6 +11,11 @@ flat pages = flat_map arc_value pages
 -- the entries of these runs, one after another
 abbrev pub all_of : {X Y Z : Type 0} → List (Arc (List (Arc (List X) Z)) Y) → List X
 all_of runs = flat (flat runs)
+
+-- the items of a block that was cut off, if one was
+abbrev pub items_of : {X Z : Type 0} → Option (Arc (List X) Z) → List X
+items_of None = []
+items_of (Some block) = arc_value block
 
 -- parts of a sorted list that follow one another
 abbrev pub listed : {X Y Z : Type 0} → List X → List (Arc (List X) Z) → List (Arc (List (Arc (List X) Z)) Y)

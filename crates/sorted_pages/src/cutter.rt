@@ -1,6 +1,7 @@
 //! How items are cut into blocks. No other file knows where a block ends.
-ghost use Rattle.std.specs.Prelude.{◌≡◌, ◌++◌, ◌∷◌, [], ◌<◌, ◌≤◌, ◌+◌, length, OnOk, IfOk};
-ghost use Rattle.sorted_pages.specs.Pages.{flat};
+ghost use Rattle.std.specs.Prelude.{◌≡◌, ◌++◌, ◌∷◌, [], ◌<◌, ◌≤◌, length, OnOk, IfOk};
+ghost use Rattle.std.specs.Arc.{arc_value};
+ghost use Rattle.sorted_pages.specs.Pages.{items_of};
 
 use crate::block::{Block, MOST};
 use crate::entry::Peaked;
@@ -44,93 +45,87 @@ impl Layout {
     }
 }
 
-/// The items pushed so far, of which the first stand in blocks. Contracts see the list of the items.
+/// The items pushed since the last block. It hands out each block that it fills, and keeps none.
+///
+/// Contracts see the list of the items that stand in no block yet.
 #[derive(Drop)]
 pub(crate) struct Cutter<T: Peaked + Drop> {
     layout: Layout,
-    blocks: Vec<Arc<Block<T>>>,
+    is_first: bool,
     rest: Vec<T>,
 }
 
 impl<T: Peaked + Drop> Model for Cutter<T> {
-    ghost use Rattle.std.specs.Prelude.{List, ◌++◌, ◌≤◌, length};
-    ghost use Rattle.sorted_pages.specs.Pages.{flat};
+    ghost use Rattle.std.specs.Prelude.{List, ◌≤◌, length};
 
     ghost Value = { List T };
 
-    ghost view = { λ c. flat c.blocks.items ++ c.rest.items };
+    ghost view = { λ c. c.rest.items };
 
     ghost invariant = { λ c. length c.rest.items ≤ 64 };
 }
 
 /// Moves the first items of the rest into a block.
-fn cut_off<T: Peaked + Drop>(
-    blocks: &mut Vec<Arc<Block<T>>>,
-    rest: &mut Vec<T>,
-    piece: usize,
-) -> Result<(), AllocError>
+fn cut_off<T: Peaked + Drop>(rest: &mut Vec<T>, piece: usize) -> Result<Arc<Block<T>>, AllocError>
     requires some { 0 < piece }
     requires there { piece ≤ length rest.old.items }
     requires few { length rest.old.items ≤ 64 }
-    ensures items { OnOk result (flat blocks.new.items ++ rest.new.items ≡ flat blocks.old.items ++ rest.old.items) }
+    ensures items { IfOk result (λ block. arc_value block ++ rest.new.items ≡ rest.old.items) }
     ensures less { OnOk result (length rest.new.items < length rest.old.items) }
     ensures few { length rest.new.items ≤ 64 }
 {
     let later = rest.split_off(piece)?;
     let front = mem::replace(rest, later);
-    let block = Arc::new(*blocks.allocator(), Block::of(front))?;
-    blocks.push(block)?;
-    Ok(())
+    let block = Arc::new(*rest.allocator(), Block::of(front))?;
+    Ok(block)
 }
 
 impl<T: Peaked + Drop> Cutter<T> {
-    /// One that has no items, with room for some in its first block.
-    pub(crate) fn new(alloc: Global, layout: Layout, room: usize) -> Result<Cutter<T>, AllocError>
-        ensures { IfOk result (λ c. c ≡ []) }
+    /// One that has no items. It takes no memory.
+    pub(crate) fn new(alloc: Global, layout: Layout) -> Cutter<T>
+        ensures { result ≡ [] }
     {
-        let rest = Vec::with_capacity(alloc, room.min(MOST))?;
-        Ok(Cutter {
+        Cutter {
             layout,
-            blocks: Vec::new(alloc),
-            rest,
-        })
+            is_first: true,
+            rest: Vec::new(alloc),
+        }
     }
 
-    pub(crate) fn push(&mut self, item: T) -> Result<(), AllocError>
-        ensures { OnOk result (self.new ≡ self.old ++ item ∷ []) }
+    /// Takes room for this many items, or for a block of them.
+    pub(crate) fn reserve(&mut self, room: usize) -> Result<(), AllocError>
+        ensures { self.new ≡ self.old }
+    {
+        self.rest.reserve(room.min(MOST))
+    }
+
+    /// Pushes an item, and hands out the block that there was no more room in.
+    pub(crate) fn push(&mut self, item: T) -> Result<Option<Arc<Block<T>>>, AllocError>
+        ensures { IfOk result (λ block. items_of block ++ self.new ≡ self.old ++ item ∷ []) }
     {
         let piece = self.layout.piece();
-        let limit = self.layout.limit(self.blocks.is_empty());
+        let limit = self.layout.limit(self.is_first);
+        let mut cut = None;
         if self.rest.len() >= limit && self.rest.len() >= piece {
-            cut_off(&mut self.blocks, &mut self.rest, piece)?;
+            cut = Some(cut_off(&mut self.rest, piece)?);
+            self.is_first = false;
         }
         self.rest.push(item)?;
-        Ok(())
+        Ok(cut)
     }
 
-    pub(crate) fn push_all(&mut self, items: Vec<T>) -> Result<(), AllocError>
-        ensures { OnOk result (self.new ≡ self.old ++ items.items) }
+    /// Hands out the items as a block, if there are any. The next one begins a new list.
+    pub(crate) fn end(&mut self) -> Result<Option<Arc<Block<T>>>, AllocError>
+        ensures items { IfOk result (λ block. items_of block ≡ self.old) }
+        ensures none { OnOk result (self.new ≡ []) }
     {
-        for item in items {
-            self.push(item)?;
+        self.is_first = true;
+        if self.rest.is_empty() {
+            return Ok(None);
         }
-        Ok(())
-    }
-
-    /// The blocks.
-    pub(crate) fn finish(self) -> Result<Vec<Arc<Block<T>>>, AllocError>
-        ensures { IfOk result (λ blocks. flat blocks.items ≡ self) }
-    {
-        let Cutter {
-            mut blocks,
-            rest,
-            ..
-        } = self;
-        if rest.is_empty() {
-            return Ok(blocks);
-        }
-        let block = Arc::new(*blocks.allocator(), Block::of(rest))?;
-        blocks.push(block)?;
-        Ok(blocks)
+        let alloc = *self.rest.allocator();
+        let items = mem::replace(&mut self.rest, Vec::new(alloc));
+        let block = Arc::new(alloc, Block::of(items))?;
+        Ok(Some(block))
     }
 }

@@ -8,49 +8,49 @@ ghost use Rattle.sorted_pages.specs.Sorted.{IsRising, AllBelow, PassesBelow};
 ghost use Rattle.sorted_pages.specs.Changes.{entry_of, entries_put, with_changes, without_tied};
 
 use crate::block::{Block, Page, Run};
+use crate::builder::Builder;
 use crate::change::Change;
-use crate::cutter::{Cutter, Layout};
 use crate::edge::{AtFirst, Below, UpTo, split_at_edge, split_before_edge};
 use crate::entry::{Entry, Peaked};
-use std::alloc::{AllocError, Global};
+use std::alloc::AllocError;
 use std::sync::Arc;
 
 /// The same entries in one more page.
-fn share_entries<E: Entry>(entries: &[E], cutter: &mut Cutter<E>) -> Result<(), AllocError>
-    ensures { OnOk result (cutter.new ≡ cutter.old ++ entries.now) }
+fn share_entries<E: Entry>(entries: &[E], builder: &mut Builder<E>) -> Result<(), AllocError>
+    ensures { OnOk result (builder.new ≡ builder.old ++ entries.now) }
 {
     for entry in entries {
-        cutter.push(entry.share()?)?;
+        builder.push(entry.share()?)?;
     }
     Ok(())
 }
 
 /// The same pages in one more run.
-fn share_pages<E: Entry>(pages: &[Page<E>], cutter: &mut Cutter<Page<E>>) -> Result<(), AllocError>
-    ensures { OnOk result (flat cutter.new ≡ flat cutter.old ++ flat pages.now) }
+fn share_pages<E: Entry>(pages: &[Page<E>], builder: &mut Builder<E>) -> Result<(), AllocError>
+    ensures { OnOk result (builder.new ≡ builder.old ++ flat pages.now) }
 {
     for page in pages {
-        cutter.push(Arc::try_clone(page)?)?;
+        builder.push_page(Arc::try_clone(page)?)?;
     }
     Ok(())
 }
 
 /// The same runs in one more list.
-fn share_runs<E: Entry>(runs: &[Run<E>], list: &mut Vec<Run<E>>) -> Result<(), AllocError>
-    ensures { OnOk result (flat list.new.items ≡ flat list.old.items ++ flat runs.now) }
+fn share_runs<E: Entry>(runs: &[Run<E>], builder: &mut Builder<E>) -> Result<(), AllocError>
+    ensures { OnOk result (builder.new ≡ builder.old ++ all_of runs.now) }
 {
     for run in runs {
-        list.push(Arc::try_clone(run)?)?;
+        builder.push_run(Arc::try_clone(run)?)?;
     }
     Ok(())
 }
 
 /// The entry that a change puts.
-fn push_change<E: Entry>(change: &Change<E>, cutter: &mut Cutter<E>) -> Result<(), AllocError>
-    ensures { OnOk result (cutter.new ≡ cutter.old ++ entries_put change.now) }
+fn push_change<E: Entry>(change: &Change<E>, builder: &mut Builder<E>) -> Result<(), AllocError>
+    ensures { OnOk result (builder.new ≡ builder.old ++ entries_put change.now) }
 {
     match change {
-        Change::Put(entry) => cutter.push(entry.share()?),
+        Change::Put(entry) => builder.push(entry.share()?),
         Change::Remove(_) => Ok(()),
     }
 }
@@ -65,45 +65,28 @@ fn after_tied<'a, E: Entry>(entries: &'a [E], entry: &E) -> &'a [E]
     }
 }
 
-/// Pushes the entries of a page with changes laid over them.
-fn lay_entries<E: Entry>(
+/// Pushes the entries of a page with changes laid over them, as a page begun anew.
+fn lay_page<E: Entry>(
     entries: &[E],
     changes: &[Change<E>],
-    cutter: &mut Cutter<E>,
+    builder: &mut Builder<E>,
 ) -> Result<(), AllocError>
     requires entries { IsRising E.order entries.now }
     requires changes { IsRising E.order (map entry_of changes.now) }
-    ensures { OnOk result (cutter.new ≡ cutter.old ++ with_changes E.order changes.now entries.now) }
+    ensures { OnOk result (builder.new ≡ builder.old ++ with_changes E.order changes.now entries.now) }
 {
+    builder.begin_page(entries.len().saturating_add(changes.len()))?;
     let mut left = entries;
     let mut ahead = changes;
     while let Some((change, later)) = ahead.split_first() {
         let entry = change.entry();
         let (less, rest) = split_at_edge(left, &Below(entry));
-        share_entries(less, cutter)?;
-        push_change(change, cutter)?;
+        share_entries(less, builder)?;
+        push_change(change, builder)?;
         left = after_tied(rest, entry);
         ahead = later;
     }
-    share_entries(left, cutter)
-}
-
-/// Pushes the pages that the entries of one page become under changes.
-fn lay_page<E: Entry>(
-    alloc: Global,
-    entries: &[E],
-    changes: &[Change<E>],
-    pages: &mut Cutter<Page<E>>,
-) -> Result<(), AllocError>
-    requires entries { IsRising E.order entries.now }
-    requires changes { IsRising E.order (map entry_of changes.now) }
-    ensures { OnOk result (flat pages.new ≡ flat pages.old ++ with_changes E.order changes.now entries.now) }
-{
-    let room = entries.len().saturating_add(changes.len());
-    let mut cutter = Cutter::new(alloc, Layout::Halved, room)?;
-    lay_entries(entries, changes, &mut cutter)?;
-    let laid = cutter.finish()?;
-    share_pages(&laid, pages)
+    share_entries(left, builder)
 }
 
 /// The changes that go before this entry, and the others.
@@ -159,48 +142,29 @@ pub(crate) fn split_first_block<T: Peaked>(blocks: &[Arc<Block<T>>]) -> (&[T], &
     }
 }
 
-/// Pushes pages with changes laid over them.
-fn lay_pages<E: Entry>(
-    alloc: Global,
+/// Pushes the pages of a run with changes laid over them, as a run begun anew.
+fn lay_run<E: Entry>(
     pages: &[Page<E>],
     changes: &[Change<E>],
-    cutter: &mut Cutter<Page<E>>,
+    builder: &mut Builder<E>,
 ) -> Result<(), AllocError>
     requires pages { IsRising E.order (flat pages.now) }
     requires changes { IsRising E.order (map entry_of changes.now) }
-    ensures { OnOk result (flat cutter.new ≡ flat cutter.old ++ with_changes E.order changes.now (flat pages.now)) }
+    ensures { OnOk result (builder.new ≡ builder.old ++ with_changes E.order changes.now (flat pages.now)) }
 {
+    builder.begin_run(pages.len().saturating_add(1))?;
     let mut left = pages;
     let mut ahead = changes;
     while let Some((change, _)) = ahead.split_first() {
         let (before, from) = split_at_place(left, change.entry());
-        share_pages(before, cutter)?;
+        share_pages(before, builder)?;
         let (entries, rest) = split_first_block(from);
         let (mine, later) = changes_before_pages(ahead, rest);
-        lay_page(alloc, entries, mine, cutter)?;
+        lay_page(entries, mine, builder)?;
         left = rest;
         ahead = later;
     }
-    share_pages(left, cutter)
-}
-
-/// Pushes the runs that the pages of one run become under changes.
-fn lay_run<E: Entry>(
-    alloc: Global,
-    pages: &[Page<E>],
-    changes: &[Change<E>],
-    runs: &mut Vec<Run<E>>,
-) -> Result<(), AllocError>
-    requires pages { IsRising E.order (flat pages.now) }
-    requires changes { IsRising E.order (map entry_of changes.now) }
-    ensures { OnOk result (all_of runs.new.items ≡ all_of runs.old.items
-        ++ with_changes E.order changes.now (flat pages.now)) }
-{
-    let room = pages.len().saturating_add(1);
-    let mut cutter = Cutter::new(alloc, Layout::Halved, room)?;
-    lay_pages(alloc, pages, changes, &mut cutter)?;
-    let laid = cutter.finish()?;
-    share_runs(&laid, runs)
+    share_pages(left, builder)
 }
 
 /// The changes that go before these runs, and the others.
@@ -232,26 +196,24 @@ fn split_at_run<'a, E: Entry>(runs: &'a [Run<E>], entry: &E) -> (&'a [Run<E>], &
 
 /// Pushes runs with changes laid over them.
 pub(crate) fn lay_runs<E: Entry>(
-    alloc: Global,
     runs: &[Run<E>],
     changes: &[Change<E>],
-    list: &mut Vec<Run<E>>,
+    builder: &mut Builder<E>,
 ) -> Result<(), AllocError>
     requires runs { IsRising E.order (all_of runs.now) }
     requires changes { IsRising E.order (map entry_of changes.now) }
-    ensures { OnOk result (all_of list.new.items ≡ all_of list.old.items
-        ++ with_changes E.order changes.now (all_of runs.now)) }
+    ensures { OnOk result (builder.new ≡ builder.old ++ with_changes E.order changes.now (all_of runs.now)) }
 {
     let mut left = runs;
     let mut ahead = changes;
     while let Some((change, _)) = ahead.split_first() {
         let (before, from) = split_at_run(left, change.entry());
-        share_runs(before, list)?;
+        share_runs(before, builder)?;
         let (pages, rest) = split_first_block(from);
         let (mine, later) = changes_before_runs(ahead, rest);
-        lay_run(alloc, pages, mine, list)?;
+        lay_run(pages, mine, builder)?;
         left = rest;
         ahead = later;
     }
-    share_runs(left, list)
+    share_runs(left, builder)
 }

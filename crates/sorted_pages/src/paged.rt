@@ -8,8 +8,9 @@ ghost use Rattle.sorted_pages.specs.Ranges.{within, first_within};
 ghost use Rattle.sorted_pages.specs.Changes.{entry_of, with_changes};
 
 use crate::block::{Page, Run};
+use crate::builder::Builder;
 use crate::change::Change;
-use crate::cutter::{Cutter, Layout};
+use crate::cutter::Layout;
 use crate::entry::{Entry, Span};
 use crate::laying::lay_runs;
 use crate::range::{Range, all_until, in_a_row, runs_from};
@@ -73,12 +74,12 @@ impl<E: Entry> Paged<E> {
         requires { IsRising E.order entries.items }
         ensures { IfOk result (λ p. p ≡ entries.items) }
     {
-        let mut pages = Cutter::new(alloc, Layout::Filled, entries.len())?;
-        pages.push_all(entries)?;
-        let pages = pages.finish()?;
-        let mut runs = Cutter::new(alloc, Layout::Filled, pages.len())?;
-        runs.push_all(pages)?;
-        let runs = runs.finish()?;
+        let mut builder = Builder::new(alloc, Layout::Filled, 0)?;
+        builder.begin_page(entries.len())?;
+        for entry in entries {
+            builder.push(entry)?;
+        }
+        let runs = builder.finish()?;
         Ok(Paged { runs })
     }
 
@@ -88,8 +89,9 @@ impl<E: Entry> Paged<E> {
         ensures { IfOk result (λ p. p ≡ with_changes E.order changes.now self.now) }
     {
         let room = self.runs.len().saturating_add(1);
-        let mut runs = Vec::with_capacity(alloc, room)?;
-        lay_runs(alloc, &self.runs, changes, &mut runs)?;
+        let mut builder = Builder::new(alloc, Layout::Halved, room)?;
+        lay_runs(&self.runs, changes, &mut builder)?;
+        let runs = builder.finish()?;
         Ok(Paged { runs })
     }
 

@@ -58,65 +58,48 @@ struct Parts<'a, E: Entry> {
 }
 
 /// The same parts, with the first entry, if there is one, in the first part.
-fn from_first<'a, E: Entry>(
-    entries: &'a [E],
-    pages: &'a [Page<E>],
-    runs: &'a [Run<E>],
-    last_pages: &'a [Page<E>],
-    last_entries: &'a [E],
-) -> Parts<'a, E>
+fn from_first<'a, E: Entry>(parts: Parts<'a, E>) -> Parts<'a, E>
     ensures same { listed result.entries.now result.pages.now result.runs.now
         result.last_pages.now result.last_entries.now
-        ≡ listed entries.now pages.now runs.now last_pages.now last_entries.now }
+        ≡ listed parts.entry.entries.now parts.entry.pages.now parts.entry.runs.now
+        parts.entry.last_pages.now parts.entry.last_entries.now }
     ensures some { length result.entries.now ≡ 0
-        → listed entries.now pages.now runs.now last_pages.now last_entries.now ≡ [] }
+        → listed parts.entry.entries.now parts.entry.pages.now parts.entry.runs.now
+        parts.entry.last_pages.now parts.entry.last_entries.now ≡ [] }
 {
-    if !entries.is_empty() {
+    if !parts.entries.is_empty() {
+        return parts;
+    }
+    if !parts.pages.is_empty() {
+        let (entries, pages) = split_first_block(parts.pages);
         return Parts {
             entries,
             pages,
-            runs,
-            last_pages,
-            last_entries,
+            ..parts
         };
     }
-    if !pages.is_empty() {
+    if !parts.runs.is_empty() {
+        let (pages, runs) = split_first_block(parts.runs);
         let (entries, pages) = split_first_block(pages);
         return Parts {
             entries,
             pages,
             runs,
-            last_pages,
-            last_entries,
+            ..parts
         };
     }
-    if !runs.is_empty() {
-        let (pages, runs) = split_first_block(runs);
-        let (entries, pages) = split_first_block(pages);
+    if !parts.last_pages.is_empty() {
+        let (entries, last_pages) = split_first_block(parts.last_pages);
         return Parts {
             entries,
-            pages,
-            runs,
             last_pages,
-            last_entries,
-        };
-    }
-    if !last_pages.is_empty() {
-        let (entries, last_pages) = split_first_block(last_pages);
-        return Parts {
-            entries,
-            pages,
-            runs,
-            last_pages,
-            last_entries,
+            ..parts
         };
     }
     Parts {
-        entries: last_entries,
-        pages,
-        runs,
-        last_pages,
+        entries: parts.last_entries,
         last_entries: &[],
+        ..parts
     }
 }
 
@@ -128,13 +111,13 @@ impl<'a, E: Entry> Iterator for Range<'a, E> {
     ghost remaining = { item_count (λ r. r) };
 
     fn next(&mut self) -> Option<&'a E> {
-        let parts = from_first(
-            self.entries,
-            self.pages,
-            self.runs,
-            self.last_pages,
-            self.last_entries,
-        );
+        let parts = from_first(Parts {
+            entries: self.entries,
+            pages: self.pages,
+            runs: self.runs,
+            last_pages: self.last_pages,
+            last_entries: self.last_entries,
+        });
         let (first, entries) = parts.entries.split_first()?;
         *self = Range {
             entries,

@@ -165,6 +165,29 @@ fn a_page_that_loses_its_old_keys_stays_for_new_ones(rt: HostRuntime) -> Result<
     Ok(())
 }
 
+#[test]
+fn new_keys_go_by_the_first_keys_before(rt: HostRuntime) -> Result<(), Fail> {
+    let mut entries = Vec::new(rt.alloc());
+    for place in 1..129u64 {
+        entries.push(make_item(place.wrapping_mul(2)))?;
+    }
+    assert!(rt; is_rising(&entries));
+    let list = Paged::of_sorted(rt.alloc(), entries)?;
+    let changes = [
+        Change::Put(make_item(1)),
+        Change::Remove(make_item(2)),
+        Change::Put(make_item(129)),
+        Change::Remove(make_item(130)),
+        Change::Put(make_item(131)),
+    ];
+    let list = changed(&rt, rt.alloc(), &list, &changes)?;
+    assert_eq!(rt;
+        list.page_sizes(rt.alloc())?.as_slice(),
+        [32, 33, 64].as_slice()
+    );
+    Ok(())
+}
+
 /// Up to 200 puts and removals of keys below 2,000, with rising keys.
 fn some_changes(alloc: Global, seed: u64, stride: u64) -> Result<Vec<Change<Item>>, AllocError> {
     let mut changes = Vec::new(alloc);

@@ -1,5 +1,5 @@
 use Rattle.sorted_pages.specs.Pages.{flat, all_of}
-use Rattle.sorted_pages.proofs.Flats.{all_of_parts, flat_joined}
+use Rattle.sorted_pages.proofs.Flats.{all_of_parts}
 use Rattle.sorted_pages.proofs.Steps.{level_turn, rising_parts, changes_parts}
 use Rattle.sorted_pages.proofs.laying.lay_runs.Goals as goal
 
@@ -29,10 +29,9 @@ loop-change-preserved g c =
     level_turn g.E.Entry.order g.met.E.Entry.is_total c.in-Some.change.now c.in-Some.field-0-1.now c.loop-change.ahead.now
     c.changes_before_runs.result.0.now c.changes_before_runs.result.1.now c.entry.result.now
     (all_of c.split_at_run.result.0.now) (flat c.split_first_block.result.0.now) (all_of c.split_first_block.result.1.now)
-    (all_of c.loop-change.left.now) (all_of c.loop-change.list.items) (all_of c.share_runs.new.list.items) (all_of c.lay_run.new.runs.items) _
+    (all_of c.loop-change.left.now) c.loop-change.builder c.share_runs.new.builder c.lay_run.new.builder _
     c.entry.ensures c.in-Some.ensures.cases.0 c.changes_before_runs.ensures.parts
     (all_of_parts c.loop-change.left.now c.split_at_run.result.0.now c.split_at_run.result.1.now c.split_first_block.result.1.now
     c.split_first_block.result.0.now c.split_at_run.ensures.parts c.split_first_block.ensures.parts)
     c.loop-change.invariant.1 c.loop-change.invariant.2 c.split_at_run.ensures.before c.changes_before_runs.ensures.mine c.changes_before_runs.ensures.later
-    (flat_joined (flat c.share_runs.new.list.items) (flat c.loop-change.list.items) (flat c.split_at_run.result.0.now)
-    c.in_ok-share_runs.ensures) c.in_ok-lay_run.ensures c.loop-change.invariant.0
+    c.in_ok-share_runs.ensures c.in_ok-lay_run.ensures c.loop-change.invariant.0

@@ -6,8 +6,7 @@ use Rattle.sorted_pages.proofs.laying.lay_runs.Given as goal
 
 abbrev pub invariant-loop-change : goal.invariant-loop-change
 invariant-loop-change g l =
-    (all_of l.list.items ++ with_changes g.E.Entry.order l.ahead (all_of l.left) ≡ all_of l.fn.list.items
-    ++ with_changes g.E.Entry.order l.fn.changes (all_of l.fn.runs))
+    (l.builder ++ with_changes g.E.Entry.order l.ahead (all_of l.left) ≡ l.fn.builder ++ with_changes g.E.Entry.order l.fn.changes (all_of l.fn.runs))
     × IsRising g.E.Entry.order (all_of l.left) × IsRising g.E.Entry.order (map entry_of l.ahead)
 
 abbrev pub decreases-loop-change : goal.decreases-loop-change

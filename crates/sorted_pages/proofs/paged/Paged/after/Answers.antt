@@ -7,14 +7,14 @@ use Rattle.sorted_pages.proofs.paged.Paged.after.Goals as goal
 
 pub invariant_of-result : goal.invariant_of-result
 invariant_of-result g c =
-    let same : all_of c.lay_runs.new.list.items ≡ with_changes g.E.Entry.order c.args.changes.now (all_of c.self.inside.runs.items) =
-    c.in_ok-lay_runs.ensures
-    ∙ (λ i. all_of (c.in_ok-runs.ensures.items i) ++ with_changes g.E.Entry.order c.args.changes.now (all_of (c.deref.ensures.value i))) in
+    let same : all_of c.in_ok-runs.runs.items ≡ with_changes g.E.Entry.order c.args.changes.now (all_of c.self.inside.runs.items) =
+    c.in_ok-runs.ensures ∙ c.in_ok-lay_runs.ensures
+    ∙ (λ i. c.in_ok-builder.ensures i ++ with_changes g.E.Entry.order c.args.changes.now (all_of (c.deref.ensures.value i))) in
     subst (IsRising g.E.Entry.order) (sym same)
     (rising-with_changes g.E.Entry.order g.met.E.Entry.is_total c.args.changes.now (all_of c.self.inside.runs.items) c.self.invariant)
 
 pub returns : goal.returns
 returns g c =
-    c.in_ok-lay_runs.ensures
-    ∙ (λ i. all_of (c.in_ok-runs.ensures.items i) ++ with_changes g.E.Entry.order c.args.changes.now (all_of (c.deref.ensures.value i)))
+    c.in_ok-runs.ensures ∙ c.in_ok-lay_runs.ensures
+    ∙ (λ i. c.in_ok-builder.ensures i ++ with_changes g.E.Entry.order c.args.changes.now (all_of (c.deref.ensures.value i)))
     ∙ ap (with_changes g.E.Entry.order c.args.changes.now) c.self.view_is

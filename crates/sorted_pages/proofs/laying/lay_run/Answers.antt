@@ -1,7 +1,7 @@
 use Rattle.sorted_pages.specs.Pages.{flat}
 use Rattle.sorted_pages.proofs.Flats.{flat_parts}
 use Rattle.sorted_pages.proofs.Steps.{level_turn, rising_parts, changes_parts}
-use Rattle.sorted_pages.proofs.laying.lay_pages.Goals as goal
+use Rattle.sorted_pages.proofs.laying.lay_run.Goals as goal
 
 pub changes_before_pages-requires-clause-pages : goal.changes_before_pages-requires-clause-pages
 changes_before_pages-requires-clause-pages g c =
@@ -29,7 +29,7 @@ loop-change-preserved g c =
     level_turn g.E.Entry.order g.met.E.Entry.is_total c.in-Some.change.now c.in-Some.field-0-1.now c.loop-change.ahead.now
     c.changes_before_pages.result.0.now c.changes_before_pages.result.1.now c.entry.result.now
     (flat c.split_at_place.result.0.now) c.split_first_block.result.0.now (flat c.split_first_block.result.1.now)
-    (flat c.loop-change.left.now) (flat c.loop-change.cutter) (flat c.share_pages.new.cutter) (flat c.lay_page.new.pages) _
+    (flat c.loop-change.left.now) c.loop-change.builder c.share_pages.new.builder c.lay_page.new.builder _
     c.entry.ensures c.in-Some.ensures.cases.0 c.changes_before_pages.ensures.parts
     (flat_parts c.loop-change.left.now c.split_at_place.result.0.now c.split_at_place.result.1.now c.split_first_block.result.1.now
     c.split_first_block.result.0.now c.split_at_place.ensures.parts c.split_first_block.ensures.parts)
