@@ -110,6 +110,16 @@ impl<E: Entry> Builder<E> {
         Ok(())
     }
 
+    /// Pushes entries, one after another.
+    pub(crate) fn push_all(&mut self, entries: Vec<E>) -> Result<(), AllocError>
+        ensures { OnOk result (self.new ≡ self.old ++ entries.items) }
+    {
+        for entry in entries {
+            self.push(entry)?;
+        }
+        Ok(())
+    }
+
     /// Ends the page that has begun, and pushes one more to the run that has begun.
     pub(crate) fn push_page(&mut self, page: Page<E>) -> Result<(), AllocError>
         ensures { OnOk result (self.new ≡ self.old ++ arc_value page) }

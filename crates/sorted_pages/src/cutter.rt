@@ -14,7 +14,7 @@ use std::sync::Arc;
 const HALF: usize = 32;
 
 /// How items are laid into blocks.
-#[derive(Clone, Copy, Debug)]
+#[derive(Clone, Copy)]
 pub(crate) enum Layout {
     /// One block of up to 64; where there are more, blocks of 32, a rest of fewer than 32 in the last.
     Halved,

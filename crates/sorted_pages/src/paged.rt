@@ -76,9 +76,7 @@ impl<E: Entry> Paged<E> {
     {
         let mut builder = Builder::new(alloc, Layout::Filled, 0)?;
         builder.begin_page(entries.len())?;
-        for entry in entries {
-            builder.push(entry)?;
-        }
+        builder.push_all(entries)?;
         let runs = builder.finish()?;
         Ok(Paged { runs })
     }

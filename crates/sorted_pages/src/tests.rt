@@ -138,19 +138,22 @@ fn drops_a_page_that_is_empty(rt: HostRuntime) -> Result<(), Fail> {
     Ok(())
 }
 
+/// The lengths of the pages of a list that gets this many entries at once.
+fn sizes_of_new(rt: &impl Abort, alloc: Global, count: u64) -> Result<Vec<usize>, AllocError> {
+    let empty = Paged::new(alloc);
+    let changes = changes_of(alloc, 0, count, true)?;
+    let list = changed(rt, alloc, &empty, &changes)?;
+    list.page_sizes(alloc)
+}
+
 #[test]
 fn cuts_after_every_32(rt: HostRuntime) -> Result<(), Fail> {
-    let empty = Paged::new(rt.alloc());
-    let list = changed(
-        &rt,
-        rt.alloc(),
-        &empty,
-        &changes_of(rt.alloc(), 0, 100, true)?,
-    )?;
-    assert_eq!(rt;
-        list.page_sizes(rt.alloc())?.as_slice(),
-        [32, 32, 36].as_slice()
-    );
+    let one_less = sizes_of_new(&rt, rt.alloc(), 95)?;
+    assert_eq!(rt; one_less.as_slice(), [32, 63].as_slice());
+    let three = sizes_of_new(&rt, rt.alloc(), 96)?;
+    assert_eq!(rt; three.as_slice(), [32, 32, 32].as_slice());
+    let more = sizes_of_new(&rt, rt.alloc(), 100)?;
+    assert_eq!(rt; more.as_slice(), [32, 32, 36].as_slice());
     Ok(())
 }
 
