@@ -1,0 +1,71 @@
+//! Entries with names of 30 bytes behind one pointer.
+ghost use Rattle.std.specs.Prelude.{◌≡◌};
+
+use sorted_pages::{Entry, Peaked};
+use std::alloc::{AllocError, Global};
+use std::cmp::Ordering;
+use std::marker::Model;
+use std::sync::Arc;
+
+/// A name with a number.
+#[derive(Drop)]
+struct Held {
+    name: [u8; 30],
+    number: u64,
+}
+
+/// A held name. Contracts see the name and the number.
+#[derive(Drop)]
+pub(crate) struct Named {
+    held: Arc<Held>,
+}
+
+impl Model for Named {
+    ghost use Rattle.std.specs.Prelude.{ℕ, List};
+    ghost use Rattle.std.specs.Arc.{arc_value};
+
+    ghost Value = { List ℕ × ℕ };
+
+    ghost view = { λ n. ((arc_value n.held).name, (arc_value n.held).number) };
+}
+
+impl Named {
+    /// The name of this place in the order, with a number.
+    pub(crate) fn new(alloc: Global, place: u64, number: u64) -> Result<Named, AllocError> {
+        let mut name = [b'0'; 30];
+        let mut left = place;
+        for digit in name.iter_mut().rev() {
+            *digit = b'0' + (left % 10) as u8;
+            left /= 10;
+        }
+        let held = Arc::new(alloc, Held { name, number })?;
+        Ok(Named { held })
+    }
+}
+
+impl Peaked for Named {
+    ghost peak = { λ n. n.1 };
+
+    fn peak(&self) -> u64 {
+        self.held.number
+    }
+}
+
+impl Entry for Named {
+    ghost use Rattle.std.specs.Ordering.{nat_cmp};
+    ghost use Rattle.std.specs.Cmp.{on_total};
+    ghost use Rattle.std.specs.Cmp.Lexicographic.{slice_cmp, nat_list_cmp_total};
+
+    ghost order = { λ a b. slice_cmp nat_cmp a.0 b.0 };
+
+    ghost is_total = { on_total (λ n. n.0) nat_list_cmp_total };
+
+    fn order(&self, other: &Self) -> Ordering {
+        self.held.name.as_slice().cmp(other.held.name.as_slice())
+    }
+
+    fn share(&self) -> Result<Named, AllocError> {
+        let held = Arc::try_clone(&self.held)?;
+        Ok(Named { held })
+    }
+}

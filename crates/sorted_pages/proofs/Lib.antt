@@ -1,0 +1,11 @@
+pub mod Edges
+pub mod Peaks
+pub mod Flats
+pub mod Orders
+pub mod Parts
+pub mod Steps
+pub mod Sizes
+pub mod Stretches
+pub mod Ranging
+pub mod Adjacent
+pub mod Growing

@@ -1,0 +1,47 @@
+//! Ranges by entries of the list's own type.
+ghost use Rattle.std.specs.Prelude.{◌≡◌};
+ghost use Rattle.sorted_pages.specs.Ties.{between};
+
+use crate::entry::{Entry, Span};
+use std::cmp::Ordering;
+
+/// The range of what ties with an entry.
+#[derive(Drop)]
+pub(crate) struct Tie<'a, E>(pub(crate) &'a E);
+
+impl<'a, E: Entry> Span<E> for Tie<'a, E> {
+    ghost use Rattle.sorted_pages.specs.Ties.{tie_is_monotone};
+
+    ghost side = { λ t e. E.order e t.0.now };
+
+    ghost is_monotone = { λ t. tie_is_monotone E.order E.is_total t.0.now };
+
+    fn side(&self, entry: &E) -> Ordering {
+        entry.order(self.0)
+    }
+}
+
+/// The range from one entry on up to another, which is not in it.
+#[derive(Drop)]
+pub struct Between<'a, E> {
+    pub from: &'a E,
+    pub until: &'a E,
+}
+
+impl<'a, E: Entry> Span<E> for Between<'a, E> {
+    ghost use Rattle.sorted_pages.specs.Ties.{between, between_is_monotone};
+
+    ghost side = { λ b e. between E.order b.from.now b.until.now e };
+
+    ghost is_monotone = { λ b. between_is_monotone E.order E.is_total b.from.now b.until.now };
+
+    fn side(&self, entry: &E) -> Ordering {
+        if entry.order(self.from).is_lt() {
+            return Ordering::Less;
+        }
+        if entry.order(self.until).is_lt() {
+            return Ordering::Equal;
+        }
+        Ordering::Greater
+    }
+}
