@@ -16,17 +16,16 @@ use Rattle.filing_model.specs.Replies as reply
 use Rattle.filing_model.specs.Replies.{Reply}
 use Rattle.filing_model.specs.Things as thing
 use Rattle.filing_model.specs.Things.{Thing}
-use Rattle.filing_model.specs.Sessions.{Answer, may_make, answer_in, answer, got, cell_found, page_found, fitted, added, removed}
+use Rattle.filing_model.specs.Sessions.{Answer, may_make, answer_in, answer, fitted, added, removed}
 use Rattle.filing_model.specs.Touches.{read_in, read_by, is_within}
 use Rattle.filing_model.specs.declared.duplicates.Allowed.{Allowed}
 use Rattle.filing_model.specs.declared.kind.Kind.{Kind}
 use Rattle.filing_model.specs.declared.faults.FactFault.{FactFault}
 use Rattle.filing_laws.proofs.EachElement.{OnEach}
 use Rattle.filing_laws.proofs.WithOneFact.{names_at}
-use Rattle.filing_laws.proofs.WithOneValue.{value_at}
 use Rattle.filing_laws.proofs.FilteredFacts.{only, those_same}
 use Rattle.filing_laws.proofs.AgreeOnThings.{Agree, agree_fact, agree_kept, agree_declared}
-use Rattle.filing_laws.proofs.PagesAlike.{SameFront, same_front, sought_rise, sought_upto, ids_upto}
+use Rattle.filing_laws.proofs.PagesAlike.{SameFront, same_front, sought_rise, sought_upto}
 
 -- they agree on what was read, if anything was
 abbrev pub AgreeOn : Option Thing → Repository → Repository → Type 0

@@ -4,7 +4,7 @@ use Rattle.std.specs.Option.{option_map_or, option_or}
 use Rattle.std.specs.FinMap.Entries.{find}
 use Rattle.std.proofs.lemmas.Bool.{and_parts, or_parts}
 use Rattle.filing_model.specs.Text.{Text, text_cmp, text_eq}
-use Rattle.filing_model.specs.TextMap.{TextMap, get, insert}
+use Rattle.filing_model.specs.TextMap.{get, insert}
 use Rattle.filing_model.specs.Facts.{Fact}
 use Rattle.filing_model.specs.Repository.{Repository, fact_at}
 use Rattle.filing_model.specs.Duplicates.{has_dims}
@@ -19,7 +19,7 @@ use Rattle.filing_model.proofs.TextMaps.{get-insert}
 use Rattle.filing_laws.proofs.EachElement.{Each, IsNever, never_parts}
 use Rattle.filing_laws.proofs.WithOneValue.{value_for, last_value}
 use Rattle.filing_laws.proofs.FilteredFacts.{only}
-use Rattle.filing_laws.proofs.AgreeOnThings.{sees, shown}
+use Rattle.filing_laws.proofs.AgreeOnThings.{shown}
 use Rattle.filing_laws.proofs.RunsAlike.{is_place}
 
 -- ---- looking up

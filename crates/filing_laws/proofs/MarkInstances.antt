@@ -1,5 +1,5 @@
 -- The laws of marks at worked histories: each premise is met there, and what the law says of it computes.
-use Rattle.std.proofs.Common.{◌≡◌, refl, ℕ, ◌≤◌, List, [], ◌∷◌, ◌++◌, Option, Some, None, take, true, false}
+use Rattle.std.proofs.Common.{◌≡◌, refl, ◌≤◌, List, [], ◌∷◌, ◌++◌, Option, Some, None, take, true, false}
 use Rattle.std.specs.Prelude.{codes}
 use Rattle.filing_model.specs.Text.{Text}
 use Rattle.filing_model.specs.Calls.{Any, Without, Exactly}

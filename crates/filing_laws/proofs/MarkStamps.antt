@@ -1,5 +1,5 @@
 -- The stamp of a mark is that of the newest commit that left it, and the stamp of a range is the greatest of those of the marks in it.
-use Rattle.std.proofs.Common.{◌≡◌, ◌∙◌, ◌↔◌, ap, sym, refl, subst, ℕ, ◌≤◌, le_antisymm, arith, Bool, true, false, cond, [], ◌∷◌, Option, Some, None, true≢false}
+use Rattle.std.proofs.Common.{◌≡◌, ◌∙◌, ap, sym, refl, subst, ℕ, ◌≤◌, le_antisymm, arith, Bool, true, false, cond, [], ◌∷◌, Option, Some, None, true≢false}
 use Rattle.filing_model.specs.Text.{Text}
 use Rattle.filing_model.specs.Calls.{Sought}
 use Rattle.filing_model.specs.Replies as reply

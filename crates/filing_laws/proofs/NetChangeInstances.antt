@@ -9,7 +9,7 @@ use Rattle.filing_model.specs.Sessions.{repository_obeys, refusal_of}
 use Rattle.filing_model.specs.History.{Commit, Entry, History, repository}
 use Rattle.filing_model.specs.TextMap.{TextMap}
 use Rattle.filing_model.specs.Facts.{Fact}
-use Rattle.filing_model.specs.Changes.{ReportChange, Change, declared_in, laid_over, after_change, first_disallowed}
+use Rattle.filing_model.specs.Changes.{ReportChange, Change, laid_over, after_change, first_disallowed}
 use Rattle.filing_model.specs.Touches.{net_change_of}
 use Rattle.filing_model.specs.declared.duplicates.Allowed.TheVariants.{Never, Complete, All}
 use Rattle.filing_model.specs.declared.duplicates.Class.TheVariants as class

@@ -17,7 +17,7 @@ use Rattle.filing_model.specs.Replies as reply
 use Rattle.filing_model.specs.Replies.{Reply}
 use Rattle.filing_model.specs.Sessions.{report_obeys, repository_obeys, disallowed_cell, refusal_of}
 use Rattle.filing_model.specs.History.{repository}
-use Rattle.filing_model.specs.Changes.{ReportChange, Change, no_change, change_in, declared_in, with_facts, declaring_if, changed, laid_over, new_facts, least_among, least_changed, find_map, first_disallowed}
+use Rattle.filing_model.specs.Changes.{ReportChange, Change, no_change, change_in, with_facts, declaring_if, changed, laid_over, least_among, least_changed, find_map, first_disallowed}
 use Rattle.filing_model.specs.Touches.{net_change_of}
 use Rattle.filing_model.specs.declared.duplicates.Allowed.{Allowed}
 use Rattle.filing_model.specs.declared.duplicates.Class.TheVariants.{Empty}

@@ -1,11 +1,11 @@
 -- A session's solo run in two repositories that agree on what it reads, what it may have read, and what it leaves.
-use Rattle.std.proofs.Common.{◌≡◌, ◌∙◌, ap, sym, refl, subst, Bool, true, false, cond, ◌&&◌, List, [], ◌∷◌, Option, Some, None, is_some, option_map}
+use Rattle.std.proofs.Common.{◌≡◌, ◌∙◌, ap, sym, refl, Bool, true, false, cond, ◌&&◌, List, [], ◌∷◌, Option, Some, None, is_some, option_map}
 use Rattle.std.specs.List.{cons_option}
 use Rattle.std.specs.Option.{option_map_or, option_or}
 use Rattle.std.specs.declared.result.Result.{Result}
 use Rattle.std.specs.declared.result.Result.TheVariants.{Ok, Err}
 use Rattle.filing_model.specs.Text.{Text, text_eq}
-use Rattle.filing_model.specs.Facts.{Fact, Names, RawFact, fit_of}
+use Rattle.filing_model.specs.Facts.{Fact, RawFact, fit_of}
 use Rattle.filing_model.specs.Reports.{Report}
 use Rattle.filing_model.specs.Repository.{Repository, report_at, fact_in, fact_at, with_fact_at, declaring_at}
 use Rattle.filing_model.specs.Changes.{declaring_if}
@@ -15,7 +15,7 @@ use Rattle.filing_model.specs.Replies as reply
 use Rattle.filing_model.specs.Replies.{Reply}
 use Rattle.filing_model.specs.Things as thing
 use Rattle.filing_model.specs.Things.{Thing, report_of}
-use Rattle.filing_model.specs.Sessions.{Answer, may_make, answer_in, answer, solo_replies, solo_copy, fitted, added, removed}
+use Rattle.filing_model.specs.Sessions.{Answer, may_make, answer_in, answer, solo_replies, solo_copy, fitted}
 use Rattle.filing_model.specs.Touches.{read_in, read_by, reads, if_staged, place_of_call, value_of_call, staged_places, staged_values}
 use Rattle.filing_model.specs.declared.duplicates.Allowed.{Allowed}
 use Rattle.filing_model.specs.declared.kind.Kind.{Kind}
@@ -24,7 +24,7 @@ use Rattle.filing_laws.proofs.EachElement.{Each, OnEach, each_mapped, each_parts
 use Rattle.filing_laws.proofs.WithOneFact.{names_at, fact_at-with_fact_at}
 use Rattle.filing_laws.proofs.WithOneValue.{bare_at, names_of_bare, value_for, last_value, names-declaring_if, declaring_twice, nothing_declared, bare_at-with_fact_at, bare_at-declaring_at, fact_at-declaring_at}
 use Rattle.filing_laws.proofs.AgreeOnThings.{Agree}
-use Rattle.filing_laws.proofs.AnsweredAlike.{IsAlike, Stays, call_alike, there}
+use Rattle.filing_laws.proofs.AnsweredAlike.{Stays, call_alike, there}
 
 -- ---- what a call leaves
 

@@ -146,12 +146,12 @@ module _ (older : History) (session : Option ℕ) (s : ℕ) (r : Reply) where
       let same : it.s ≡ s = number_known session it.s s it.of_it mine in
       let amends : kind ≡ Amend = same_kind kind Amend (sym live ∙ ap (λ m. status_of m older) (sym same) ∙ it.live) in
       let earlier : replies_of s older ≡ solo_replies Amend (repository older) (calls_of s older) =
-          subst (λ m. replies_of m older ≡ solo_replies Amend (repository older) (calls_of m older)) same it.earlier in
+      subst (λ m. replies_of m older ≡ solo_replies Amend (repository older) (calls_of m older)) same it.earlier in
       let obeys : refusal_of (passed_copy s older) ≡ None = subst (λ m. refusal_of (passed_copy m older) ≡ None) same it.obeys in
       let result : repository (entry ∷ older) ≡ record (passed_copy s older) { count = (repository older).count + 1 } =
-          subst (λ m. repository (entry ∷ older) ≡ record (passed_copy m older) { count = (repository older).count + 1 }) same it.result in
+      subst (λ m. repository (entry ∷ older) ≡ record (passed_copy m older) { count = (repository older).count + 1 }) same it.result in
       let number : r ≡ unwrap_or (refusal_of (passed_copy s older)) (reply.Committed ((repository older).count + 1)) = it.reply
-          ∙ sym (ap (λ o. unwrap_or o (reply.Committed ((repository older).count + 1))) obeys) in
+      ∙ sym (ap (λ o. unwrap_or o (reply.Committed ((repository older).count + 1))) obeys) in
       subst (λ cs. IsWhole (record (part_with true s entry older) { calls = cs })) (sym (append-nil (calls_of s older))) (record {
         kind = going.of_kind ∙ ap Some amends;
         replies = ap (λ rs. rs ++ r ∷ []) going.all ∙ (λ i. reply.Opened ∷ earlier i ++ number i ∷ []);

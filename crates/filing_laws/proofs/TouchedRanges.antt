@@ -1,5 +1,5 @@
 -- An entry touches a range exactly where it leaves a mark in it.
-use Rattle.std.proofs.Common.{◌≡◌, ◌∙◌, ◌↔◌, ap, sym, refl, Bool, true, false, cond, ◌&&◌, ◌||◌, ℕ, List, [], ◌∷◌, Option, Some, None, is_some, true≢false}
+use Rattle.std.proofs.Common.{◌≡◌, ◌∙◌, ap, sym, refl, Bool, true, false, cond, ◌&&◌, ◌||◌, ℕ, List, [], ◌∷◌, Option, Some, None, is_some, true≢false}
 use Rattle.std.specs.FinMap.Entries.{find}
 use Rattle.std.specs.List.{list_any}
 use Rattle.std.specs.Option.{option_eq, option_map_or}
@@ -15,9 +15,9 @@ use Rattle.filing_model.specs.Replies.{Reply}
 use Rattle.filing_model.specs.Things.{Range}
 use Rattle.filing_model.specs.Changes.{Change, change_in, change_at}
 use Rattle.filing_model.specs.History.{Step, Load, Entry, History, repository}
-use Rattle.filing_model.specs.Touches.{passes_at, is_within, is_changed, is_loaded, net_change_of, touches, touches_with}
+use Rattle.filing_model.specs.Touches.{passes_at, is_within, is_changed, is_loaded, net_change_of, touches_with}
 use Rattle.filing_model.proofs.Texts.{text_same, text_eq-refl}
-use Rattle.filing_laws.specs.Marks.{Mark, stands_at, is_marked, marks, marks_with, LiesIn, IsMarkedIn, RangesAreTouchedByMarks}
+use Rattle.filing_laws.specs.Marks.{Mark, stands_at, is_marked, marks_with, LiesIn, RangesAreTouchedByMarks}
 use Rattle.filing_laws.proofs.EqualThings.{option_same}
 use Rattle.filing_laws.proofs.SameReplies.{option_itself}
 

@@ -5,11 +5,10 @@ use Rattle.filing_model.specs.Repository.{Repository, nothing}
 use Rattle.filing_model.specs.Replies as reply
 use Rattle.filing_model.specs.Replies.{Reply}
 use Rattle.filing_model.specs.History.{Step, Entry, History, repository}
-use Rattle.filing_model.specs.Changes.{after_change}
 use Rattle.filing_model.specs.Touches.{net_change_of}
 use Rattle.filing_model.specs.Lawful.{IsLawful}
 use Rattle.filing_model.specs.Versions.{counts}
-use Rattle.filing_laws.specs.Updates.{Update, Loading, Changing, after_update, after_updates, loading_in, update_in, updates_of, EachRepositoryIsThatOfItsUpdates}
+use Rattle.filing_laws.specs.Updates.{Update, Changing, after_update, after_updates, loading_in, update_in, updates_of, EachRepositoryIsThatOfItsUpdates}
 use Rattle.filing_laws.proofs.EntryCases.{EntryCase, Quiet, Accepted, Passed, entry_case, quiet_repository}
 use Rattle.filing_laws.proofs.NetChanges.{each_commit_lays_its_net_change}
 use Rattle.filing_laws.proofs.VersionChain.{repository_obeys_always}

@@ -2,7 +2,6 @@
 use Rattle.std.proofs.Common.{◌≡◌, ◌∙◌, ap, sym, refl, Bool, true, false, cond, ◌&&◌, Option, Some, None, is_some, option_map, option_and_then, true≢false}
 use Rattle.std.specs.Option.{option_map_or}
 use Rattle.filing_model.specs.Text.{Text, text_eq}
-use Rattle.filing_model.specs.TextMap.{insert}
 use Rattle.filing_model.specs.Facts.{Fact, Names}
 use Rattle.filing_model.specs.Reports.{Report}
 use Rattle.filing_model.specs.Repository.{Repository, report_at, fact_in, fact_at, with_fact, with_report_at, with_fact_at}

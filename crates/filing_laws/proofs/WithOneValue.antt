@@ -3,7 +3,7 @@ use Rattle.std.proofs.Common.{◌≡◌, ◌∙◌, ap, sym, refl, Bool, true, f
 use Rattle.std.specs.Option.{option_map_or, option_or}
 use Rattle.filing_model.specs.Text.{Text, text_eq}
 use Rattle.filing_model.specs.TextMap.{empty}
-use Rattle.filing_model.specs.Facts.{Fact, Names}
+use Rattle.filing_model.specs.Facts.{Fact}
 use Rattle.filing_model.specs.Reports.{Report}
 use Rattle.filing_model.specs.DeclaredValue.{report_declaring}
 use Rattle.filing_model.specs.Repository.{Repository, report_at, fact_in, fact_at, with_fact, with_report_at, with_fact_at, declaring_at}

@@ -1,5 +1,5 @@
 -- Of the marks that commits leave, from which the stamps of ranges are read.
-use Rattle.std.specs.Prelude.{◌≡◌, ◌↔◌, ℕ, ◌≤◌, max, Bool, true, false, cond, ◌&&◌, List, [], ◌∷◌, Option, Some, None, is_some, MatchOption}
+use Rattle.std.specs.Prelude.{◌≡◌, ◌↔◌, ℕ, ◌≤◌, max, Bool, true, false, cond, ◌&&◌, List, ◌∷◌, Option, Some, None, is_some, MatchOption}
 use Rattle.std.specs.List.{reduce}
 use Rattle.std.specs.Option.{option_eq, option_map_or}
 use Rattle.filing_model.specs.Text.{Text, text_eq}

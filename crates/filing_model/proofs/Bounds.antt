@@ -50,7 +50,7 @@ pub all_digits : (whole fraction : Text) → list_all is_ascii_digit (whole ++ f
 all_digits whole fraction e =
     let t = and_parts (list_all is_ascii_digit whole) (list_all is_ascii_digit fraction) (sym (list_all-append is_ascii_digit whole fraction) ∙ e) in
     list_all-append is_ascii_digit (without_front is_zero whole) (without_end is_zero fraction)
-        ∙ ap (λ b. b && list_all is_ascii_digit (without_end is_zero fraction)) (cut_digits whole t.0) ∙ kept_digits fraction t.1
+    ∙ ap (λ b. b && list_all is_ascii_digit (without_end is_zero fraction)) (cut_digits whole t.0) ∙ kept_digits fraction t.1
 
 pub scaled_below : (whole fraction : Text) → list_all is_ascii_digit (whole ++ fraction) ≡ true → length whole ≤ most_whole_digits
     → length fraction ≤ most_fraction_digits → scaled whole fraction < 10 ^ (most_whole_digits + most_fraction_digits)

@@ -21,18 +21,18 @@ module _ {X Y : Type 0} (kept : Y → Bool) (view : X → Y) where
   list_all_kept test [] = refl
   list_all_kept test (x ∷ xs) =
       elim (kept (view x)) as (λ b. ((not b || test (view x)) && list_all (λ x. not (kept (view x)) || test (view x)) xs) ≡ list_all test (cond b (view x ∷ filter kept (map view xs)) (filter kept (map view xs)))) [
-    | true ↦ ap (λ b. test (view x) && b) (list_all_kept test xs)
-    | false ↦ list_all_kept test xs
-  ]
+        | true ↦ ap (λ b. test (view x) && b) (list_all_kept test xs)
+        | false ↦ list_all_kept test xs
+      ]
 
   -- what is asked of the first element of a list, whether it is kept or not
   pub front : (test : Y → Y → Bool) (first : X) (rest : List X)
       → every_pair test (filter kept (map view (first ∷ rest))) ≡ ((not (kept (view first)) || list_all (λ x. not (kept (view x)) || test (view first) (view x)) rest) && every_pair test (filter kept (map view rest)))
   front test first rest =
       elim (kept (view first)) as (λ b. every_pair test (cond b (view first ∷ filter kept (map view rest)) (filter kept (map view rest))) ≡ ((not b || list_all (λ x. not (kept (view x)) || test (view first) (view x)) rest) && every_pair test (filter kept (map view rest)))) [
-    | true ↦ ap (λ b. b && every_pair test (filter kept (map view rest))) (sym (list_all_kept (test (view first)) rest))
-    | false ↦ refl
-  ]
+        | true ↦ ap (λ b. b && every_pair test (filter kept (map view rest))) (sym (list_all_kept (test (view first)) rest))
+        | false ↦ refl
+      ]
 
   -- one turn of a walk down the list
   turn : (test : Y → Y → Bool) (xs : List X) (first : X) (passed : Bool) → 1 ≤ length xs → first ≡ get_or xs 0 first
@@ -57,9 +57,9 @@ module _ {X Y : Type 0} (kept : Y → Bool) (view : X → Y) where
   same_length [] = refl
   same_length (x ∷ xs) =
       elim (kept (view x)) as (λ b. length (cond b (x ∷ filter (λ x. kept (view x)) xs) (filter (λ x. kept (view x)) xs)) ≡ length (cond b (view x ∷ filter kept (map view xs)) (filter kept (map view xs)))) [
-    | true ↦ ap (λ n. suc n) (same_length xs)
-    | false ↦ same_length xs
-  ]
+        | true ↦ ap (λ n. suc n) (same_length xs)
+        | false ↦ same_length xs
+      ]
 
   pub count_kept : (xs : List X) → count_by (λ x. kept (view x)) xs ≡ length (filter kept (map view xs))
   count_kept xs = sym (length-filter (λ x. kept (view x)) xs) ∙ same_length xs
@@ -96,8 +96,8 @@ least_turn view test least next xs i x total below e step so_far =
     let cut : drop i xs ≡ x ∷ drop (i + 1) xs = rw add-one (drop-cons xs i x below ∙ ap (λ y. y ∷ drop (suc i) xs) (sym e)) in
     let later = filter test (map (λ f. f.dims) (map view (drop (i + 1) xs))) in
     ap (λ o. fold lesser_dims o later) step
-        ∙ sym (ap (λ ys. fold lesser_dims least (filter test (map (λ f. f.dims) (map view ys)))) cut ∙ kept_or_not (test (view x).dims) lesser_dims least (view x).dims later)
-        ∙ so_far
+    ∙ sym (ap (λ ys. fold lesser_dims least (filter test (map (λ f. f.dims) (map view ys)))) cut ∙ kept_or_not (test (view x).dims) lesser_dims least (view x).dims later)
+    ∙ so_far
 
 pub least_end : {X : Type 0} (view : X → Fact) (test : Dims → Bool) (least : Option Dims) (xs : List X) (i : ℕ) → length xs ≤ i
     → fold lesser_dims least (filter test (map (λ f. f.dims) (map view (drop i xs)))) ≡ least

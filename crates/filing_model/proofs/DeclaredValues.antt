@@ -1,5 +1,5 @@
 -- Setting a declared value: what is read of the info that is made.
-use Rattle.std.proofs.Common.{◌≡◌, ℕ, suc, ◌≤◌, Bool, true, false, cond, true≢false, ◌||◌, Option, Some, None, Less, Equal, Greater, refl, sym, ap, ◌∙◌, arith, codes, unwrap_or, Ordering}
+use Rattle.std.proofs.Common.{◌≡◌, ℕ, suc, ◌≤◌, Bool, true, false, cond, true≢false, Option, Some, None, Less, Equal, Greater, refl, sym, ap, ◌∙◌, arith, codes, unwrap_or, Ordering}
 use Rattle.std.proofs.lemmas.Cmp.{nat_list_cmp_total, tied_itself}
 use Rattle.std.proofs.lemmas.Bool.{or_from, or_parts}
 use Rattle.std.proofs.lemmas.Str.{IsUtf8-from_is_utf8}
@@ -20,7 +20,7 @@ use Rattle.filing_model.specs.ReadReport.{allowed_word, allowed_of_word}
 use Rattle.filing_model.specs.declared.duplicates.Allowed.{Allowed}
 use Rattle.filing_model.specs.declared.duplicates.Allowed.TheVariants.{Never, Complete, Consistent, All}
 use Rattle.filing_model.proofs.OnLiterals.{filing_on_literals}
-use Rattle.filing_model.proofs.Texts.{text_cmp-Equal, text_eq-refl}
+use Rattle.filing_model.proofs.Texts.{text_eq-refl}
 use Rattle.filing_model.proofs.ReadValues.{IsRead, AreMembersRead, IsRead-put, IsRead-read, sorted-put}
 use Rattle.filing_model.proofs.WrittenValues.{Reads-read, read_written}
 

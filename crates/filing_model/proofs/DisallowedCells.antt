@@ -120,7 +120,7 @@ from_cells test other [] e = refl
 from_cells test other (f ∷ facts) e =
     let t = and_parts (within_cell test (f ∷ facts) f.dims) (list_all (within_cell test (f ∷ facts)) (map (λ f. f.dims) facts)) e in
     let cell : every_pair test (f ∷ filter (has_dims f.dims) facts) ≡ true = sym (ap (λ b. every_pair test (cond b (f ∷ filter (has_dims f.dims) facts) (filter (has_dims f.dims) facts))) (dims_eq-refl f.dims))
-        ∙ t.0 in
+    ∙ t.0 in
     let first = (and_parts (list_all (test f) (filter (has_dims f.dims) facts)) (every_pair test (filter (has_dims f.dims) facts)) cell).0 in
     and_from (list_all (test f) facts) (every_pair test facts)
     (others_pass test other f facts first)

@@ -12,7 +12,7 @@ use mathlib.Core.Bool.{true≢false}
 use Rattle.std.specs.BTreeMap.{insert_entry, is_at}
 use Rattle.std.specs.FinMap.Entries.{find, put, by_order, below_all, is_sorted}
 use Rattle.filing_model.specs.Text.{Text, text_cmp, text_eq}
-use Rattle.filing_model.specs.TextMap.{TextMap, get, insert, from_entries}
+use Rattle.filing_model.specs.TextMap.{get, insert, from_entries}
 use Rattle.filing_model.specs.Keyed.{keyed, keyed_map}
 use Rattle.filing_model.proofs.TextMaps.{get-from_entries, from_entries-put, get-insert, same_map}
 use Rattle.filing_model.proofs.Tests.{both_hold}

@@ -44,7 +44,7 @@ tail_is_not_blank whole None e = digits_are_not_blank (whole ++ []) e
 tail_is_not_blank whole (Some digits) e =
     let t = and_parts (list_all is_ascii_digit whole) (list_all is_ascii_digit digits) (sym (list_all-append is_ascii_digit whole digits) ∙ e) in
     list_all-append (λ c. not (is_blank c)) whole (46 ∷ digits)
-        ∙ and_from (list_all (λ c. not (is_blank c)) whole) (list_all (λ c. not (is_blank c)) digits) (digits_are_not_blank whole t.0) (digits_are_not_blank digits t.1)
+    ∙ and_from (list_all (λ c. not (is_blank c)) whole) (list_all (λ c. not (is_blank c)) digits) (digits_are_not_blank whole t.0) (digits_are_not_blank digits t.1)
 
 tail_is_some : (whole : Text) (fraction : Option Text) → 0 < length (whole ++ fraction_digits fraction) → 0 < length (whole ++ fraction_text fraction)
 tail_is_some whole None some = some
@@ -59,7 +59,7 @@ trimmed s good =
     let whole_body : 0 < length body = omega (arith, length-append (sign_text s.sign) tail) in
     let tail_clean : list_all (λ c. not (is_blank c)) tail ≡ true = tail_is_not_blank s.whole s.fraction good.digits in
     let clean : list_all (λ c. not (is_blank c)) body ≡ true = list_all-append (λ c. not (is_blank c)) (sign_text s.sign) tail
-        ∙ and_from (list_all (λ c. not (is_blank c)) (sign_text s.sign)) (list_all (λ c. not (is_blank c)) tail) (sign_is_not_blank s.sign) tail_clean in
+    ∙ and_from (list_all (λ c. not (is_blank c)) (sign_text s.sign)) (list_all (λ c. not (is_blank c)) tail) (sign_is_not_blank s.sign) tail_clean in
     ap without_blanks grouped
     ∙ ap (without_end is_blank) (front_skip is_blank s.before (body ++ s.after) good.before_is_blank ∙ front_keep is_blank body s.after clean whole_body)
     ∙ end_skip is_blank body s.after good.after_is_blank
@@ -114,8 +114,8 @@ number_of_spelling s good =
     let unsigned = no_sign s.whole s.fraction good.digits good.some_digit in
     let few = size_of_few (without_front is_zero s.whole) (without_end is_zero digits) in
     let size : size_of tail ≡ few = ap (λ w. size_of_parts w (after_first is_point tail)) (before_point s.whole s.fraction whole_digits)
-        ∙ ap (λ f. size_of_parts s.whole f) (after_point s.whole s.fraction whole_digits)
-        ∙ ap (λ b. cond b few (Err NotANumber)) (is_some_digit (s.whole ++ digits) good.digits good.some_digit) in
+    ∙ ap (λ f. size_of_parts s.whole f) (after_point s.whole s.fraction whole_digits)
+    ∙ ap (λ b. cond b few (Err NotANumber)) (is_some_digit (s.whole ++ digits) good.digits good.some_digit) in
     ap number_of_body (trimmed s good)
     ∙ ap (λ b. with_sign b (size_of (without_sign (sign_text s.sign ++ tail)))) (negative_by_sign s.sign tail unsigned.0)
     ∙ ap (λ l. with_sign (is_minus_sign s.sign) (size_of l)) (rest_by_sign s.sign tail unsigned.1)
@@ -170,12 +170,12 @@ scaled_is whole fraction few =
     let parts = end_parts is_zero fraction in
     let zeros = parts.0 in
     let sum : place_sum (whole ++ fraction) ≡ place_sum (cut ++ kept) * 10 ^ length zeros = sym (leading_zeros whole fraction)
-        ∙ ap (λ l. place_sum (cut ++ l)) parts.1 ∙ ap place_sum (sym (append_assoc cut kept zeros)) ∙ trailing_zeros (cut ++ kept) zeros parts.2 in
+    ∙ ap (λ l. place_sum (cut ++ l)) parts.1 ∙ ap place_sum (sym (append_assoc cut kept zeros)) ∙ trailing_zeros (cut ++ kept) zeros parts.2 in
     let places : 10 ^ length fraction ≡ 10 ^ length kept * 10 ^ length zeros = ap (λ l. 10 ^ length l) parts.1
-        ∙ ap (λ n. 10 ^ n) (length-append kept zeros) ∙ pow-add 10 (length kept) (length zeros) in
+    ∙ ap (λ n. 10 ^ n) (length-append kept zeros) ∙ pow-add 10 (length kept) (length zeros) in
     let filled : most_fraction_digits - length kept + length kept ≡ most_fraction_digits = omega arith in
     let whole_power : 10 ^ (most_fraction_digits - length kept) * 10 ^ length kept ≡ 10 ^ most_fraction_digits = sym (pow-add 10 (most_fraction_digits - length kept) (length kept))
-        ∙ ap (λ n. 10 ^ n) filled in
+    ∙ ap (λ n. 10 ^ n) filled in
     ap (λ n. scaled cut kept * n) places
     ∙ reordered (place_sum (cut ++ kept)) (10 ^ (most_fraction_digits - length kept)) (10 ^ length kept) (10 ^ length zeros) (10 ^ most_fraction_digits) whole_power
     ∙ ap (λ n. n * 10 ^ most_fraction_digits) (sym sum)
@@ -290,7 +290,7 @@ only_spellings_are_numbers text number =
     let digits : are_digits (whole ++ fraction_digits (fraction_of tail)) ≡ true = ap (λ l. are_digits (whole ++ l)) (fraction_is tail) ∙ has_digits text number in
     let tests = and_parts (nat_lt 0 (length (whole ++ fraction_digits (fraction_of tail)))) (list_all is_ascii_digit (whole ++ fraction_digits (fraction_of tail))) digits in
     let grouped : front ++ (sign_text (sign_of body) ++ (whole ++ (fraction_text (fraction_of tail) ++ end.0))) ≡ front ++ ((sign_text (sign_of body) ++ (whole ++ fraction_text (fraction_of tail))) ++ end.0) =
-        simp append_assoc in (
+    simp append_assoc in (
       record { before = front; sign = sign_of body; whole = whole; fraction = fraction_of tail; after = end.0 },
       record { before_is_blank = dropped is_blank text; after_is_blank = end.2; digits = tests.1; some_digit = some_length (whole ++ fraction_digits (fraction_of tail)) tests.0 },
       grouped

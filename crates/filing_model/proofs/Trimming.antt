@@ -80,7 +80,7 @@ module _ (p : ℕ → Bool) where
       let back = reverse xs in
       let end = reverse (take (prefix_len p back) back) in
       let parts : xs ≡ reverse (without_front p back) ++ end = sym (reverse-reverse xs) ∙ ap reverse (sym (take-append-drop (prefix_len p back) back))
-          ∙ reverse-append (take (prefix_len p back) back) (without_front p back) in
+      ∙ reverse-append (take (prefix_len p back) back) (without_front p back) in
       (end, parts ∙ ap (λ l. l ++ end) (sym (end_reverse xs)), all_reverse (take (prefix_len p back) back) ∙ dropped back)
 
   -- ---- the first that passes

@@ -1,5 +1,5 @@
 -- Values that are read back from their compact text.
-use Rattle.std.proofs.Common.{◌≡◌, ℕ, suc, ◌≤◌, ◌<◌, ◌^◌, max, Bool, false, true≢false, pos, negsuc, T, List, [], ◌++◌, Option, Some, None, option_map, option_and_then, Less, Greater, refl, sym, ap, ◌∙◌, arith, append-nil, subst, inl, inr, eq-or-lt_of_le}
+use Rattle.std.proofs.Common.{◌≡◌, ℕ, suc, ◌≤◌, ◌<◌, ◌^◌, max, false, true≢false, pos, negsuc, T, List, [], ◌++◌, Option, Some, None, option_map, option_and_then, Less, Greater, refl, sym, ap, ◌∙◌, arith, append-nil, subst, inl, inr, eq-or-lt_of_le}
 use Rattle.std.proofs.lemmas.Cmp.{nat_list_cmp_total}
 use Rattle.std.proofs.lemmas.Bool.{or_parts}
 use Rattle.std.specs.Prelude.{⊤}

@@ -1,16 +1,15 @@
 -- Declared values: read, changed, and what a commit is refused for where one was.
-use Rattle.std.proofs.Common.{◌≡◌, refl, List, [], ◌∷◌, ◌++◌, Option, Some, None, option_map}
+use Rattle.std.proofs.Common.{◌≡◌, refl, List, [], ◌∷◌, Some, option_map}
 use Rattle.std.specs.Prelude.{codes}
-use Rattle.filing_model.specs.Text.{Text}
 use Rattle.filing_model.specs.Reports.{Report}
 use Rattle.filing_model.specs.Repository.{report_at}
-use Rattle.filing_model.specs.Replies.{NoReport, Absent, ReadOnly, Staged, Declared, Loaded, Opened, Committed, Disallowed, Conflict}
+use Rattle.filing_model.specs.Replies.{NoReport, ReadOnly, Staged, Declared, Loaded, Opened, Committed, Disallowed, Conflict}
 use Rattle.filing_model.specs.Things as thing
 use Rattle.filing_model.specs.History.{repository}
 use Rattle.filing_model.specs.Lawful.{IsLawful}
 use Rattle.filing_model.proofs.NextReply.{not_lawful}
 use Rattle.filing_model.proofs.OnLiterals.{filing_on_literals}
-use Rattle.filing_model.proofs.Examples.Setting.{holding, raw, fact, Line, load, amend, review, gets, adds, removes, asks_value, declares, commits, played, told, with_last_reply}
+use Rattle.filing_model.proofs.Examples.Setting.{holding, raw, fact, Line, load, amend, review, adds, removes, asks_value, declares, commits, played, told, with_last_reply}
 use Rattle.filing_model.proofs.Examples.Histories.{r1, blank, loads}
 use Rattle.filing_model.specs.declared.duplicates.Allowed.TheVariants as allowed
 use Rattle.filing_model.specs.declared.duplicates.Class.TheVariants.{Complete}
@@ -102,7 +101,7 @@ pub declared_report_is_looked_at_whole : ¬ IsLawful (with_last_reply (Committed
 declared_report_is_looked_at_whole = not_lawful (with_last_reply (Committed 2) (played declared_report_lines))
     (λ same.
     let told_otherwise : Some (Disallowed r1 Complete (codes "a" ∷ codes "b" ∷ []))
-        ≡ Some (Committed 2) = same in
+    ≡ Some (Committed 2) = same in
     cc)
 
 -- without one of them it obeys, and its info tells the value
@@ -142,7 +141,7 @@ pub judged_by_no_older_value : ¬ IsLawful (with_last_reply (Committed 3) (playe
 judged_by_no_older_value = not_lawful (with_last_reply (Committed 3) (played judged_by_the_declared_value_lines))
     (λ same.
     let told_otherwise : Some (Disallowed r1 Complete (codes "a" ∷ codes "b" ∷ []))
-        ≡ Some (Committed 3) = same in
+    ≡ Some (Committed 3) = same in
     cc)
 
 -- a review is told the value and may declare none; of a report that is not there nobody is told one

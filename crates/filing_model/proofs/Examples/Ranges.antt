@@ -43,7 +43,7 @@ pub behind_the_cut_is_no_conflict : ¬ IsLawful (with_last_reply (Conflict 2 (th
 behind_the_cut_is_no_conflict = not_lawful (with_last_reply (Conflict 2 (thing.Range r1 (sought Without None) (Some (codes "c")))) (played behind_the_cut_lines))
     (λ same.
     let told_otherwise : Some (Committed 3)
-        ≡ Some (Conflict 2 (thing.Range r1 (sought Without None) (Some (codes "c")))) = same in
+    ≡ Some (Conflict 2 (thing.Range r1 (sought Without None) (Some (codes "c")))) = same in
     cc)
 
 -- that identifier itself was read
@@ -60,7 +60,7 @@ pub at_the_cut_is_a_conflict : ¬ IsLawful (with_last_reply (Committed 3) (playe
 at_the_cut_is_a_conflict = not_lawful (with_last_reply (Committed 3) (played at_the_cut_lines))
     (λ same.
     let told_otherwise : Some (Conflict 2 (thing.Range r1 (sought Without None) (Some (codes "c"))))
-        ≡ Some (Committed 3) = same in
+    ≡ Some (Committed 3) = same in
     cc)
 
 -- what stands before the identifier after which a page goes on was not read, nor that one itself
@@ -78,7 +78,7 @@ pub before_the_page_is_no_conflict : ¬ IsLawful (with_last_reply (Conflict 2 (t
 before_the_page_is_no_conflict = not_lawful (with_last_reply (Conflict 2 (thing.Range r1 (sought Without (Some (codes "b"))) None)) (played before_the_page_lines))
     (λ same.
     let told_otherwise : Some (Committed 3)
-        ≡ Some (Conflict 2 (thing.Range r1 (sought Without (Some (codes "b"))) None)) = same in
+    ≡ Some (Conflict 2 (thing.Range r1 (sought Without (Some (codes "b"))) None)) = same in
     cc)
 
 -- what comes behind it was
@@ -96,7 +96,7 @@ pub after_the_page_is_a_conflict : ¬ IsLawful (with_last_reply (Committed 3) (p
 after_the_page_is_a_conflict = not_lawful (with_last_reply (Committed 3) (played after_the_page_lines))
     (λ same.
     let told_otherwise : Some (Conflict 2 (thing.Range r1 (sought Without (Some (codes "b"))) None))
-        ≡ Some (Committed 3) = same in
+    ≡ Some (Committed 3) = same in
     cc)
 
 -- ---- ends in the session's own copy
@@ -116,7 +116,7 @@ pub own_cut_is_the_end : ¬ IsLawful (with_last_reply (Conflict 2 (thing.Range r
 own_cut_is_the_end = not_lawful (with_last_reply (Conflict 2 (thing.Range r1 (sought Without None) (Some (codes "c")))) (played own_cut_lines))
     (λ same.
     let told_otherwise : Some (Committed 3)
-        ≡ Some (Conflict 2 (thing.Range r1 (sought Without None) (Some (codes "c")))) = same in
+    ≡ Some (Conflict 2 (thing.Range r1 (sought Without None) (Some (codes "c")))) = same in
     cc)
 
 -- an identifier that the session removed itself does not count, so one more was read
@@ -134,7 +134,7 @@ pub own_removal_moves_the_end : ¬ IsLawful (with_last_reply (Committed 3) (play
 own_removal_moves_the_end = not_lawful (with_last_reply (Committed 3) (played own_removal_lines))
     (λ same.
     let told_otherwise : Some (Conflict 2 (thing.Range r1 (sought Without None) (Some (codes "d"))))
-        ≡ Some (Committed 3) = same in
+    ≡ Some (Committed 3) = same in
     cc)
 
 -- ---- periods
@@ -157,7 +157,7 @@ pub one_period_is_not_any : ¬ IsLawful (with_last_reply (Page (codes "a" ∷ co
 one_period_is_not_any = not_lawful (with_last_reply (Page (codes "a" ∷ codes "b" ∷ []) false) (played periods_lines))
     (λ same.
     let told_otherwise : Some (Page (codes "b" ∷ []) false)
-        ≡ Some (Page (codes "a" ∷ codes "b" ∷ []) false) = same in
+    ≡ Some (Page (codes "a" ∷ codes "b" ∷ []) false) = same in
     cc)
 
 -- where any is asked for, a fact without a period was read
@@ -174,7 +174,7 @@ pub any_period_is_touched : ¬ IsLawful (with_last_reply (Committed 3) (played a
 any_period_is_touched = not_lawful (with_last_reply (Committed 3) (played any_period_lines))
     (λ same.
     let told_otherwise : Some (Conflict 2 (thing.Range r1 (sought Any None) None))
-        ≡ Some (Committed 3) = same in
+    ≡ Some (Committed 3) = same in
     cc)
 
 -- where none is asked for, a fact with a period was not
@@ -191,5 +191,5 @@ pub other_period_is_not_touched : ¬ IsLawful (with_last_reply (Conflict 2 (thin
 other_period_is_not_touched = not_lawful (with_last_reply (Conflict 2 (thing.Range r1 (sought Without None) None)) (played other_period_lines))
     (λ same.
     let told_otherwise : Some (Committed 3)
-        ≡ Some (Conflict 2 (thing.Range r1 (sought Without None) None)) = same in
+    ≡ Some (Conflict 2 (thing.Range r1 (sought Without None) None)) = same in
     cc)
