@@ -50,4 +50,5 @@ pub mod NumberInstances
 pub mod MarkInstances
 pub mod WholeRunInstances
 pub mod NetChangeInstances
+pub mod DeclaringInstances
 pub mod ReadingOrderInstances

@@ -7,6 +7,7 @@ use Rattle.filing_model.specs.Replies.{NoReport, ReadOnly, Staged, Declared, Loa
 use Rattle.filing_model.specs.Things as thing
 use Rattle.filing_model.specs.History.{repository}
 use Rattle.filing_model.specs.Lawful.{IsLawful}
+use Rattle.filing_model.specs.Writing.{report_text}
 use Rattle.filing_model.proofs.NextReply.{not_lawful}
 use Rattle.filing_model.proofs.OnLiterals.{filing_on_literals}
 use Rattle.filing_model.proofs.Examples.Setting.{holding, raw, fact, Line, load, amend, review, adds, removes, asks_value, declares, commits, played, told, with_last_reply}
@@ -15,7 +16,7 @@ use Rattle.filing_model.specs.declared.duplicates.Allowed.TheVariants as allowed
 use Rattle.filing_model.specs.declared.duplicates.Class.TheVariants.{Complete}
 
 -- a value that was read is declared anew
-abbrev declared_value_lines : List Line
+abbrev pub declared_value_lines : List Line
 declared_value_lines =
     loads blank ∷ amend ∷ amend ∷ asks_value 1 r1 ∷ declares 2 r1 allowed.Complete ∷ commits 2 ∷ commits 1 ∷ []
 
@@ -70,7 +71,7 @@ declaring_does_not_read = not_lawful (with_last_reply (Conflict 2 (thing.Policy 
     (λ same. let told_otherwise : Some (Committed 3) ≡ Some (Conflict 2 (thing.Policy r1)) = same in cc)
 
 -- the last value counts
-abbrev last_value_lines : List Line
+abbrev pub last_value_lines : List Line
 last_value_lines =
     loads blank ∷ amend ∷ declares 1 r1 allowed.Never ∷ declares 1 r1 allowed.Complete ∷ commits 1 ∷ review ∷
     asks_value 2 r1 ∷ []
@@ -122,6 +123,12 @@ pub mended_info : option_map (λ (r : Report). r.info) (report_at (repository (p
     ≡ Some (codes "{\"documentType\":\"https://xbrl.org/2021/xbrl-json\",\"features\":{\"xbrl:allowedDuplicates\":\"none\"}}")
 unfolding filing_on_literals
 mended_info = refl
+
+-- which it is exported with
+pub mended_text : option_map report_text (report_at (repository (played mended_report_lines)) r1)
+    ≡ Some (codes "{\"documentInfo\":{\"documentType\":\"https://xbrl.org/2021/xbrl-json\",\"features\":{\"xbrl:allowedDuplicates\":\"none\"}},\"facts\":{\"a\":{\"dimensions\":{\"concept\":\"ex:Name\"},\"value\":\"x\"}}}")
+unfolding filing_on_literals
+mended_text = refl
 
 abbrev pub lone : Report
 lone = holding allowed.All ((codes "a", fact (codes "x")) ∷ [])

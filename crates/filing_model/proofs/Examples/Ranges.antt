@@ -31,7 +31,7 @@ abbrev pub four : Report
 four = holding All ((codes "a", fact (codes "x")) ∷ (codes "b", fact (codes "x")) ∷ (codes "c", fact (codes "x")) ∷ (codes "d", fact (codes "x")) ∷ [])
 
 -- what is removed behind the first identifier that the limit cut was not read
-abbrev behind_the_cut_lines : List Line
+abbrev pub behind_the_cut_lines : List Line
 behind_the_cut_lines =
     loads four ∷ amend ∷ amend ∷ pages 1 r1 None two ∷ removes 2 r1 (codes "d") ∷ commits 2 ∷ commits 1 ∷ []
 
