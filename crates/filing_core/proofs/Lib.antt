@@ -4,7 +4,6 @@ pub mod LaidByLoops
 pub mod StagedFacts
 pub mod NextVersions
 -- ---- the least disallowed cell, and what is refused
-pub mod LeastDims
 pub mod SortedCells
 pub mod FoundCell
 pub mod RefusedReports

@@ -22,7 +22,7 @@ use Rattle.filing_model.proofs.DimensionSets.{dims_cmp-total, dims_decides, dims
 use Rattle.filing_model.proofs.EveryPair.{pairs_filter, every_pair_decides}
 use Rattle.oim_fact.specs.SharedFacts.{FactRef, facts_behind}
 use Rattle.filing_core.specs.Cells.{is_from, dims_rise}
-use Rattle.filing_core.proofs.LeastDims.{neither_less, not_less_itself, has_lesser, least_stays, least_kept-IsPermutation}
+use Rattle.filing_model.proofs.LeastDims.{neither_less, not_less_itself, has_lesser, least_stays, least_kept-IsPermutation}
 
 -- ---- the facts in front
 

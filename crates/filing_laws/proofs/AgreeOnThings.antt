@@ -11,7 +11,7 @@ use Rattle.filing_model.specs.declared.duplicates.Allowed.{Allowed}
 use Rattle.filing_model.proofs.Texts.{text_eq-refl}
 use Rattle.filing_laws.proofs.WithOneFact.{names_at, names_at-with_fact_at, fact_at-with_fact_at}
 use Rattle.filing_laws.proofs.WithOneValue.{value_at, value_at-with_fact_at, value_at-declaring_at, names_at-declaring_at, fact_at-declaring_at}
-use Rattle.filing_laws.proofs.FilteredFacts.{only}
+use Rattle.filing_model.proofs.FilteredEntries.{only}
 
 -- whether a thing shows a fact under an identifier of its report
 abbrev pub sees : Thing → Text → Fact → Bool

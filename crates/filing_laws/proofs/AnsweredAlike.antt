@@ -23,7 +23,8 @@ use Rattle.filing_model.specs.declared.kind.Kind.{Kind}
 use Rattle.filing_model.specs.declared.faults.FactFault.{FactFault}
 use Rattle.filing_laws.proofs.EachElement.{OnEach}
 use Rattle.filing_laws.proofs.WithOneFact.{names_at}
-use Rattle.filing_laws.proofs.FilteredFacts.{only, those_same}
+use Rattle.filing_model.proofs.FilteredEntries.{only}
+use Rattle.filing_laws.proofs.FilteredFacts.{those_same}
 use Rattle.filing_laws.proofs.AgreeOnThings.{Agree, agree_fact, agree_kept, agree_declared}
 use Rattle.filing_laws.proofs.PagesAlike.{SameFront, same_front, sought_rise, sought_upto}
 

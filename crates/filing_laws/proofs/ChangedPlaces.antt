@@ -18,7 +18,7 @@ use Rattle.filing_model.proofs.Texts.{text_same}
 use Rattle.filing_model.proofs.TextMaps.{get-insert}
 use Rattle.filing_laws.proofs.EachElement.{Each, IsNever, never_parts}
 use Rattle.filing_laws.proofs.WithOneValue.{value_for, last_value}
-use Rattle.filing_laws.proofs.FilteredFacts.{only}
+use Rattle.filing_model.proofs.FilteredEntries.{only}
 use Rattle.filing_laws.proofs.AgreeOnThings.{shown}
 use Rattle.filing_laws.proofs.RunsAlike.{is_place}
 

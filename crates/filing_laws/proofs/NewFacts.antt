@@ -28,7 +28,8 @@ use Rattle.filing_model.proofs.EveryPair.{pairs_filter}
 use Rattle.filing_model.proofs.Texts.{text_cmp-Equal, text_same}
 use Rattle.filing_model.proofs.DimensionSets.{dims_same, dims_cmp-Equal, dims_cmp-total}
 use Rattle.filing_model.proofs.DisallowedCells.{obeys_where_no_cell_is_disallowed}
-use Rattle.filing_laws.proofs.FilteredFacts.{only, those_same}
+use Rattle.filing_model.proofs.FilteredEntries.{only}
+use Rattle.filing_laws.proofs.FilteredFacts.{those_same}
 use Rattle.filing_laws.proofs.AllowedCells.{has_these, passes_each, kept_where_passed, nothing_least, disallowed_is_there, entries_allowed, each_has, least_of, obeys_where_each_cell_is_allowed}
 use Rattle.filing_laws.proofs.VersionChain.{repository_obeys_always}
 use Rattle.filing_laws.proofs.LaidOver.{bare-with_facts, fact_in-with_facts, report_at-laid_over}

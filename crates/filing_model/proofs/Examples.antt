@@ -13,5 +13,6 @@ pub mod DeclaredValue
 pub mod Setting
 pub mod Histories
 pub mod Ranges
+pub mod Stamps
 pub mod DeclaringSessions
 pub mod Solo

@@ -3,6 +3,7 @@ pub mod Tests
 pub mod Texts
 pub mod TextMaps
 pub mod MapsOfLists
+pub mod FilteredEntries
 pub mod KeyedMaps
 -- ---- numbers and intervals
 pub mod Trimming
@@ -18,6 +19,7 @@ pub mod EveryPair
 pub mod ByPairs
 pub mod AllowedClasses
 pub mod DisallowedCells
+pub mod LeastDims
 pub mod MixedFacts
 -- ---- things and limits
 pub mod Things

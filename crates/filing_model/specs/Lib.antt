@@ -21,6 +21,7 @@ pub mod Changes
 pub mod Sessions
 pub mod History
 pub mod Touches
+pub mod Stamps
 pub mod Lawful
 pub mod Versions
 pub mod JsonText

@@ -100,7 +100,7 @@ any_least d (e ∷ ds) =
     ] refl
 
 -- lists that no test tells apart have one least element
-same_least : (ds es : List Dims) → ((test : Dims → Bool) → list_any test ds ≡ list_any test es) → least_dims ds ≡ least_dims es
+pub same_least : (ds es : List Dims) → ((test : Dims → Bool) → list_any test ds ≡ list_any test es) → least_dims ds ≡ least_dims es
 same_least [] [] same = refl
 same_least [] (e ∷ es) same = absurd (true≢false (sym (same (λ _. true))))
 same_least (d ∷ ds) es same =
@@ -108,7 +108,7 @@ same_least (d ∷ ds) es same =
     least_is m (d ∷ ds) least ∙ sym (least_is m es
     (record { there = sym (same (dims_eq m)) ∙ least.there; least = sym (same (λ e. is_lt (dims_cmp e m))) ∙ least.least }))
 
-any_kept : (test kept : Dims → Bool) (ds : List Dims) → list_any test (filter kept ds) ≡ list_any (λ d. kept d && test d) ds
+pub any_kept : (test kept : Dims → Bool) (ds : List Dims) → list_any test (filter kept ds) ≡ list_any (λ d. kept d && test d) ds
 any_kept test kept [] = refl
 any_kept test kept (d ∷ ds) = elim (kept d) as
     (λ b. list_any test (cond b (d ∷ filter kept ds) (filter kept ds)) ≡ ((b && test d) || list_any (λ d. kept d && test d) ds)) [
