@@ -1,5 +1,5 @@
 -- The place where a test stops to hold.
-use Rattle.std.proofs.Common.{◌≡◌, ◌∙◌, ap, sym, subst, refl, ℕ, ◌+◌, ◌<◌, arith, Bool, true, false, cond, ◌&&◌, ◌||◌, ◌-◌, T, suc, List, [], ◌∷◌, ◌++◌, take, drop, length, get_or}
+use Rattle.std.proofs.Common.{◌≡◌, ◌∙◌, ap, sym, subst, refl, ℕ, ◌+◌, ◌<◌, arith, Bool, true, false, not, cond, ◌&&◌, ◌||◌, ◌-◌, T, suc, List, [], ◌∷◌, ◌++◌, take, drop, length, get_or}
 use Rattle.std.proofs.lemmas.List.{take_more, drop_more, drop_all}
 use Rattle.sorted_pages.specs.Edges.{answer_of, ends_with, begins_with, first_passes, last_passes, is_before_edge}
 
@@ -71,10 +71,14 @@ edge_split p q front back items before from n e m b f g h =
     ∙ ap (λ xs. is_before_edge p q (take (length front - 1) xs) (drop (length front - 1) xs)) e))
     (edge_before p q front back g h)
 
--- a block whose last item passes
+-- what holds entries, of which the last passes
 pub answered_at_last : {X : Type 0} (b : Bool) (p q : X → Bool) (xs rest : List X) (x : X) → xs ≡ rest ++ x ∷ []
     → T (answer_of b (p x) (q x)) → T (answer_of b (last_passes p xs) (last_passes q xs))
 answered_at_last b p q xs rest x e h =
     subst (λ ys. T (cond b (last_passes p ys) (last_passes q ys))) (sym e)
     (subst (λ (r : Bool). T (cond b r (last_passes q (rest ++ x ∷ [])))) (sym (last_passes-push p rest x))
     (subst (λ (r : Bool). T (cond b (p x) r)) (sym (last_passes-push q rest x)) h))
+
+pub answers : (b c : Bool) → b ≡ c → T (answer_of b c (not c))
+answers b true e = subst (λ d. T (answer_of d true false)) (sym e) tt
+answers b false e = subst (λ d. T (answer_of d false true)) (sym e) tt

@@ -1,50 +1,53 @@
--- Pages one after another.
-use Rattle.std.proofs.Common.{◌≡◌, ◌∙◌, ap, sym, refl, List, [], ◌∷◌, ◌++◌, append_assoc, append-nil, T, Bool}
+-- The items of a level one after another.
+use Rattle.std.proofs.Common.{◌≡◌, ◌∙◌, ap, sym, refl, List, [], ◌∷◌, ◌++◌, append_assoc, append-nil, length, take, get_or, arith, ◌<◌, ℕ, ◌+◌}
+use Rattle.std.proofs.lemmas.List.{take_more}
 use Rattle.std.specs.Arc.{arc_value}
 use Rattle.std.specs.declared.sync.Arc.{Arc}
 use Rattle.std.specs.List.{flat_map}
-use Rattle.sorted_pages.specs.Pages.{flat, all_of}
-use Rattle.sorted_pages.specs.Edges.{first_passes}
+use Rattle.sorted_pages.specs.Pages.{single, held, IsFirstBlock}
 
-pub flat-append : {X Z : Type 0} (xs ys : List (Arc (List X) Z)) → flat (xs ++ ys) ≡ flat xs ++ flat ys
-flat-append [] ys = refl
-flat-append (x ∷ xs) ys = ap (λ zs. arc_value x ++ zs) (flat-append xs ys) ∙ sym (append_assoc (arc_value x) (flat xs) (flat ys))
+pub flat_map-append : {B X : Type 0} (v : B → List X) (xs ys : List B) → flat_map v (xs ++ ys) ≡ flat_map v xs ++ flat_map v ys
+flat_map-append v [] ys = refl
+flat_map-append v (x ∷ xs) ys = ap (λ zs. v x ++ zs) (flat_map-append v xs ys) ∙ sym (append_assoc (v x) (flat_map v xs) (flat_map v ys))
 
-pub flat-push : {X Z : Type 0} (xs : List (Arc (List X) Z)) (x : Arc (List X) Z) → flat (xs ++ x ∷ []) ≡ flat xs ++ arc_value x
-flat-push xs x = flat-append xs (x ∷ []) ∙ ap (λ ys. flat xs ++ ys) (append-nil (arc_value x))
+pub flat_map-push : {B X : Type 0} (v : B → List X) (xs : List B) (x : B) → flat_map v (xs ++ x ∷ []) ≡ flat_map v xs ++ v x
+flat_map-push v xs x = flat_map-append v xs (x ∷ []) ∙ ap (λ ys. flat_map v xs ++ ys) (append-nil (v x))
 
-pub all_of-append : {X Y Z : Type 0} (xs ys : List (Arc (List (Arc (List X) Z)) Y)) → all_of (xs ++ ys) ≡ all_of xs ++ all_of ys
-all_of-append xs ys = ap flat (flat-append xs ys) ∙ flat-append (flat xs) (flat ys)
+pub singles : {E : Type 0} (es : List E) → flat_map single es ≡ es
+singles [] = refl
+singles (e ∷ es) = ap (λ xs. e ∷ xs) (singles es)
 
--- the same, run by run
-pub all_of_runs : {X Y Z : Type 0} (runs : List (Arc (List (Arc (List X) Z)) Y)) → all_of runs ≡ flat_map (λ run. flat (arc_value run)) runs
-all_of_runs [] = refl
-all_of_runs (run ∷ runs) = flat-append (arc_value run) (flat runs) ∙ ap (λ es. flat (arc_value run) ++ es) (all_of_runs runs)
+-- the first block, and the others
+pub first_block : {X E Z : Type 0} (v : X → List E) (blocks rest : List (Arc (List X) Z)) (items : List X) → IsFirstBlock blocks items rest
+    → flat_map (held v) blocks ≡ flat_map v items ++ flat_map (held v) rest
+first_block v [] rest items f = sym (λ i. flat_map v (f.0 i) ++ flat_map (held v) (f.1 i))
+first_block v (block ∷ blocks) rest items f = sym (λ i. flat_map v (f.0 i) ++ flat_map (held v) (f.1 i))
 
-first_in : {X Z : Type 0} (p : X → Bool) (xs : List X) (pages : List (Arc (List X) Z)) → T (first_passes p xs) → T (first_passes p (xs ++ flat pages))
-first_in p [] pages h = absurd h
-first_in p (x ∷ xs) pages h = h
+-- blocks in three parts
+pub parted : {X E Z : Type 0} (v : X → List E) (left before from rest : List (Arc (List X) Z)) (items : List X) → left ≡ before ++ from
+    → IsFirstBlock from items rest → flat_map (held v) left ≡ flat_map (held v) before ++ (flat_map v items ++ flat_map (held v) rest)
+parted v left before from rest items e f =
+    ap (flat_map (held v)) e ∙ flat_map-append (held v) before from ∙ ap (λ es. flat_map (held v) before ++ es) (first_block v from rest items f)
 
-pub first_of_pages : {X Z : Type 0} (p : X → Bool) (pages : List (Arc (List X) Z))
-    → T (first_passes (λ page. first_passes p (arc_value page)) pages) → T (first_passes p (flat pages))
-first_of_pages p [] h = h
-first_of_pages p (page ∷ pages) h = first_in p (arc_value page) pages h
+-- one more item is shared
+pub shared_more : {X E : Type 0} (v : X → List E) (items : List X) (i : ℕ) (x y : X) (start done new : List E)
+    → done ≡ start ++ flat_map v (take i items) → i < length items → x ≡ get_or items i x → y ≡ x → new ≡ done ++ v y
+    → new ≡ start ++ flat_map v (take (i + 1) items)
+shared_more v items i x y start done new d h read e n =
+    n ∙ (λ j. d j ++ v (e j)) ∙ append_assoc start (flat_map v (take i items)) (v x)
+    ∙ ap (λ es. start ++ es) (sym (flat_map-push v (take i items) x)
+    ∙ sym (ap (flat_map v) (take_more items i x h ∙ ap (λ z. take i items ++ z ∷ []) (sym read))))
 
--- pages in three parts, and runs
-pub flat_parts : {X Z : Type 0} (left before from rest : List (Arc (List X) Z)) (items : List X) → left ≡ before ++ from
-    → flat from ≡ items ++ flat rest → flat left ≡ flat before ++ (items ++ flat rest)
-flat_parts left before from rest items e f = ap flat e ∙ flat-append before from ∙ ap (λ es. flat before ++ es) f
+pub no_items : {X : Type 0} (xs : List X) → length xs ≡ 0 → xs ≡ []
+no_items [] h = refl
+no_items (x ∷ xs) h = absurd (omega (arith, h))
 
-pub all_of_parts : {X Y Z : Type 0} (left before from rest : List (Arc (List (Arc (List X) Z)) Y)) (pages : List (Arc (List X) Z))
-    → left ≡ before ++ from → flat from ≡ pages ++ flat rest
-    → all_of left ≡ all_of before ++ (flat pages ++ all_of rest)
-all_of_parts left before from rest pages e f =
-    ap flat (flat_parts left before from rest pages e f) ∙ flat-append (flat before) (pages ++ flat rest)
-    ∙ ap (λ es. all_of before ++ es) (flat-append pages (flat rest))
-
--- the first entry of the first page of the first run
-pub all_of_first : {X Y Z : Type 0} (runs others : List (Arc (List (Arc (List X) Z)) Y)) (run : Arc (List (Arc (List X) Z)) Y)
-    (pages : List (Arc (List X) Z)) (page : Arc (List X) Z) (items : List X) (x : X)
-    → runs ≡ run ∷ others → arc_value run ≡ page ∷ pages → arc_value page ≡ x ∷ items → all_of runs ≡ x ∷ (items ++ flat (pages ++ flat others))
-all_of_first runs others run pages page items x e f g =
-    ap all_of e ∙ ap (λ ps. flat (ps ++ flat others)) f ∙ ap (λ es. es ++ flat (pages ++ flat others)) g
+-- the first items, or those of the first block where there are none
+pub refilled : {X E Z : Type 0} (v : X → List E) (first : List X) (blocks : List (Arc (List X) Z)) (items : List X) (rest : List (Arc (List X) Z)) (more : List E)
+    → (length first ≡ 0 → IsFirstBlock blocks items rest) → (0 < length first → (items ≡ first) × (rest ≡ blocks))
+    → flat_map v items ++ (flat_map (held v) rest ++ more) ≡ flat_map v first ++ (flat_map (held v) blocks ++ more)
+refilled v [] blocks items rest more e f =
+    sym (append_assoc (flat_map v items) (flat_map (held v) rest) more) ∙ ap (λ es. es ++ more) (sym (first_block v blocks rest items (e refl)))
+refilled v (x ∷ xs) blocks items rest more e f =
+    let same : (items ≡ x ∷ xs) × (rest ≡ blocks) = f (omega arith) in
+    λ i. flat_map v (same.0 i) ++ (flat_map (held v) (same.1 i) ++ more)

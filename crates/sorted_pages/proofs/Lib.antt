@@ -8,4 +8,4 @@ pub mod Sizes
 pub mod Stretches
 pub mod Ranging
 pub mod Adjacent
-pub mod Growing
+pub mod Tiers

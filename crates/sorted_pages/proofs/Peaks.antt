@@ -3,7 +3,8 @@ use Rattle.std.proofs.Common.{◌≡◌, ◌∙◌, ap, sym, refl, ℕ, ◌+◌,
 use Rattle.std.proofs.lemmas.List.{drop_more, drop_all}
 use Rattle.std.specs.Arc.{arc_value}
 use Rattle.std.specs.declared.sync.Arc.{Arc}
-use Rattle.sorted_pages.specs.Pages.{flat, all_of, listed, greatest}
+use Rattle.std.specs.List.{flat_map}
+use Rattle.sorted_pages.specs.Pages.{single, of_page, of_run, of_group, greatest}
 
 -- what is left after one more item, and at the end
 pub greatest_more : {X : Type 0} (f : X → ℕ) (xs : List X) (i : ℕ) (x : X) (best : ℕ) → i < length xs → x ≡ get_or xs i x
@@ -24,30 +25,52 @@ pub greatest-append : {X : Type 0} (f : X → ℕ) (xs ys : List X) → greatest
 greatest-append f [] ys = omega arith
 greatest-append f (x ∷ xs) ys = let rest = greatest-append f xs ys in omega (arith, rest)
 
--- the greatest of the pages' own is the greatest of all that they hold
-pub greatest-flat : {X Z : Type 0} (f : X → ℕ) (pages : List (Arc (List X) Z)) → greatest f (flat pages) ≡ greatest (λ page. greatest f (arc_value page)) pages
-greatest-flat f [] = refl
-greatest-flat f (page ∷ pages) = greatest-append f (arc_value page) (flat pages) ∙ ap (λ n. max (greatest f (arc_value page)) n) (greatest-flat f pages)
+-- the greatest of the items' own is the greatest of all that they hold
+pub greatest-held : {X E : Type 0} (f : X → ℕ) (p : E → ℕ) (v : X → List E) → ((x : X) → f x ≡ greatest p (v x)) → (xs : List X)
+    → greatest f xs ≡ greatest p (flat_map v xs)
+greatest-held f p v e [] = refl
+greatest-held f p v e (x ∷ xs) = (λ i. max (e x i) (greatest-held f p v e xs i)) ∙ sym (greatest-append p (v x) (flat_map v xs))
 
-greatest-all_of : {X Y Z : Type 0} (f : X → ℕ) (runs : List (Arc (List (Arc (List X) Z)) Y))
-    → greatest f (all_of runs) ≡ greatest (λ run. greatest (λ page. greatest f (arc_value page)) (arc_value run)) runs
-greatest-all_of f runs = greatest-flat f (flat runs) ∙ greatest-flat (λ page. greatest f (arc_value page)) runs
+module _ {E : Type 0} (p : E → ℕ) where
+  of_single : (e : E) → p e ≡ greatest p (single e)
+  of_single e = omega arith
 
--- the greatest of the parts' own
-pub greatest-listed : {X Y Z : Type 0} (f : X → ℕ) (entries : List X) (pages : List (Arc (List X) Z))
-    (runs : List (Arc (List (Arc (List X) Z)) Y)) (last_pages : List (Arc (List X) Z)) (last_entries : List X)
-    (a b c d e front most back whole : ℕ)
-    → a ≡ greatest f entries → b ≡ greatest (λ page. greatest f (arc_value page)) pages
-    → c ≡ greatest (λ run. greatest (λ page. greatest f (arc_value page)) (arc_value run)) runs
-    → d ≡ greatest (λ page. greatest f (arc_value page)) last_pages → e ≡ greatest f last_entries
-    → front ≡ max a b → back ≡ max d e → most ≡ max front c → whole ≡ max most back
-    → whole ≡ greatest f (listed entries pages runs last_pages last_entries)
-greatest-listed f entries pages runs last_pages last_entries a b c d e front most back whole ea eb ec ed ee f1 f2 f3 f4 =
-    let s1 = greatest-append f entries (flat pages ++ (all_of runs ++ (flat last_pages ++ last_entries))) in
-    let s2 = greatest-append f (flat pages) (all_of runs ++ (flat last_pages ++ last_entries)) in
-    let s3 = greatest-append f (all_of runs) (flat last_pages ++ last_entries) in
-    let s4 = greatest-append f (flat last_pages) last_entries in
-    let g1 = greatest-flat f pages in
-    let g2 = greatest-all_of f runs in
-    let g3 = greatest-flat f last_pages in
-    omega (arith, s1, s2, s3, s4, g1, g2, g3)
+  pub of_entries : (es : List E) → greatest p es ≡ greatest p (flat_map single es)
+  of_entries es = greatest-held p p single of_single es
+
+  module _ {Z : Type 0} where
+    abbrev best_of_page : Arc (List E) Z → ℕ
+    best_of_page page = greatest p (arc_value page)
+
+    pub of_pages : (pages : List (Arc (List E) Z)) → greatest best_of_page pages ≡ greatest p (flat_map of_page pages)
+    of_pages pages = greatest-held best_of_page p of_page (λ page. of_entries (arc_value page)) pages
+
+    module _ {Y : Type 0} where
+      abbrev best_of_run : Arc (List (Arc (List E) Z)) Y → ℕ
+      best_of_run run = greatest best_of_page (arc_value run)
+
+      pub of_runs : (runs : List (Arc (List (Arc (List E) Z)) Y)) → greatest best_of_run runs ≡ greatest p (flat_map of_run runs)
+      of_runs runs = greatest-held best_of_run p of_run (λ run. of_pages (arc_value run)) runs
+
+      module _ {X : Type 0} where
+        abbrev best_of_group : Arc (List (Arc (List (Arc (List E) Z)) Y)) X → ℕ
+        best_of_group group = greatest best_of_run (arc_value group)
+
+        pub of_groups : (groups : List (Arc (List (Arc (List (Arc (List E) Z)) Y)) X)) → greatest best_of_group groups ≡ greatest p (flat_map of_group groups)
+        of_groups groups = greatest-held best_of_group p of_group (λ group. of_runs (arc_value group)) groups
+
+-- the greatest of parts in a row
+pub greatest_of_four : {E : Type 0} (p : E → ℕ) (es ps rs gs : List E) (a b c d : ℕ) → a ≡ greatest p es → b ≡ greatest p ps → c ≡ greatest p rs
+    → d ≡ greatest p gs → max (max a b) (max c d) ≡ greatest p (es ++ (ps ++ (rs ++ gs)))
+greatest_of_four p es ps rs gs a b c d ea eb ec ed =
+    let s1 = greatest-append p es (ps ++ (rs ++ gs)) in
+    let s2 = greatest-append p ps (rs ++ gs) in
+    let s3 = greatest-append p rs gs in
+    omega (arith, s1, s2, s3)
+
+pub greatest_of_three : {E : Type 0} (p : E → ℕ) (rs ps es : List E) (a b c : ℕ) → a ≡ greatest p rs → b ≡ greatest p ps → c ≡ greatest p es
+    → max a (max b c) ≡ greatest p (rs ++ (ps ++ es))
+greatest_of_three p rs ps es a b c ea eb ec =
+    let s1 = greatest-append p rs (ps ++ es) in
+    let s2 = greatest-append p ps es in
+    omega (arith, s1, s2)

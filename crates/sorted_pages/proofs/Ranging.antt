@@ -1,4 +1,4 @@
--- The ranges over pages and over runs, from those over entries and over pages.
+-- The ranges over blocks, from those over their items, and the parts of a range in a row.
 use Rattle.std.proofs.Common.{◌≡◌, ◌∙◌, ap, sym, subst, refl, Bool, false, cond, not, T, List, [], ◌∷◌, ◌++◌, append_assoc, append-nil, Option, Some, None, Ordering, Less, Equal, Greater, is_lt, is_eq}
 use Rattle.std.specs.List.{flat_map, list_all}
 use Rattle.std.specs.Ordering.{is_gt, ordering_reverse}
@@ -6,21 +6,20 @@ use Rattle.std.specs.Cmp.{IsTotalOrder}
 use Rattle.std.specs.FinMap.Entries.{find}
 use Rattle.std.specs.Arc.{arc_value}
 use Rattle.std.specs.declared.sync.Arc.{Arc}
-use Rattle.sorted_pages.specs.Pages.{flat, all_of, IsFirstBlock}
+use Rattle.sorted_pages.specs.Pages.{single, held, IsFirstBlock}
 use Rattle.sorted_pages.specs.Sorted.{keyed, IsRising}
 use Rattle.sorted_pages.specs.Edges.{ends_with, begins_with, first_passes, last_passes, is_before_edge}
 use Rattle.sorted_pages.specs.Ranges.{IsMonotone, from_span, until_span, first_within}
 use Rattle.sorted_pages.proofs.Edges.{first, second}
-use Rattle.sorted_pages.proofs.Orders.{rising_left, all_fail}
-use Rattle.sorted_pages.proofs.Flats.{flat_parts, all_of_parts, all_of_runs, first_of_pages}
+use Rattle.sorted_pages.proofs.Orders.{rising_left, rising_right, all_fail}
+use Rattle.sorted_pages.proofs.Flats.{flat_map-append, parted}
 use Rattle.sorted_pages.proofs.Steps.{rising_parts}
-use Rattle.sorted_pages.proofs.Stretches.{last_right, entries_from, blocks_from, block_from, blocks_until, block_until, until_past, until_reaching, lasts_past}
+use Rattle.sorted_pages.proofs.Stretches.{ends_of_blocks, begins_of_blocks, entries_from, entries_to, blocks_from, block_from, blocks_until, block_until, until_past, until_reaching, lasts_past}
 
-pub last_of_pages : {X Z : Type 0} (p : X → Bool) (pages : List (Arc (List X) Z))
-    → T (last_passes (λ page. last_passes p (arc_value page)) pages) → T (last_passes p (flat pages))
-last_of_pages p [] h = h
-last_of_pages p (page ∷ []) h = subst (λ xs. T (last_passes p xs)) (sym (append-nil (arc_value page))) h
-last_of_pages p (page ∷ other ∷ pages) h = last_right p (arc_value page) (flat (other ∷ pages)) (last_of_pages p (other ∷ pages) h)
+-- what follows in a row, from parts of it
+pub in_a_row : {X : Type 0} (es ps rs gs a b c : List X) → es ++ ps ≡ a → a ++ rs ≡ b → b ++ gs ≡ c → es ++ (ps ++ (rs ++ gs)) ≡ c
+in_a_row es ps rs gs a b c e f g =
+    sym (append_assoc es ps (rs ++ gs)) ∙ ap (λ xs. xs ++ (rs ++ gs)) e ∙ sym (append_assoc a rs gs) ∙ ap (λ xs. xs ++ gs) f ∙ g
 
 module _ {E : Type 0} (R : E → E → Ordering) (o : IsTotalOrder R) (side : E → Ordering) (m : IsMonotone R side) where
   abbrev before : E → Bool
@@ -35,127 +34,118 @@ module _ {E : Type 0} (R : E → E → Ordering) (o : IsTotalOrder R) (side : E 
   abbrev past : E → Bool
   past e = is_gt (side e)
 
-  -- ---- from the first on
+  -- ---- entries
 
-  first_page_from : {Z : Type 0} (back rest : List (Arc (List E) Z)) (items : List E) → IsFirstBlock back items rest
-      → T (begins_with (λ page. last_passes from (arc_value page)) back) → from_span side (flat back) ≡ from_span side items ++ flat rest
-  first_page_from [] rest items f g = sym (λ i. from_span side (f.0 i) ++ flat (f.1 i))
-  first_page_from (page ∷ pages) rest items f g =
-      block_from R side m arc_value (λ p. last_passes before (arc_value p)) (λ p. last_passes from (arc_value p)) (λ p h. h) (λ p h. h) page pages g
-      ∙ sym (λ i. from_span side (f.0 i) ++ flat (f.1 i))
+  pub leaves_from : (entries front back : List E) → entries ≡ front ++ back → IsRising R (flat_map single entries)
+      → T (ends_with (λ e. last_passes before (single e)) front) → T (begins_with (λ e. last_passes from (single e)) back)
+      → flat_map single back ≡ from_span side (flat_map single entries)
+  leaves_from entries front back e h a b =
+      entries_from R side m (flat_map single entries) (flat_map single front) (flat_map single back)
+      (ap (flat_map single) e ∙ flat_map-append single front back) h
+      (ends_of_blocks before single (λ x. last_passes before (single x)) (λ x k. k) front a)
+      (begins_of_blocks from single (λ x. last_passes from (single x)) (λ x k. k) back b)
 
-  pub pages_from_is : {Z : Type 0} (pages front back rest : List (Arc (List E) Z)) (items gone entries : List E) → pages ≡ front ++ back
-      → flat back ≡ items ++ flat rest → IsFirstBlock back items rest → items ≡ gone ++ entries → IsRising R (flat pages)
-      → T (ends_with (λ page. last_passes before (arc_value page)) front) → T (begins_with (λ page. last_passes from (arc_value page)) back)
-      → T (ends_with before gone) → T (begins_with from entries)
-      → entries ++ flat rest ≡ from_span side (flat pages)
-  pages_from_is pages front back rest items gone entries e p f i h a b c d =
-      let rises : IsRising R items = (rising_parts R o (flat front) items (flat rest) (flat pages) (flat_parts pages front back rest items e p) h).0 in
-      sym (ap (λ ps. from_span side (flat ps)) e
-      ∙ blocks_from R side m arc_value (λ p. last_passes before (arc_value p)) (λ p. last_passes from (arc_value p)) (λ p k. k) (λ p k. k)
-      front back (subst (λ ps. IsRising R (flat ps)) e h) a
-      ∙ first_page_from back rest items f b ∙ ap (λ es. es ++ flat rest) (sym (entries_from R side m items gone entries i rises c d)))
+  pub leaves_until : (entries front back : List E) → entries ≡ front ++ back → IsRising R (flat_map single entries)
+      → T (ends_with (λ e. first_passes until (single e)) front) → T (begins_with (λ e. first_passes past (single e)) back)
+      → flat_map single front ≡ until_span side (flat_map single entries)
+  leaves_until entries front back e h a b =
+      entries_to R side m (flat_map single entries) (flat_map single front) (flat_map single back)
+      (ap (flat_map single) e ∙ flat_map-append single front back) h
+      (ends_of_blocks until single (λ x. first_passes until (single x)) (λ x k. k) front a)
+      (begins_of_blocks past single (λ x. first_passes past (single x)) (λ x k. k) back b)
 
-  abbrev spread : {Y Z : Type 0} → Arc (List (Arc (List E) Z)) Y → List E
-  spread run = flat (arc_value run)
+  -- ---- blocks
 
-  first_run_from : {Y Z : Type 0} (back rest : List (Arc (List (Arc (List E) Z)) Y)) (pages : List (Arc (List E) Z)) → IsFirstBlock back pages rest
-      → T (begins_with (λ run. last_passes (λ page. last_passes from (arc_value page)) (arc_value run)) back)
-      → from_span side (flat_map spread back) ≡ from_span side (flat pages) ++ all_of rest
-  first_run_from [] rest pages f g = sym (λ i. from_span side (flat (f.0 i)) ++ all_of (f.1 i))
-  first_run_from (run ∷ runs) rest pages f g =
-      block_from R side m spread (λ r. last_passes (λ page. last_passes before (arc_value page)) (arc_value r))
-      (λ r. last_passes (λ page. last_passes from (arc_value page)) (arc_value r))
-      (λ r h. last_of_pages before (arc_value r) h) (λ r h. last_of_pages from (arc_value r) h) run runs g
-      ∙ ap (λ es. from_span side (spread run) ++ es) (sym (all_of_runs runs)) ∙ sym (λ i. from_span side (flat (f.0 i)) ++ all_of (f.1 i))
+  module _ {X Z : Type 0} (v : X → List E) where
+    pub first_rises : (blocks front back rest : List (Arc (List X) Z)) (items : List X) → blocks ≡ front ++ back → IsFirstBlock back items rest
+        → IsRising R (flat_map (held v) blocks) → IsRising R (flat_map v items)
+    first_rises blocks front back rest items e f h =
+        (rising_parts R o (flat_map (held v) front) (flat_map v items) (flat_map (held v) rest) (flat_map (held v) blocks)
+        (parted v blocks front back rest items e f) h).0
 
-  pub runs_from_is : {Y Z : Type 0} (runs front back rest : List (Arc (List (Arc (List E) Z)) Y)) (pages kept : List (Arc (List E) Z))
-      (entries : List E) → runs ≡ front ++ back → IsFirstBlock back pages rest → IsRising R (all_of runs)
-      → T (ends_with (λ run. last_passes (λ page. last_passes before (arc_value page)) (arc_value run)) front)
-      → T (begins_with (λ run. last_passes (λ page. last_passes from (arc_value page)) (arc_value run)) back)
-      → entries ++ flat kept ≡ from_span side (flat pages) → entries ++ (flat kept ++ all_of rest) ≡ from_span side (all_of runs)
-  runs_from_is runs front back rest pages kept entries e f h a b k =
-      sym (append_assoc entries (flat kept) (all_of rest)) ∙ ap (λ es. es ++ all_of rest) k
-      ∙ sym (ap (from_span side) (ap all_of e ∙ all_of_runs (front ++ back))
-      ∙ blocks_from R side m spread (λ r. last_passes (λ page. last_passes before (arc_value page)) (arc_value r))
-      (λ r. last_passes (λ page. last_passes from (arc_value page)) (arc_value r))
-      (λ r h. last_of_pages before (arc_value r) h) (λ r h. last_of_pages from (arc_value r) h) front back
-      (subst (IsRising R) (ap all_of e ∙ all_of_runs (front ++ back)) h) a
-      ∙ first_run_from back rest pages f b)
+    first_from : (back rest : List (Arc (List X) Z)) (items : List X) → IsFirstBlock back items rest
+        → T (begins_with (λ b. last_passes from (held v b)) back)
+        → from_span side (flat_map (held v) back) ≡ from_span side (flat_map v items) ++ flat_map (held v) rest
+    first_from [] rest items f g = sym (λ i. from_span side (flat_map v (f.0 i)) ++ flat_map (held v) (f.1 i))
+    first_from (block ∷ blocks) rest items f g =
+        block_from R side m (held v) (λ b. last_passes before (held v b)) (λ b. last_passes from (held v b)) (λ b k. k) (λ b k. k) block blocks g
+        ∙ sym (λ i. from_span side (flat_map v (f.0 i)) ++ flat_map (held v) (f.1 i))
 
-  pub first_page_rises : {Z : Type 0} (pages front back rest : List (Arc (List E) Z)) (items : List E) → pages ≡ front ++ back
-      → flat back ≡ items ++ flat rest → IsRising R (flat pages) → IsRising R items
-  first_page_rises pages front back rest items e p h =
-      (rising_parts R o (flat front) items (flat rest) (flat pages) (flat_parts pages front back rest items e p) h).0
+    pub blocks_from_is : (blocks front back rest : List (Arc (List X) Z)) (items : List X) → blocks ≡ front ++ back → IsFirstBlock back items rest
+        → IsRising R (flat_map (held v) blocks)
+        → T (ends_with (λ b. last_passes before (held v b)) front) → T (begins_with (λ b. last_passes from (held v b)) back)
+        → from_span side (flat_map v items) ++ flat_map (held v) rest ≡ from_span side (flat_map (held v) blocks)
+    blocks_from_is blocks front back rest items e f h a b =
+        sym (ap (λ bs. from_span side (flat_map (held v) bs)) e
+        ∙ blocks_from R side m (held v) (λ b. last_passes before (held v b)) (λ b. last_passes from (held v b)) (λ b k. k) (λ b k. k)
+        front back (subst (λ bs. IsRising R (flat_map (held v) bs)) e h) a
+        ∙ first_from back rest items f b)
 
-  pub first_run_rises : {Y Z : Type 0} (runs front back rest : List (Arc (List (Arc (List E) Z)) Y)) (pages : List (Arc (List E) Z))
-      → runs ≡ front ++ back → flat back ≡ pages ++ flat rest → IsRising R (all_of runs) → IsRising R (flat pages)
-  first_run_rises runs front back rest pages e p h =
-      (rising_parts R o (all_of front) (flat pages) (all_of rest) (all_of runs) (all_of_parts runs front back rest pages e p) h).0
+    first_until : (ahead back rest : List (Arc (List X) Z)) (items : List X) → IsFirstBlock back items rest
+        → T (is_before_edge (λ b. first_passes until (held v b)) (λ b. first_passes past (held v b)) ahead back)
+        → until_span side (flat_map (held v) back) ≡ until_span side (flat_map v items)
+    first_until ahead [] rest items f g = ap (λ xs. until_span side (flat_map v xs)) (sym f.0)
+    first_until ahead (block ∷ blocks) rest items f g =
+        block_until R side m (held v) (λ b. first_passes until (held v b)) (λ b. first_passes past (held v b)) (λ b k. k) (λ b k. k)
+        ahead block blocks g ∙ ap (λ xs. until_span side (flat_map v xs)) (sym f.0)
 
-  -- ---- up to the first past it
+    pub blocks_until_is : (blocks ahead back rest : List (Arc (List X) Z)) (items : List X) → blocks ≡ ahead ++ back → IsFirstBlock back items rest
+        → IsRising R (flat_map (held v) blocks)
+        → T (is_before_edge (λ b. first_passes until (held v b)) (λ b. first_passes past (held v b)) ahead back)
+        → flat_map (held v) ahead ++ until_span side (flat_map v items) ≡ until_span side (flat_map (held v) blocks)
+    blocks_until_is blocks ahead back rest items e f h g =
+        sym (ap (λ bs. until_span side (flat_map (held v) bs)) e
+        ∙ blocks_until R side m (held v) (λ b. first_passes until (held v b)) (λ b. first_passes past (held v b)) (λ b k. k) (λ b k. k)
+        ahead back (subst (λ bs. IsRising R (flat_map (held v) bs)) e h) g
+        ∙ ap (λ es. flat_map (held v) ahead ++ es) (first_until ahead back rest items f g))
 
-  first_page_until : {Z : Type 0} (ahead back rest : List (Arc (List E) Z)) (items : List E) → IsFirstBlock back items rest
-      → T (is_before_edge (λ page. first_passes until (arc_value page)) (λ page. first_passes past (arc_value page)) ahead back)
-      → until_span side (flat back) ≡ until_span side items
-  first_page_until ahead [] rest items f g = ap (until_span side) (sym f.0)
-  first_page_until ahead (page ∷ pages) rest items f g =
-      block_until R side m arc_value (λ p. first_passes until (arc_value p)) (λ p. first_passes past (arc_value p)) (λ p h. h) (λ p h. h)
-      ahead page pages g ∙ ap (until_span side) (sym f.0)
+  -- ---- entries, pages, runs and groups in a row
 
-  pub pages_until_is : {Z : Type 0} (pages ahead back rest : List (Arc (List E) Z)) (items entries : List E) → pages ≡ ahead ++ back
-      → IsFirstBlock back items rest → IsRising R (flat pages)
-      → T (is_before_edge (λ page. first_passes until (arc_value page)) (λ page. first_passes past (arc_value page)) ahead back)
-      → entries ≡ until_span side items → flat ahead ++ entries ≡ until_span side (flat pages)
-  pages_until_is pages ahead back rest items entries e f h g k =
-      sym (ap (λ ps. until_span side (flat ps)) e
-      ∙ blocks_until R side m arc_value (λ p. first_passes until (arc_value p)) (λ p. first_passes past (arc_value p)) (λ p h. h) (λ p h. h)
-      ahead back (subst (λ ps. IsRising R (flat ps)) e h) g
-      ∙ ap (λ es. flat ahead ++ es) (first_page_until ahead back rest items f g ∙ sym k))
+  pub each_rises : (es ps rs gs : List E) → IsRising R (es ++ (ps ++ (rs ++ gs))) → IsRising R es × IsRising R ps × IsRising R rs × IsRising R gs
+  each_rises es ps rs gs h =
+      let pages : IsRising R (ps ++ (rs ++ gs)) = rising_right R es (ps ++ (rs ++ gs)) h in
+      let runs : IsRising R (rs ++ gs) = rising_right R ps (rs ++ gs) pages in
+      (rising_left R es (ps ++ (rs ++ gs)) h, rising_left R ps (rs ++ gs) pages, rising_left R rs gs runs, rising_right R rs gs runs)
 
-  first_run_until : {Y Z : Type 0} (ahead back rest : List (Arc (List (Arc (List E) Z)) Y)) (pages : List (Arc (List E) Z)) → IsFirstBlock back pages rest
-      → T (is_before_edge (λ run. first_passes (λ page. first_passes until (arc_value page)) (arc_value run))
-      (λ run. first_passes (λ page. first_passes past (arc_value page)) (arc_value run)) ahead back)
-      → until_span side (flat_map spread back) ≡ until_span side (flat pages)
-  first_run_until ahead [] rest pages f g = ap (λ ps. until_span side (flat ps)) (sym f.0)
-  first_run_until ahead (run ∷ runs) rest pages f g =
-      block_until R side m spread (λ r. first_passes (λ page. first_passes until (arc_value page)) (arc_value r))
-      (λ r. first_passes (λ page. first_passes past (arc_value page)) (arc_value r))
-      (λ r h. first_of_pages until (arc_value r) h) (λ r h. first_of_pages past (arc_value r) h) ahead run runs g
-      ∙ ap (λ ps. until_span side (flat ps)) (sym f.0)
+  -- the range ends in a part that others follow
+  ends_in : (front part rest kept : List E) → IsRising R ((front ++ part) ++ rest) → T (first_passes until part) → T (begins_with past rest)
+      → kept ≡ until_span side part → front ++ kept ≡ until_span side ((front ++ part) ++ rest)
+  ends_in front part rest kept h g b k =
+      ap (λ es. front ++ es) k ∙ sym (until_reaching R side m front part (rising_left R (front ++ part) rest h) g)
+      ∙ sym (until_past R side m (front ++ part) rest b)
 
-  pub runs_until_is : {Y Z : Type 0} (runs ahead back rest : List (Arc (List (Arc (List E) Z)) Y)) (pages kept : List (Arc (List E) Z))
-      (entries : List E) → runs ≡ ahead ++ back → IsFirstBlock back pages rest → IsRising R (all_of runs)
-      → T (is_before_edge (λ run. first_passes (λ page. first_passes until (arc_value page)) (arc_value run))
-      (λ run. first_passes (λ page. first_passes past (arc_value page)) (arc_value run)) ahead back)
-      → flat kept ++ entries ≡ until_span side (flat pages) → all_of ahead ++ (flat kept ++ entries) ≡ until_span side (all_of runs)
-  runs_until_is runs ahead back rest pages kept entries e f h g k =
-      sym (ap (until_span side) (ap all_of e ∙ all_of_runs (ahead ++ back))
-      ∙ blocks_until R side m spread (λ r. first_passes (λ page. first_passes until (arc_value page)) (arc_value r))
-      (λ r. first_passes (λ page. first_passes past (arc_value page)) (arc_value r))
-      (λ r h. first_of_pages until (arc_value r) h) (λ r h. first_of_pages past (arc_value r) h) ahead back
-      (subst (IsRising R) (ap all_of e ∙ all_of_runs (ahead ++ back)) h) g
-      ∙ (λ i. sym (all_of_runs ahead) i ++ (first_run_until ahead back rest pages f g ∙ sym k) i))
+  both_past : (xs ys : List E) → T (begins_with past xs) → T (begins_with past ys) → T (begins_with past (xs ++ ys))
+  both_past [] ys g h = h
+  both_past (x ∷ xs) ys g h = g
 
-  -- ---- entries, pages and runs in a row
+  pub until_in_groups : (es ps rs gs before tail : List E) → IsRising R (es ++ (ps ++ (rs ++ gs))) → T (first_passes until gs)
+      → before ++ tail ≡ until_span side gs → (es ++ (ps ++ (rs ++ before))) ++ tail ≡ until_span side (es ++ (ps ++ (rs ++ gs)))
+  until_in_groups es ps rs gs before tail h g k =
+      let row : (zs : List E) → es ++ (ps ++ (rs ++ zs)) ≡ (es ++ (ps ++ rs)) ++ zs =
+      λ zs. ap (λ xs. es ++ xs) (sym (append_assoc ps rs zs)) ∙ sym (append_assoc es (ps ++ rs) zs) in
+      let same : ((es ++ (ps ++ rs)) ++ gs) ++ [] ≡ es ++ (ps ++ (rs ++ gs)) = append-nil ((es ++ (ps ++ rs)) ++ gs) ∙ sym (row gs) in
+      ap (λ xs. xs ++ tail) (row before) ∙ append_assoc (es ++ (ps ++ rs)) before tail
+      ∙ ends_in (es ++ (ps ++ rs)) gs [] (before ++ tail) (subst (IsRising R) (sym same) h) g tt k
+      ∙ ap (until_span side) same
 
-  pub until_in_runs : (es ps rs kept : List E) → IsRising R (es ++ (ps ++ rs)) → T (first_passes until rs) → kept ≡ until_span side rs
-      → es ++ (ps ++ kept) ≡ until_span side (es ++ (ps ++ rs))
-  until_in_runs es ps rs kept h g k =
-      ap (λ ks. es ++ (ps ++ ks)) k ∙ sym (append_assoc es ps (until_span side rs))
-      ∙ sym (until_reaching R side m (es ++ ps) rs (subst (IsRising R) (sym (append_assoc es ps rs)) h) g) ∙ ap (until_span side) (append_assoc es ps rs)
+  pub until_in_runs : (es ps rs gs tail : List E) → IsRising R (es ++ (ps ++ (rs ++ gs))) → T (begins_with past gs) → T (first_passes until rs)
+      → tail ≡ until_span side rs → (es ++ (ps ++ [])) ++ tail ≡ until_span side (es ++ (ps ++ (rs ++ gs)))
+  until_in_runs es ps rs gs tail h b g k =
+      let same : ((es ++ ps) ++ rs) ++ gs ≡ es ++ (ps ++ (rs ++ gs)) = append_assoc (es ++ ps) rs gs ∙ append_assoc es ps (rs ++ gs) in
+      ap (λ xs. (es ++ xs) ++ tail) (append-nil ps) ∙ ends_in (es ++ ps) rs gs tail (subst (IsRising R) (sym same) h) g b k ∙ ap (until_span side) same
 
-  pub until_in_pages : (es ps rs kept : List E) → IsRising R (es ++ (ps ++ rs)) → T (begins_with past rs) → T (first_passes until ps)
-      → kept ≡ until_span side ps → es ++ kept ≡ until_span side (es ++ (ps ++ rs))
-  until_in_pages es ps rs kept h b g k =
-      let rises : IsRising R (es ++ ps) = rising_left R (es ++ ps) rs (subst (IsRising R) (sym (append_assoc es ps rs)) h) in
-      ap (λ ks. es ++ ks) k ∙ sym (until_reaching R side m es ps rises g) ∙ sym (until_past R side m (es ++ ps) rs b)
-      ∙ ap (until_span side) (append_assoc es ps rs)
+  pub until_in_pages : (es ps rs gs before tail : List E) → IsRising R (es ++ (ps ++ (rs ++ gs))) → T (begins_with past gs) → T (begins_with past rs)
+      → T (first_passes until ps)
+      → before ++ tail ≡ until_span side ps → (es ++ (before ++ [])) ++ tail ≡ until_span side (es ++ (ps ++ (rs ++ gs)))
+  until_in_pages es ps rs gs before tail h b c g k =
+      let same : (es ++ ps) ++ (rs ++ gs) ≡ es ++ (ps ++ (rs ++ gs)) = append_assoc es ps (rs ++ gs) in
+      ap (λ xs. (es ++ xs) ++ tail) (append-nil before) ∙ append_assoc es before tail
+      ∙ ends_in es ps (rs ++ gs) (before ++ tail) (subst (IsRising R) (sym same) h) g (both_past rs gs c b) k ∙ ap (until_span side) same
 
-  pub until_in_entries : (es ps rs kept : List E) → T (begins_with past rs) → T (begins_with past ps) → kept ≡ until_span side es
-      → kept ++ [] ≡ until_span side (es ++ (ps ++ rs))
-  until_in_entries es ps rs kept b c k =
-      append-nil kept ∙ k ∙ sym (until_past R side m es ps c) ∙ sym (until_past R side m (es ++ ps) rs b) ∙ ap (until_span side) (append_assoc es ps rs)
+  pub until_in_entries : (es ps rs gs before : List E) → T (begins_with past gs) → T (begins_with past rs) → T (begins_with past ps)
+      → before ≡ until_span side es → (before ++ []) ++ [] ≡ until_span side (es ++ (ps ++ (rs ++ gs)))
+  until_in_entries es ps rs gs before b c d k =
+      append-nil (before ++ []) ∙ append-nil before ∙ k ∙ sym (until_past R side m es (ps ++ (rs ++ gs)) (both_past ps (rs ++ gs) d (both_past rs gs c b)))
 
   -- ---- the first in the range
 

@@ -1,5 +1,5 @@
 -- A step of a loop that lays changes: what is done, and what is ahead.
-use Rattle.std.proofs.Common.{◌≡◌, ◌∙◌, ap, sym, subst, refl, Bool, true, not, T, List, [], ◌∷◌, ◌++◌, map, drop, append_assoc, slice_get, None, Some, Ordering, Less, Equal, Greater, is_lt, is_some}
+use Rattle.std.proofs.Common.{◌≡◌, ◌∙◌, ap, sym, subst, refl, Bool, true, not, T, List, [], ◌∷◌, ◌++◌, map, drop, length, arith, append_assoc, slice_get, None, Some, Ordering, Less, Equal, Greater, is_lt, is_some}
 use Rattle.std.proofs.lemmas.List.{map-append}
 use Rattle.std.specs.List.{list_all, flat_map}
 use Rattle.std.specs.Cmp.{IsTotalOrder}
@@ -9,6 +9,7 @@ use Rattle.sorted_pages.specs.Sorted.{IsRising, is_below, AllBelow, PassesBelow}
 use Rattle.sorted_pages.specs.Changes.{entry_of, with_changes, entries_put, without_tied}
 use Rattle.sorted_pages.specs.Edges.{ends_with, begins_with, first_passes, is_before_edge}
 use Rattle.sorted_pages.proofs.Edges.{first, second}
+use Rattle.sorted_pages.proofs.Flats.{flat_map-append}
 use Rattle.sorted_pages.proofs.Orders.{less_from, holds_from, rising_left, rising_right, rising_apart, all_pass, less_upto, below_from, AllBelow-none, AllBelow_left, AllBelow_along, AllBelow_from, AllBelow_upto}
 use Rattle.sorted_pages.proofs.Parts.{laid_apart, laid_one, rising-without_tied}
 
@@ -27,10 +28,6 @@ pub ends_with-map : {X Y : Type 0} (f : X → Y) (p : Y → Bool) (xs : List X) 
 ends_with-map f p [] = refl
 ends_with-map f p (x ∷ []) = refl
 ends_with-map f p (x ∷ y ∷ ys) = ends_with-map f p (y ∷ ys)
-
-pub flat_map-append : {B X : Type 0} (v : B → List X) (xs ys : List B) → flat_map v (xs ++ ys) ≡ flat_map v xs ++ flat_map v ys
-flat_map-append v [] ys = refl
-flat_map-append v (x ∷ xs) ys = ap (λ zs. v x ++ zs) (flat_map-append v xs ys) ∙ sym (append_assoc (v x) (flat_map v xs) (flat_map v ys))
 
 module _ {E : Type 0} (R : E → E → Ordering) (o : IsTotalOrder R) where
   below_falls : (n x y : E) → R x y ≡ Less → is_lt (R y n) ≡ true → is_lt (R x n) ≡ true
@@ -86,7 +83,11 @@ module _ {E : Type 0} (R : E → E → Ordering) (o : IsTotalOrder R) where
         placed_by (flat_map v (b ∷ bs)) (v f) (flat_map v fs)
         (rising_apart R (flat_map v (b ∷ bs)) (flat_map v (f ∷ fs)) (subst (IsRising R) (flat_map-append v (b ∷ bs) (f ∷ fs)) h)) (passed f (first _ _ g))
 
-  -- ---- one turn of a loop
+  -- ---- the end of a loop, and one turn of it
+
+  pub laid_all : (ahead : List (Change E)) (left done total : List E) → length ahead ≡ 0 → done ++ with_changes R ahead left ≡ total → done ++ left ≡ total
+  laid_all [] left done total h e = e
+  laid_all (c ∷ cs) left done total h e = absurd (omega (arith, h))
 
   passes_all : (bs ys ls : List E) → PassesBelow R ys ls → AllBelow R bs ys → AllBelow R bs ls
   passes_all [] ys ls p g = tt

@@ -7,7 +7,7 @@ use Rattle.sorted_pages.specs.Edges.{is_none, ends_with, begins_with, first_pass
 use Rattle.sorted_pages.specs.Ranges.{IsMonotone, failing_from, passing_to, from_span, until_span, within}
 use Rattle.sorted_pages.proofs.Edges.{both, first, second}
 use Rattle.sorted_pages.proofs.Orders.{less_from, true_from, holds_from, rising_left, rising_apart, all_pass, all_fail}
-use Rattle.sorted_pages.proofs.Steps.{flat_map-append}
+use Rattle.sorted_pages.proofs.Flats.{flat_map-append}
 
 false_from : (b : Bool) → T (not b) → b ≡ false
 false_from true h = absurd h

@@ -4,24 +4,38 @@ use Rattle.std.specs.List.{flat_map, list_all}
 use Rattle.std.specs.Arc.{arc_value}
 use Rattle.std.specs.declared.sync.Arc.{Arc}
 
--- the lists that are shared, one after another
-abbrev pub flat : {X Z : Type 0} → List (Arc (List X) Z) → List X
-flat pages = flat_map arc_value pages
+-- an entry, in a list
+abbrev pub single : {E : Type 0} → E → List E
+single e = e ∷ []
 
--- the entries of these runs, one after another
-abbrev pub all_of : {X Y Z : Type 0} → List (Arc (List (Arc (List X) Z)) Y) → List X
-all_of runs = flat (flat runs)
+-- the entries of a block, by those of each of its items
+abbrev pub held : {X E Z : Type 0} → (X → List E) → Arc (List X) Z → List E
+held v block = flat_map v (arc_value block)
+
+-- the entries of a page, of a run of pages and of a group of runs
+abbrev pub of_page : {E Z : Type 0} → Arc (List E) Z → List E
+of_page page = held single page
+
+abbrev pub of_run : {E Y Z : Type 0} → Arc (List (Arc (List E) Z)) Y → List E
+of_run run = held of_page run
+
+abbrev pub of_group : {E X Y Z : Type 0} → Arc (List (Arc (List (Arc (List E) Z)) Y)) X → List E
+of_group group = held of_run group
 
 -- the items of a block that was cut off, if one was
 abbrev pub items_of : {X Z : Type 0} → Option (Arc (List X) Z) → List X
 items_of None = []
 items_of (Some block) = arc_value block
 
--- parts of a sorted list that follow one another
-abbrev pub listed : {X Y Z : Type 0} → List X → List (Arc (List X) Z) → List (Arc (List (Arc (List X) Z)) Y)
-    → List (Arc (List X) Z) → List X → List X
-listed entries pages runs last_pages last_entries =
-    entries ++ (flat pages ++ (all_of runs ++ (flat last_pages ++ last_entries)))
+-- the rest of a page, of a run, of a group and of the list, one after another
+abbrev pub ahead : {E X Y Z : Type 0} → List E → List (Arc (List E) Z) → List (Arc (List (Arc (List E) Z)) Y)
+    → List (Arc (List (Arc (List (Arc (List E) Z)) Y)) X) → List E
+ahead entries pages runs groups =
+    flat_map single entries ++ (flat_map of_page pages ++ (flat_map of_run runs ++ flat_map of_group groups))
+
+-- the first runs of a group, pages of a run and entries of a page, one after another
+abbrev pub behind : {E Y Z : Type 0} → List (Arc (List (Arc (List E) Z)) Y) → List (Arc (List E) Z) → List E → List E
+behind runs pages entries = flat_map of_run runs ++ (flat_map of_page pages ++ flat_map single entries)
 
 -- these are the items of the first block and the blocks after it
 abbrev pub IsFirstBlock : {X Z : Type 0} → List (Arc (List X) Z) → List X → List (Arc (List X) Z) → Type 0
@@ -44,7 +58,3 @@ IsLast {X} x xs = (rest : List X) × (xs ≡ rest ++ x ∷ [])
 pub record AreSizes (sizes : List ℕ) (entries : ℕ) : Type 0 where
   pub total : sum sizes ≡ entries
   pub fit : T (list_all (λ n. nat_lt 0 n && nat_le n 64) sizes)
-
--- the lengths of pages that hold this many entries came to others
-abbrev pub AddsSizes : List ℕ → List ℕ → ℕ → Type 0
-AddsSizes old new entries = (n : ℕ) → AreSizes old n → AreSizes new (n + entries)

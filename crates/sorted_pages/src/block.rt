@@ -1,4 +1,4 @@
-//! A sorted run of entries, or of pages, with the greatest of their numbers.
+//! A sorted run of items, with the greatest of their numbers.
 ghost use Rattle.std.specs.Prelude.{◌≡◌, ◌∷◌, ◌++◌, [], ◌<◌, ◌≤◌, ℕ, List, length, max, IfOk};
 ghost use Rattle.std.specs.Arc.{arc_value};
 ghost use Rattle.sorted_pages.specs.Pages.{greatest, IsFirst, IsLast};
@@ -6,9 +6,6 @@ ghost use Rattle.sorted_pages.specs.Pages.{greatest, IsFirst, IsLast};
 use crate::entry::Peaked;
 use std::marker::Model;
 use std::sync::Arc;
-
-/// The most that a block holds.
-pub(crate) const MOST: usize = 64;
 
 /// One to 64 items, with the greatest of their numbers. Contracts see the list of the items.
 #[derive(Drop)]
@@ -28,12 +25,6 @@ impl<T: Peaked> Model for Block<T> {
 
     ghost invariant = { λ b. IsBlock T.peak b.items.items b.best };
 }
-
-/// Entries in one place in the order, which many lists may hold.
-pub(crate) type Page<E> = Arc<Block<E>>;
-
-/// Pages one after another.
-pub(crate) type Run<E> = Arc<Block<Page<E>>>;
 
 /// The greatest of the numbers, or 0.
 pub(crate) fn greatest_of<T: Peaked>(items: &[T]) -> u64

@@ -3,44 +3,43 @@ ghost use Rattle.std.specs.Prelude.{◌≡◌, ◌++◌, ◌∷◌, [], ◌<◌,
 ghost use Rattle.std.specs.Arc.{arc_value};
 ghost use Rattle.sorted_pages.specs.Pages.{items_of};
 
-use crate::block::{Block, MOST};
+use crate::block::Block;
 use crate::entry::Peaked;
 use std::alloc::{AllocError, Global};
 use std::marker::Model;
 use std::mem;
 use std::sync::Arc;
 
-/// The size of the blocks that a list of more than 64 items is cut into.
-const HALF: usize = 32;
-
 /// How items are laid into blocks.
 #[derive(Clone, Copy)]
 pub(crate) enum Layout {
-    /// One block of up to 64; where there are more, blocks of 32, a rest of fewer than 32 in the last.
+    /// One block of up to the most; where there are more, blocks of half as many, and what is left over in the last.
     Halved,
-    /// Blocks of 64, the rest in the last.
+    /// Blocks of the most, the rest in the last.
     Filled,
 }
 
 impl Layout {
     /// How many items are cut off when the rest is full.
-    fn piece(self) -> usize
+    fn piece(self, most: usize) -> usize
+        requires { 2 ≤ most }
         ensures some { 0 < result }
-        ensures few { result ≤ 64 }
+        ensures few { result ≤ most }
     {
         match self {
-            Layout::Halved => HALF,
-            Layout::Filled => MOST,
+            Layout::Halved => most / 2,
+            Layout::Filled => most,
         }
     }
 
     /// How many items make the rest full. After a first cut the rest never grows to two pieces.
-    fn limit(self, is_first: bool) -> usize
-        ensures { result ≤ 64 }
+    fn limit(self, most: usize, is_first: bool) -> usize
+        requires { 2 ≤ most }
+        ensures { result ≤ most }
     {
         match (self, is_first) {
-            (Layout::Halved, false) => 2 * HALF - 1,
-            (Layout::Halved, true) | (Layout::Filled, _) => MOST,
+            (Layout::Halved, false) => most - 1,
+            (Layout::Halved, true) | (Layout::Filled, _) => most,
         }
     }
 }
@@ -51,6 +50,7 @@ impl Layout {
 #[derive(Drop)]
 pub(crate) struct Cutter<T: Peaked + Drop> {
     layout: Layout,
+    most: usize,
     is_first: bool,
     rest: Vec<T>,
 }
@@ -62,7 +62,7 @@ impl<T: Peaked + Drop> Model for Cutter<T> {
 
     ghost view = { λ c. c.rest.items };
 
-    ghost invariant = { λ c. length c.rest.items ≤ 64 };
+    ghost invariant = { λ c. (length c.rest.items ≤ c.most) × (2 ≤ c.most) × (c.most ≤ 64) };
 }
 
 /// Moves the first items of the rest into a block.
@@ -72,7 +72,7 @@ fn cut_off<T: Peaked + Drop>(rest: &mut Vec<T>, piece: usize) -> Result<Arc<Bloc
     requires few { length rest.old.items ≤ 64 }
     ensures items { IfOk result (λ block. arc_value block ++ rest.new.items ≡ rest.old.items) }
     ensures less { OnOk result (length rest.new.items < length rest.old.items) }
-    ensures few { length rest.new.items ≤ 64 }
+    ensures no_more { length rest.new.items ≤ length rest.old.items }
 {
     let later = rest.split_off(piece)?;
     let front = mem::replace(rest, later);
@@ -81,12 +81,15 @@ fn cut_off<T: Peaked + Drop>(rest: &mut Vec<T>, piece: usize) -> Result<Arc<Bloc
 }
 
 impl<T: Peaked + Drop> Cutter<T> {
-    /// One that has no items. It takes no memory.
-    pub(crate) fn new(alloc: Global, layout: Layout) -> Cutter<T>
+    /// One that has no items, for blocks of so many at most. It takes no memory.
+    pub(crate) fn new(alloc: Global, layout: Layout, most: usize) -> Cutter<T>
+        requires some { 2 ≤ most }
+        requires few { most ≤ 64 }
         ensures { result ≡ [] }
     {
         Cutter {
             layout,
+            most,
             is_first: true,
             rest: Vec::new(alloc),
         }
@@ -96,15 +99,15 @@ impl<T: Peaked + Drop> Cutter<T> {
     pub(crate) fn reserve(&mut self, room: usize) -> Result<(), AllocError>
         ensures { self.new ≡ self.old }
     {
-        self.rest.reserve(room.min(MOST))
+        self.rest.reserve(room.min(self.most))
     }
 
     /// Pushes an item, and hands out the block that there was no more room in.
     pub(crate) fn push(&mut self, item: T) -> Result<Option<Arc<Block<T>>>, AllocError>
         ensures { IfOk result (λ block. items_of block ++ self.new ≡ self.old ++ item ∷ []) }
     {
-        let piece = self.layout.piece();
-        let limit = self.layout.limit(self.is_first);
+        let piece = self.layout.piece(self.most);
+        let limit = self.layout.limit(self.most, self.is_first);
         let mut cut = None;
         if self.rest.len() >= limit && self.rest.len() >= piece {
             cut = Some(cut_off(&mut self.rest, piece)?);
@@ -114,18 +117,15 @@ impl<T: Peaked + Drop> Cutter<T> {
         Ok(cut)
     }
 
-    /// Hands out the items as a block, if there are any. The next one begins a new list.
-    pub(crate) fn end(&mut self) -> Result<Option<Arc<Block<T>>>, AllocError>
-        ensures items { IfOk result (λ block. items_of block ≡ self.old) }
-        ensures none { OnOk result (self.new ≡ []) }
+    /// The items as a block, if there are any.
+    pub(crate) fn end(self) -> Result<Option<Arc<Block<T>>>, AllocError>
+        ensures { IfOk result (λ block. items_of block ≡ self) }
     {
-        self.is_first = true;
-        if self.rest.is_empty() {
+        let Cutter { rest, .. } = self;
+        if rest.is_empty() {
             return Ok(None);
         }
-        let alloc = *self.rest.allocator();
-        let items = mem::replace(&mut self.rest, Vec::new(alloc));
-        let block = Arc::new(alloc, Block::of(items))?;
+        let block = Arc::new(*rest.allocator(), Block::of(rest))?;
         Ok(Some(block))
     }
 }

@@ -1,92 +1,111 @@
-//! How changes are laid over entries, pages and runs. Where nothing changes a page or a run is shared.
-ghost use Rattle.std.specs.Prelude.{◌≡◌, ◌++◌, ◌∷◌, [], ◌-◌, ◌<◌, map, length, not, OnOk, T as Holds};
-ghost use Rattle.std.specs.List.{list_all};
+//! How changes are laid over a level. Where nothing changes a block is shared.
+ghost use Rattle.std.specs.Prelude.{◌≡◌, ◌++◌, ◌∷◌, [], ◌-◌, ◌<◌, map, length, not, IfOk, OnOk, T as Holds};
+ghost use Rattle.std.specs.List.{list_all, flat_map};
 ghost use Rattle.std.specs.Ordering.{is_lt};
 ghost use Rattle.sorted_pages.specs.Edges.{begins_with};
-ghost use Rattle.sorted_pages.specs.Pages.{flat, all_of, IsFirstBlock};
+ghost use Rattle.sorted_pages.specs.Pages.{held, IsFirstBlock};
 ghost use Rattle.sorted_pages.specs.Sorted.{IsRising, AllBelow, PassesBelow};
 ghost use Rattle.sorted_pages.specs.Changes.{entry_of, entries_put, with_changes, without_tied};
 
-use crate::block::{Block, Page, Run};
-use crate::builder::Builder;
+use crate::block::Block;
 use crate::change::Change;
-use crate::edge::{AtFirst, Below, UpTo, split_at_edge, split_before_edge};
+use crate::cutter::Layout;
+use crate::edge::{Before, Below, Until, split_at_edge, split_before_edge};
 use crate::entry::{Entry, Peaked};
-use std::alloc::AllocError;
+use crate::growing::{Growing, Tier, begin, finish};
+use crate::level::{Leaf, Level};
+use crate::spans::Tie;
+use std::alloc::{AllocError, Global};
 use std::sync::Arc;
 
-/// The same entries in one more page.
-fn share_entries<E: Entry>(entries: &[E], builder: &mut Builder<E>) -> Result<(), AllocError>
-    ensures { OnOk result (builder.new ≡ builder.old ++ entries.now) }
-{
-    for entry in entries {
-        builder.push(entry.share()?)?;
-    }
-    Ok(())
+/// A level of which lists are built, and over which changes are laid.
+pub(crate) trait Changing<E: Entry>: Level<E> {
+    /// Appends entries, one after another.
+    fn fill<U: Growing<E, Self>>(alloc: Global, entries: Vec<E>, grown: U) -> Result<U, AllocError>
+        ensures { IfOk result (λ filled. U.all filled ≡ U.all grown ++ entries.items) };
+
+    /// Appends the items with changes laid over them.
+    fn lay<U: Growing<E, Self>>(
+        alloc: Global,
+        items: &[Self],
+        changes: &[Change<E>],
+        grown: U,
+    ) -> Result<U, AllocError>
+        requires items { IsRising E.order (flat_map Self.entries items.now) }
+        requires changes { IsRising E.order (map entry_of changes.now) }
+        ensures { IfOk result (λ laid. U.all laid
+            ≡ U.all grown ++ with_changes E.order changes.now (flat_map Self.entries items.now)) };
 }
 
-/// The same pages in one more run.
-fn share_pages<E: Entry>(pages: &[Page<E>], builder: &mut Builder<E>) -> Result<(), AllocError>
-    ensures { OnOk result (builder.new ≡ builder.old ++ flat pages.now) }
+/// Appends the same items.
+fn share_all<E: Entry, T: Level<E>, U: Growing<E, T>>(
+    items: &[T],
+    grown: &mut U,
+) -> Result<(), AllocError>
+    ensures { OnOk result (U.all grown.new ≡ U.all grown.old ++ flat_map T.entries items.now) }
 {
-    for page in pages {
-        builder.push_page(Arc::try_clone(page)?)?;
-    }
-    Ok(())
-}
-
-/// The same runs in one more list.
-fn share_runs<E: Entry>(runs: &[Run<E>], builder: &mut Builder<E>) -> Result<(), AllocError>
-    ensures { OnOk result (builder.new ≡ builder.old ++ all_of runs.now) }
-{
-    for run in runs {
-        builder.push_run(Arc::try_clone(run)?)?;
+    for item in items {
+        grown.put(item.share()?)?;
     }
     Ok(())
 }
 
 /// The entry that a change puts.
-fn push_change<E: Entry>(change: &Change<E>, builder: &mut Builder<E>) -> Result<(), AllocError>
-    ensures { OnOk result (builder.new ≡ builder.old ++ entries_put change.now) }
+fn put_change<E: Entry, U: Growing<E, Leaf<E>>>(
+    change: &Change<E>,
+    grown: &mut U,
+) -> Result<(), AllocError>
+    ensures { OnOk result (U.all grown.new ≡ U.all grown.old ++ entries_put change.now) }
 {
     match change {
-        Change::Put(entry) => builder.push(entry.share()?),
+        Change::Put(entry) => grown.put(Leaf::of(entry.share()?)),
         Change::Remove(_) => Ok(()),
     }
 }
 
 /// The entries without the first, where that ties with this entry.
-fn after_tied<'a, E: Entry>(entries: &'a [E], entry: &E) -> &'a [E]
+fn after_tied<'a, E: Entry>(entries: &'a [Leaf<E>], entry: &E) -> &'a [Leaf<E>]
     ensures { result.now ≡ without_tied E.order entry.now entries.now }
 {
     match entries {
-        [first, rest @ ..] if entry.order(first).is_eq() => rest,
+        [first, rest @ ..] if entry.order(first.entry()).is_eq() => rest,
         _ => entries,
     }
 }
 
-/// Pushes the entries of a page with changes laid over them, as a page begun anew.
-fn lay_page<E: Entry>(
-    entries: &[E],
-    changes: &[Change<E>],
-    builder: &mut Builder<E>,
-) -> Result<(), AllocError>
-    requires entries { IsRising E.order entries.now }
-    requires changes { IsRising E.order (map entry_of changes.now) }
-    ensures { OnOk result (builder.new ≡ builder.old ++ with_changes E.order changes.now entries.now) }
-{
-    builder.begin_page(entries.len().saturating_add(changes.len()))?;
-    let mut left = entries;
-    let mut ahead = changes;
-    while let Some((change, later)) = ahead.split_first() {
-        let entry = change.entry();
-        let (less, rest) = split_at_edge(left, &Below(entry));
-        share_entries(less, builder)?;
-        push_change(change, builder)?;
-        left = after_tied(rest, entry);
-        ahead = later;
+impl<E: Entry> Changing<E> for Leaf<E> {
+    fn fill<U: Growing<E, Leaf<E>>>(
+        _alloc: Global,
+        entries: Vec<E>,
+        mut grown: U,
+    ) -> Result<U, AllocError>
+        ensures { IfOk result (λ filled. U.all filled ≡ U.all grown ++ entries.items) }
+    {
+        for entry in entries {
+            grown.put(Leaf::of(entry))?;
+        }
+        Ok(grown)
     }
-    share_entries(left, builder)
+
+    fn lay<U: Growing<E, Leaf<E>>>(
+        _alloc: Global,
+        items: &[Leaf<E>],
+        changes: &[Change<E>],
+        mut grown: U,
+    ) -> Result<U, AllocError> {
+        let mut left = items;
+        let mut ahead = changes;
+        while let Some((change, later)) = ahead.split_first() {
+            let entry = change.entry();
+            let (less, rest) = split_at_edge(left, &Before(&Tie(entry)));
+            share_all(less, &mut grown)?;
+            put_change(change, &mut grown)?;
+            left = after_tied(rest, entry);
+            ahead = later;
+        }
+        share_all(left, &mut grown)?;
+        Ok(grown)
+    }
 }
 
 /// The changes that go before this entry, and the others.
@@ -102,36 +121,35 @@ fn changes_before<'a, E: Entry>(
     split_at_edge(changes, &Below(next))
 }
 
-/// The changes that go before these pages, and the others.
-fn changes_before_pages<'a, E: Entry>(
+/// The changes that go before these items, and the others.
+fn changes_before_all<'a, E: Entry, T: Level<E>>(
     changes: &'a [Change<E>],
-    pages: &[Page<E>],
+    items: &[T],
 ) -> (&'a [Change<E>], &'a [Change<E>])
-    requires pages { IsRising E.order (flat pages.now) }
+    requires items { IsRising E.order (flat_map T.entries items.now) }
     requires changes { IsRising E.order (map entry_of changes.now) }
     ensures parts { changes.now ≡ result.0.now ++ result.1.now }
-    ensures mine { AllBelow E.order (map entry_of result.0.now) (flat pages.now) }
-    ensures later { PassesBelow E.order (flat pages.now) (map entry_of result.1.now) }
-    ensures all { length pages.now ≡ 0 → length result.1.now ≡ 0 }
+    ensures mine { AllBelow E.order (map entry_of result.0.now) (flat_map T.entries items.now) }
+    ensures later { PassesBelow E.order (flat_map T.entries items.now) (map entry_of result.1.now) }
+    ensures all { length items.now ≡ 0 → length result.1.now ≡ 0 }
 {
-    match pages.first() {
-        Some(page) => changes_before(changes, page.first()),
+    match items.first() {
+        Some(item) => changes_before(changes, item.first()),
         None => changes.split_at(changes.len()),
     }
 }
 
-/// The pages before the one where an entry goes, and the others.
-fn split_at_place<'a, E: Entry>(pages: &'a [Page<E>], entry: &E) -> (&'a [Page<E>], &'a [Page<E>])
-    requires { IsRising E.order (flat pages.now) }
-    ensures parts { pages.now ≡ result.0.now ++ result.1.now }
-    ensures before { AllBelow E.order (flat result.0.now) (entry.now ∷ []) }
+/// The items before the one where an entry goes, and the others.
+fn split_at_place<'a, E: Entry, T: Level<E>>(items: &'a [T], entry: &E) -> (&'a [T], &'a [T])
+    requires { IsRising E.order (flat_map T.entries items.now) }
+    ensures parts { items.now ≡ result.0.now ++ result.1.now }
+    ensures before { AllBelow E.order (flat_map T.entries result.0.now) (entry.now ∷ []) }
 {
-    split_before_edge(pages, &AtFirst(&UpTo(entry)))
+    split_before_edge(items, &Until(&Tie(entry)))
 }
 
 /// The items of the first block, if there is one, and the other blocks.
 pub(crate) fn split_first_block<T: Peaked>(blocks: &[Arc<Block<T>>]) -> (&[T], &[Arc<Block<T>>])
-    ensures parts { flat blocks.now ≡ result.0.now ++ flat result.1.now }
     ensures first { IsFirstBlock blocks.now result.0.now result.1.now }
     ensures some { 0 < length blocks.now → 0 < length result.0.now }
     ensures fewer { length result.1.now ≡ length blocks.now - 1 }
@@ -142,78 +160,81 @@ pub(crate) fn split_first_block<T: Peaked>(blocks: &[Arc<Block<T>>]) -> (&[T], &
     }
 }
 
-/// Pushes the pages of a run with changes laid over them, as a run begun anew.
-fn lay_run<E: Entry>(
-    pages: &[Page<E>],
+/// Appends a block of the items with changes laid over them, or more than one where they have no room in it.
+fn lay_block<E: Entry, T: Changing<E>, U: Growing<E, Arc<Block<T>>>>(
+    alloc: Global,
+    items: &[T],
     changes: &[Change<E>],
-    builder: &mut Builder<E>,
-) -> Result<(), AllocError>
-    requires pages { IsRising E.order (flat pages.now) }
+    grown: U,
+) -> Result<U, AllocError>
+    requires items { IsRising E.order (flat_map T.entries items.now) }
     requires changes { IsRising E.order (map entry_of changes.now) }
-    ensures { OnOk result (builder.new ≡ builder.old ++ with_changes E.order changes.now (flat pages.now)) }
+    ensures { IfOk result (λ laid. U.all laid
+        ≡ U.all grown ++ with_changes E.order changes.now (flat_map T.entries items.now)) }
 {
-    builder.begin_run(pages.len().saturating_add(1))?;
-    let mut left = pages;
+    let room = items.len().saturating_add(changes.len());
+    let tier: Tier<T, U> = begin(alloc, Layout::Halved, room, grown)?;
+    let tier: Tier<T, U> = T::lay(alloc, items, changes, tier)?;
+    finish(tier)
+}
+
+/// Appends blocks with changes laid over them.
+pub(crate) fn lay_blocks<E: Entry, T: Changing<E>, U: Growing<E, Arc<Block<T>>>>(
+    alloc: Global,
+    blocks: &[Arc<Block<T>>],
+    changes: &[Change<E>],
+    mut grown: U,
+) -> Result<U, AllocError>
+    requires blocks { IsRising E.order (flat_map (held T.entries) blocks.now) }
+    requires changes { IsRising E.order (map entry_of changes.now) }
+    ensures { IfOk result (λ laid. U.all laid
+        ≡ U.all grown ++ with_changes E.order changes.now (flat_map (held T.entries) blocks.now)) }
+{
+    let mut left = blocks;
     let mut ahead = changes;
     while let Some((change, _)) = ahead.split_first() {
         let (before, from) = split_at_place(left, change.entry());
-        share_pages(before, builder)?;
-        let (entries, rest) = split_first_block(from);
-        let (mine, later) = changes_before_pages(ahead, rest);
-        lay_page(entries, mine, builder)?;
+        share_all(before, &mut grown)?;
+        let (items, rest) = split_first_block(from);
+        let (mine, later) = changes_before_all(ahead, rest);
+        grown = lay_block(alloc, items, mine, grown)?;
         left = rest;
         ahead = later;
     }
-    share_pages(left, builder)
+    share_all(left, &mut grown)?;
+    Ok(grown)
 }
 
-/// The changes that go before these runs, and the others.
-fn changes_before_runs<'a, E: Entry>(
-    changes: &'a [Change<E>],
-    runs: &[Run<E>],
-) -> (&'a [Change<E>], &'a [Change<E>])
-    requires runs { IsRising E.order (all_of runs.now) }
-    requires changes { IsRising E.order (map entry_of changes.now) }
-    ensures parts { changes.now ≡ result.0.now ++ result.1.now }
-    ensures mine { AllBelow E.order (map entry_of result.0.now) (all_of runs.now) }
-    ensures later { PassesBelow E.order (all_of runs.now) (map entry_of result.1.now) }
-    ensures all { length runs.now ≡ 0 → length result.1.now ≡ 0 }
+/// Appends blocks of entries, one after another.
+pub(crate) fn fill_blocks<E: Entry, T: Changing<E>, U: Growing<E, Arc<Block<T>>>>(
+    alloc: Global,
+    entries: Vec<E>,
+    grown: U,
+) -> Result<U, AllocError>
+    ensures { IfOk result (λ filled. U.all filled ≡ U.all grown ++ entries.items) }
 {
-    match runs.first() {
-        Some(run) => changes_before(changes, run.first().first()),
-        None => changes.split_at(changes.len()),
+    let tier: Tier<T, U> = begin(alloc, Layout::Filled, entries.len(), grown)?;
+    let tier: Tier<T, U> = T::fill(alloc, entries, tier)?;
+    finish(tier)
+}
+
+impl<E: Entry, T: Changing<E>> Changing<E> for Arc<Block<T>> {
+    fn fill<U: Growing<E, Arc<Block<T>>>>(
+        alloc: Global,
+        entries: Vec<E>,
+        grown: U,
+    ) -> Result<U, AllocError>
+        ensures { IfOk result (λ filled. U.all filled ≡ U.all grown ++ entries.items) }
+    {
+        fill_blocks::<E, T, U>(alloc, entries, grown)
     }
-}
 
-/// The runs before the one where an entry goes, and the others.
-fn split_at_run<'a, E: Entry>(runs: &'a [Run<E>], entry: &E) -> (&'a [Run<E>], &'a [Run<E>])
-    requires { IsRising E.order (all_of runs.now) }
-    ensures parts { runs.now ≡ result.0.now ++ result.1.now }
-    ensures before { AllBelow E.order (all_of result.0.now) (entry.now ∷ []) }
-{
-    split_before_edge(runs, &AtFirst(&AtFirst(&UpTo(entry))))
-}
-
-/// Pushes runs with changes laid over them.
-pub(crate) fn lay_runs<E: Entry>(
-    runs: &[Run<E>],
-    changes: &[Change<E>],
-    builder: &mut Builder<E>,
-) -> Result<(), AllocError>
-    requires runs { IsRising E.order (all_of runs.now) }
-    requires changes { IsRising E.order (map entry_of changes.now) }
-    ensures { OnOk result (builder.new ≡ builder.old ++ with_changes E.order changes.now (all_of runs.now)) }
-{
-    let mut left = runs;
-    let mut ahead = changes;
-    while let Some((change, _)) = ahead.split_first() {
-        let (before, from) = split_at_run(left, change.entry());
-        share_runs(before, builder)?;
-        let (pages, rest) = split_first_block(from);
-        let (mine, later) = changes_before_runs(ahead, rest);
-        lay_run(pages, mine, builder)?;
-        left = rest;
-        ahead = later;
+    fn lay<U: Growing<E, Arc<Block<T>>>>(
+        alloc: Global,
+        items: &[Arc<Block<T>>],
+        changes: &[Change<E>],
+        grown: U,
+    ) -> Result<U, AllocError> {
+        lay_blocks(alloc, items, changes, grown)
     }
-    share_runs(left, builder)
 }

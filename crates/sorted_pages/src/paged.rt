@@ -1,19 +1,17 @@
 //! The sorted list itself.
-ghost use Rattle.std.specs.Prelude.{◌≡◌, [], map, length, option_copied, Some, None, if◌then◌else◌, IfOk, OnOk};
+ghost use Rattle.std.specs.Prelude.{◌≡◌, [], map, length, option_copied, Some, None, if◌then◌else◌, IfOk};
 ghost use Rattle.std.specs.Ordering.{is_eq};
 ghost use Rattle.std.specs.FinMap.Entries.{find};
-ghost use Rattle.sorted_pages.specs.Pages.{flat, AreSizes, AddsSizes};
+ghost use Rattle.sorted_pages.specs.Pages.{AreSizes};
 ghost use Rattle.sorted_pages.specs.Sorted.{IsRising, keyed};
 ghost use Rattle.sorted_pages.specs.Ranges.{within, first_within};
 ghost use Rattle.sorted_pages.specs.Changes.{entry_of, with_changes};
 
-use crate::block::{Page, Run};
-use crate::builder::Builder;
 use crate::change::Change;
-use crate::cutter::Layout;
 use crate::entry::{Entry, Span};
-use crate::laying::lay_runs;
-use crate::range::{Range, all_until, in_a_row, runs_from};
+use crate::laying::{fill_blocks, lay_blocks};
+use crate::level::{Group, Run};
+use crate::range::{Front, Range, all_from, all_until, with_entries, with_pages};
 use crate::spans::Tie;
 use std::alloc::{AllocError, Global};
 use std::marker::Model;
@@ -23,19 +21,20 @@ use std::marker::Model;
 /// Contracts see the list of the entries.
 #[derive(Drop)]
 pub struct Paged<E: Entry> {
-    runs: Vec<Run<E>>,
+    groups: Vec<Group<E>>,
 }
 
 impl<E: Entry> Model for Paged<E> {
     ghost use Rattle.std.specs.Prelude.{List};
-    ghost use Rattle.sorted_pages.specs.Pages.{all_of};
+    ghost use Rattle.std.specs.List.{flat_map};
+    ghost use Rattle.sorted_pages.specs.Pages.{of_group};
     ghost use Rattle.sorted_pages.specs.Sorted.{IsRising};
 
     ghost Value = { List E };
 
-    ghost view = { λ p. all_of p.runs.items };
+    ghost view = { λ p. flat_map of_group p.groups.items };
 
-    ghost invariant = { λ p. IsRising E.order (all_of p.runs.items) };
+    ghost invariant = { λ p. IsRising E.order (flat_map of_group p.groups.items) };
 }
 
 /// The entry, where it is in the range.
@@ -49,23 +48,13 @@ fn only_in<'a, E: Entry, S: Span<E>>(entry: &'a E, span: &S) -> Option<&'a E>
     }
 }
 
-/// Appends the lengths of these pages.
-fn push_sizes<E: Entry>(pages: &[Page<E>], sizes: &mut Vec<usize>) -> Result<(), AllocError>
-    ensures { OnOk result (AddsSizes sizes.old.items sizes.new.items (length (flat pages.now))) }
-{
-    for page in pages {
-        sizes.push(page.items().len())?;
-    }
-    Ok(())
-}
-
 impl<E: Entry> Paged<E> {
     /// The list of no entry. It takes no memory.
     pub fn new(alloc: Global) -> Paged<E>
         ensures { result ≡ [] }
     {
         Paged {
-            runs: Vec::new(alloc),
+            groups: Vec::new(alloc),
         }
     }
 
@@ -74,11 +63,8 @@ impl<E: Entry> Paged<E> {
         requires { IsRising E.order entries.items }
         ensures { IfOk result (λ p. p ≡ entries.items) }
     {
-        let mut builder = Builder::new(alloc, Layout::Filled, 0)?;
-        builder.begin_page(entries.len())?;
-        builder.push_all(entries)?;
-        let runs = builder.finish()?;
-        Ok(Paged { runs })
+        let groups = fill_blocks::<E, Run<E>, Vec<Group<E>>>(alloc, entries, Vec::new(alloc))?;
+        Ok(Paged { groups })
     }
 
     /// A copy with changes whose entries rise. This list stays as it is.
@@ -86,29 +72,27 @@ impl<E: Entry> Paged<E> {
         requires { IsRising E.order (map entry_of changes.now) }
         ensures { IfOk result (λ p. p ≡ with_changes E.order changes.now self.now) }
     {
-        let room = self.runs.len().saturating_add(1);
-        let mut builder = Builder::new(alloc, Layout::Halved, room)?;
-        lay_runs(&self.runs, changes, &mut builder)?;
-        let runs = builder.finish()?;
-        Ok(Paged { runs })
+        let room = self.groups.len().saturating_add(1);
+        let grown = Vec::with_capacity(alloc, room)?;
+        let groups = lay_blocks(alloc, &self.groups, changes, grown)?;
+        Ok(Paged { groups })
     }
 
     /// The entries in a range. It takes no memory.
     pub fn range<S: Span<E>>(&self, span: &S) -> Range<'_, E>
-        ensures { result ≡ within (S.side span.now) self.now }
+        ensures entries { result ≡ within (S.side span.now) self.now }
+        ensures rising { IsRising E.order self.now }
     {
-        let (entries, pages, runs) = runs_from(&self.runs, span);
-        all_until(entries, pages, runs, span)
+        all_until(all_from(&self.groups, span), span)
     }
 
     /// The first entry in a range.
     pub fn first_in<S: Span<E>>(&self, span: &S) -> Option<&E>
         ensures { option_copied result ≡ first_within (S.side span.now) self.now }
     {
-        let (entries, pages, runs) = runs_from(&self.runs, span);
-        let mut ahead = in_a_row(entries, pages, runs);
-        match ahead.next() {
-            Some(first) => only_in(first, span),
+        let front = with_entries(all_from(&self.groups, span));
+        match front.entries.first() {
+            Some(first) => only_in(first.entry(), span),
             None => None,
         }
     }
@@ -125,8 +109,15 @@ impl<E: Entry> Paged<E> {
         ensures { IfOk result (λ sizes. AreSizes sizes.items (length self.now)) }
     {
         let mut sizes = Vec::new(alloc);
-        for run in &self.runs {
-            push_sizes(run.items(), &mut sizes)?;
+        let mut left = with_pages(Front {
+            entries: &[],
+            pages: &[],
+            runs: &[],
+            groups: &self.groups,
+        });
+        while let Some((page, pages)) = left.pages.split_first() {
+            sizes.push(page.items().len())?;
+            left = with_pages(Front { pages, ..left });
         }
         Ok(sizes)
     }

@@ -1,106 +1,154 @@
 //! Ranges of entries that stand next to one another.
-ghost use Rattle.std.specs.Prelude.{◌≡◌, ◌++◌, [], length, not, T as Holds};
+ghost use Rattle.std.specs.Prelude.{◌≡◌, ◌<◌, ◌++◌, [], length, not, T as Holds};
+ghost use Rattle.std.specs.List.{flat_map};
 ghost use Rattle.std.specs.Ordering.{is_lt, is_gt};
 ghost use Rattle.std.specs.Iterator.{YieldsFirstRef, item_count};
-ghost use Rattle.sorted_pages.specs.Pages.{flat, all_of, listed, greatest};
+ghost use Rattle.sorted_pages.specs.Pages.{IsFirstBlock, held, single, of_page, of_run, of_group, ahead, behind, greatest};
 ghost use Rattle.sorted_pages.specs.Sorted.{IsRising};
 ghost use Rattle.sorted_pages.specs.Edges.{answer_of, begins_with, first_passes};
 ghost use Rattle.sorted_pages.specs.Ranges.{from_span, until_span};
 
-use crate::block::{Page, Run, greatest_of};
-use crate::edge::{AtFirst, AtLast, Before, Test, Until, split_at_edge, split_before_edge};
-use crate::entry::{Entry, Span};
+use crate::block::{Block, greatest_of};
+use crate::edge::{Before, Test, Until, split_at_edge, split_before_edge};
+use crate::entry::{Entry, Peaked, Span};
 use crate::laying::split_first_block;
+use crate::level::{Group, Leaf, Level, Page, Run};
 use std::marker::Model;
+use std::sync::Arc;
 
 /// Entries that stand next to one another in a sorted list. It takes no memory.
 ///
 /// Contracts see the list of those still to come.
 #[derive(Drop)]
 pub struct Range<'a, E: Entry> {
-    entries: &'a [E],
-    pages: &'a [Page<E>],
-    runs: &'a [Run<E>],
-    last_pages: &'a [Page<E>],
-    last_entries: &'a [E],
+    front: Front<'a, E>,
+    back: Back<'a, E>,
 }
 
 impl<'a, E: Entry> Model for Range<'a, E> {
-    ghost use Rattle.std.specs.Prelude.{List};
-    ghost use Rattle.sorted_pages.specs.Pages.{listed};
+    ghost use Rattle.std.specs.Prelude.{List, ◌++◌};
+    ghost use Rattle.sorted_pages.specs.Pages.{ahead, behind};
 
     ghost Value = { List E };
 
-    ghost view = { λ r. listed r.entries.now r.pages.now r.runs.now r.last_pages.now r.last_entries.now };
+    ghost view = { λ r. ahead r.front.entries.now r.front.pages.now r.front.runs.now r.front.groups.now
+        ++ behind r.back.runs.now r.back.pages.now r.back.entries.now };
 }
 
-impl<'a, E: Entry> Range<'a, E> {
-    /// The greatest of the numbers of the entries still to come, or 0.
-    ///
-    /// It looks at the pages' own numbers, and at no entry of a page that is in the range as a whole.
-    pub fn greatest(&self) -> u64
-        ensures { result ≡ greatest E.peak self.now }
-    {
-        let front = greatest_of(self.entries).max(greatest_of(self.pages));
-        let back = greatest_of(self.last_pages).max(greatest_of(self.last_entries));
-        front.max(greatest_of(self.runs)).max(back)
-    }
-}
-
-/// Parts of a sorted list that follow one another.
+/// The entries from some place on: the rest of a page, of a run, of a group and of the list.
 #[derive(Drop)]
-struct Parts<'a, E: Entry> {
-    entries: &'a [E],
-    pages: &'a [Page<E>],
-    runs: &'a [Run<E>],
-    last_pages: &'a [Page<E>],
-    last_entries: &'a [E],
+pub(crate) struct Front<'a, E: Entry> {
+    pub(crate) entries: &'a [Leaf<E>],
+    pub(crate) pages: &'a [Page<E>],
+    pub(crate) runs: &'a [Run<E>],
+    pub(crate) groups: &'a [Group<E>],
 }
 
-/// The same parts, with the first entry, if there is one, in the first part.
-fn from_first<'a, E: Entry>(parts: Parts<'a, E>) -> Parts<'a, E>
-    ensures same { listed result.entries.now result.pages.now result.runs.now
-        result.last_pages.now result.last_entries.now
-        ≡ listed parts.entry.entries.now parts.entry.pages.now parts.entry.runs.now
-        parts.entry.last_pages.now parts.entry.last_entries.now }
-    ensures some { length result.entries.now ≡ 0
-        → listed parts.entry.entries.now parts.entry.pages.now parts.entry.runs.now
-        parts.entry.last_pages.now parts.entry.last_entries.now ≡ [] }
+/// The entries up to some place: the first runs of a group, pages of a run and entries of a page.
+#[derive(Drop)]
+struct Back<'a, E: Entry> {
+    runs: &'a [Run<E>],
+    pages: &'a [Page<E>],
+    entries: &'a [Leaf<E>],
+}
+
+/// The same items, with the first one, if there is one, among the first.
+fn refill<'a, T: Peaked>(
+    first: &'a [T],
+    blocks: &'a [Arc<Block<T>>],
+) -> (&'a [T], &'a [Arc<Block<T>>])
+    ensures empty { length first.now ≡ 0 → IsFirstBlock blocks.now result.0.now result.1.now }
+    ensures full { 0 < length first.now → (result.0.now ≡ first.now) × (result.1.now ≡ blocks.now) }
+    ensures none { length result.0.now ≡ 0 → (length first.now ≡ 0) × (length blocks.now ≡ 0) }
 {
-    if !parts.entries.is_empty() {
-        return parts;
+    if first.is_empty() {
+        split_first_block(blocks)
+    } else {
+        (first, blocks)
     }
-    if !parts.pages.is_empty() {
-        let (entries, pages) = split_first_block(parts.pages);
-        return Parts {
-            entries,
-            pages,
-            ..parts
-        };
+}
+
+/// The same entries, with a page, if there is one, among the pages.
+pub(crate) fn with_pages<'a, E: Entry>(front: Front<'a, E>) -> Front<'a, E>
+    ensures entries { result.entries.now ≡ front.entry.entries.now }
+    ensures same { ahead [] result.pages.now result.runs.now result.groups.now
+        ≡ ahead [] front.entry.pages.now front.entry.runs.now front.entry.groups.now }
+    ensures none { length result.pages.now ≡ 0
+        → ahead [] front.entry.pages.now front.entry.runs.now front.entry.groups.now ≡ [] }
+{
+    let (runs, groups) = refill(front.runs, front.groups);
+    let (pages, runs) = refill(front.pages, runs);
+    Front {
+        pages,
+        runs,
+        groups,
+        ..front
     }
-    if !parts.runs.is_empty() {
-        let (pages, runs) = split_first_block(parts.runs);
-        let (entries, pages) = split_first_block(pages);
-        return Parts {
-            entries,
-            pages,
-            runs,
-            ..parts
-        };
+}
+
+/// The same entries, with the first, if there is one, among those of the first page.
+pub(crate) fn with_entries<'a, E: Entry>(front: Front<'a, E>) -> Front<'a, E>
+    ensures same { ahead result.entries.now result.pages.now result.runs.now result.groups.now
+        ≡ ahead front.entry.entries.now front.entry.pages.now front.entry.runs.now front.entry.groups.now }
+    ensures none { length result.entries.now ≡ 0
+        → ahead front.entry.entries.now front.entry.pages.now front.entry.runs.now front.entry.groups.now ≡ [] }
+{
+    let front = with_pages(front);
+    let (entries, pages) = refill(front.entries, front.pages);
+    Front {
+        entries,
+        pages,
+        ..front
     }
-    if !parts.last_pages.is_empty() {
-        let (entries, last_pages) = split_first_block(parts.last_pages);
-        return Parts {
-            entries,
-            last_pages,
-            ..parts
-        };
+}
+
+/// The same entries, with the first, if there is one, in front: where nothing is left there, what is behind moves up.
+fn advanced<'a, E: Entry>(front: Front<'a, E>, back: Back<'a, E>) -> (Front<'a, E>, Back<'a, E>)
+    ensures same { ahead result.0.entries.now result.0.pages.now result.0.runs.now result.0.groups.now
+        ++ behind result.1.runs.now result.1.pages.now result.1.entries.now
+        ≡ ahead front.entry.entries.now front.entry.pages.now front.entry.runs.now front.entry.groups.now
+        ++ behind back.entry.runs.now back.entry.pages.now back.entry.entries.now }
+    ensures none { length result.0.entries.now ≡ 0
+        → ahead front.entry.entries.now front.entry.pages.now front.entry.runs.now front.entry.groups.now
+        ++ behind back.entry.runs.now back.entry.pages.now back.entry.entries.now ≡ [] }
+{
+    let front = with_entries(front);
+    if !front.entries.is_empty() {
+        return (front, back);
     }
-    Parts {
-        entries: parts.last_entries,
-        last_entries: &[],
-        ..parts
+    let front = with_entries(Front {
+        entries: &[],
+        pages: &[],
+        runs: back.runs,
+        groups: &[],
+    });
+    let back = Back { runs: &[], ..back };
+    if !front.entries.is_empty() {
+        return (front, back);
     }
+    let front = with_entries(Front {
+        entries: &[],
+        pages: back.pages,
+        runs: &[],
+        groups: &[],
+    });
+    let back = Back { pages: &[], ..back };
+    if !front.entries.is_empty() {
+        return (front, back);
+    }
+    let front = Front {
+        entries: back.entries,
+        pages: &[],
+        runs: &[],
+        groups: &[],
+    };
+    (
+        front,
+        Back {
+            entries: &[],
+            ..back
+        },
+    )
 }
 
 impl<'a, E: Entry> Iterator for Range<'a, E> {
@@ -111,163 +159,212 @@ impl<'a, E: Entry> Iterator for Range<'a, E> {
     ghost remaining = { item_count (λ r. r) };
 
     fn next(&mut self) -> Option<&'a E> {
-        let parts = from_first(Parts {
-            entries: self.entries,
-            pages: self.pages,
-            runs: self.runs,
-            last_pages: self.last_pages,
-            last_entries: self.last_entries,
-        });
-        let (first, entries) = parts.entries.split_first()?;
-        *self = Range {
-            entries,
-            pages: parts.pages,
-            runs: parts.runs,
-            last_pages: parts.last_pages,
-            last_entries: parts.last_entries,
+        let front = Front {
+            entries: self.front.entries,
+            pages: self.front.pages,
+            runs: self.front.runs,
+            groups: self.front.groups,
         };
-        Some(first)
+        let back = Back {
+            runs: self.back.runs,
+            pages: self.back.pages,
+            entries: self.back.entries,
+        };
+        let (front, back) = advanced(front, back);
+        let (first, entries) = front.entries.split_first()?;
+        *self = Range {
+            front: Front { entries, ..front },
+            back,
+        };
+        Some(first.entry())
     }
 }
 
-/// All of these entries, in a row.
-pub(crate) fn in_a_row<'a, E: Entry>(
-    entries: &'a [E],
-    pages: &'a [Page<E>],
-    runs: &'a [Run<E>],
-) -> Range<'a, E>
-    ensures { result ≡ entries.now ++ (flat pages.now ++ all_of runs.now) }
-{
-    Range {
-        entries,
-        pages,
-        runs,
-        last_pages: &[],
-        last_entries: &[],
+impl<'a, E: Entry> Range<'a, E> {
+    /// The greatest of the numbers of the entries still to come, or 0.
+    ///
+    /// It looks at the pages' own numbers, and at no entry of a page that is in the range as a whole.
+    pub fn greatest(&self) -> u64
+        ensures { result ≡ greatest E.peak self.now }
+    {
+        greatest_ahead(&self.front).max(greatest_behind(&self.back))
     }
+}
+
+/// The greatest of the numbers of these entries, or 0.
+fn greatest_ahead<E: Entry>(front: &Front<'_, E>) -> u64
+    ensures { result ≡ greatest E.peak
+        (ahead front.now.entries.now front.now.pages.now front.now.runs.now front.now.groups.now) }
+{
+    let lower = greatest_of(front.entries).max(greatest_of(front.pages));
+    let upper = greatest_of(front.runs).max(greatest_of(front.groups));
+    lower.max(upper)
+}
+
+/// The greatest of the numbers of these entries, or 0.
+fn greatest_behind<E: Entry>(back: &Back<'_, E>) -> u64
+    ensures { result ≡ greatest E.peak (behind back.now.runs.now back.now.pages.now back.now.entries.now) }
+{
+    let lower = greatest_of(back.pages).max(greatest_of(back.entries));
+    greatest_of(back.runs).max(lower)
+}
+
+/// The items of the first block that does not stand before the range as a whole, and the blocks after it.
+fn blocks_from<'a, E: Entry, T: Level<E>, S: Span<E>>(
+    blocks: &'a [Arc<Block<T>>],
+    span: &S,
+) -> (&'a [T], &'a [Arc<Block<T>>])
+    requires { IsRising E.order (flat_map (held T.entries) blocks.now) }
+    ensures parts { from_span (S.side span.now) (flat_map T.entries result.0.now)
+        ++ flat_map (held T.entries) result.1.now
+        ≡ from_span (S.side span.now) (flat_map (held T.entries) blocks.now) }
+    ensures rises { IsRising E.order (flat_map T.entries result.0.now) }
+{
+    let (_, back) = split_at_edge(blocks, &Before(span));
+    split_first_block(back)
 }
 
 /// The entries from the first on that does not stand before the range.
-fn pages_from<'a, E: Entry, S: Span<E>>(pages: &'a [Page<E>], span: &S) -> (&'a [E], &'a [Page<E>])
-    requires { IsRising E.order (flat pages.now) }
-    ensures { result.0.now ++ flat result.1.now ≡ from_span (S.side span.now) (flat pages.now) }
+fn entries_from<'a, E: Entry, S: Span<E>>(entries: &'a [Leaf<E>], span: &S) -> &'a [Leaf<E>]
+    requires { IsRising E.order (flat_map single entries.now) }
+    ensures { flat_map single result.now ≡ from_span (S.side span.now) (flat_map single entries.now) }
 {
-    let before = Before(span);
-    let (_, back) = split_at_edge(pages, &AtLast(&before));
-    let (entries, rest) = split_first_block(back);
-    let (_, entries) = split_at_edge(entries, &before);
-    (entries, rest)
+    let (_, back) = split_at_edge(entries, &Before(span));
+    back
 }
 
-/// The same over runs.
-pub(crate) fn runs_from<'a, E: Entry, S: Span<E>>(
-    runs: &'a [Run<E>],
-    span: &S,
-) -> (&'a [E], &'a [Page<E>], &'a [Run<E>])
-    requires { IsRising E.order (all_of runs.now) }
-    ensures { result.0.now ++ (flat result.1.now ++ all_of result.2.now)
-        ≡ from_span (S.side span.now) (all_of runs.now) }
+/// All the entries from the first on that does not stand before the range.
+pub(crate) fn all_from<'a, E: Entry, S: Span<E>>(groups: &'a [Group<E>], span: &S) -> Front<'a, E>
+    requires { IsRising E.order (flat_map of_group groups.now) }
+    ensures { ahead result.entries.now result.pages.now result.runs.now result.groups.now
+        ≡ from_span (S.side span.now) (flat_map of_group groups.now) }
 {
-    let before = Before(span);
-    let (_, back) = split_at_edge(runs, &AtLast(&AtLast(&before)));
-    let (pages, rest) = split_first_block(back);
-    let (entries, pages) = pages_from(pages, span);
-    (entries, pages, rest)
+    let (runs, groups) = blocks_from(groups, span);
+    let (pages, runs) = blocks_from(runs, span);
+    let (entries, pages) = blocks_from(pages, span);
+    Front {
+        entries: entries_from(entries, span),
+        pages,
+        runs,
+        groups,
+    }
+}
+
+/// The blocks before the one in which the range ends, and the items of that one.
+fn blocks_until<'a, E: Entry, T: Level<E>, S: Span<E>>(
+    blocks: &'a [Arc<Block<T>>],
+    span: &S,
+) -> (&'a [Arc<Block<T>>], &'a [T])
+    requires { IsRising E.order (flat_map (held T.entries) blocks.now) }
+    ensures parts { flat_map (held T.entries) result.0.now
+        ++ until_span (S.side span.now) (flat_map T.entries result.1.now)
+        ≡ until_span (S.side span.now) (flat_map (held T.entries) blocks.now) }
+    ensures rises { IsRising E.order (flat_map T.entries result.1.now) }
+{
+    let (before, from) = split_before_edge(blocks, &Until(span));
+    let (items, _) = split_first_block(from);
+    (before, items)
 }
 
 /// The entries up to the first that stands past the range.
-fn entries_until<'a, E: Entry, S: Span<E>>(entries: &'a [E], span: &S) -> &'a [E]
-    requires { IsRising E.order entries.now }
-    ensures { result.now ≡ until_span (S.side span.now) entries.now }
+fn entries_until<'a, E: Entry, S: Span<E>>(entries: &'a [Leaf<E>], span: &S) -> &'a [Leaf<E>]
+    requires { IsRising E.order (flat_map single entries.now) }
+    ensures { flat_map single result.now ≡ until_span (S.side span.now) (flat_map single entries.now) }
 {
     let (front, _) = split_at_edge(entries, &Until(span));
     front
 }
 
 /// The same over pages.
-fn pages_until<'a, E: Entry, S: Span<E>>(pages: &'a [Page<E>], span: &S) -> (&'a [Page<E>], &'a [E])
-    requires { IsRising E.order (flat pages.now) }
-    ensures { flat result.0.now ++ result.1.now ≡ until_span (S.side span.now) (flat pages.now) }
+fn pages_until<'a, E: Entry, S: Span<E>>(
+    pages: &'a [Page<E>],
+    span: &S,
+) -> (&'a [Page<E>], &'a [Leaf<E>])
+    requires { IsRising E.order (flat_map of_page pages.now) }
+    ensures { flat_map of_page result.0.now ++ flat_map single result.1.now
+        ≡ until_span (S.side span.now) (flat_map of_page pages.now) }
 {
-    let (before, from) = split_before_edge(pages, &AtFirst(&Until(span)));
-    let (entries, _) = split_first_block(from);
-    (before, entries_until(entries, span))
+    let (pages, entries) = blocks_until(pages, span);
+    (pages, entries_until(entries, span))
 }
 
 /// The same over runs.
-fn runs_until<'a, E: Entry, S: Span<E>>(
-    runs: &'a [Run<E>],
-    span: &S,
-) -> (&'a [Run<E>], &'a [Page<E>], &'a [E])
-    requires { IsRising E.order (all_of runs.now) }
-    ensures { all_of result.0.now ++ (flat result.1.now ++ result.2.now)
-        ≡ until_span (S.side span.now) (all_of runs.now) }
+fn runs_until<'a, E: Entry, S: Span<E>>(runs: &'a [Run<E>], span: &S) -> Back<'a, E>
+    requires { IsRising E.order (flat_map of_run runs.now) }
+    ensures { behind result.runs.now result.pages.now result.entries.now
+        ≡ until_span (S.side span.now) (flat_map of_run runs.now) }
 {
-    let (before, from) = split_before_edge(runs, &AtFirst(&AtFirst(&Until(span))));
-    let (pages, _) = split_first_block(from);
+    let (runs, pages) = blocks_until(runs, span);
     let (pages, entries) = pages_until(pages, span);
-    (before, pages, entries)
+    Back {
+        runs,
+        pages,
+        entries,
+    }
 }
 
-/// Whether the first of the pages begins with an entry that is not past the range.
-fn reaches_pages<E: Entry, S: Span<E>>(pages: &[Page<E>], span: &S) -> bool
+/// Whether the first of the items begins with an entry that is not past the range.
+fn reaches<E: Entry, T: Level<E>, S: Span<E>>(items: &[T], span: &S) -> bool
     ensures { Holds (answer_of result
-        (first_passes (λ e. not (is_gt (S.side span.now e))) (flat pages.now))
-        (begins_with (λ e. is_gt (S.side span.now e)) (flat pages.now))) }
+        (first_passes (λ e. not (is_gt (S.side span.now e))) (flat_map T.entries items.now))
+        (begins_with (λ e. is_gt (S.side span.now e)) (flat_map T.entries items.now))) }
 {
-    match pages.first() {
-        Some(page) => AtFirst(&Until(span)).passes(page),
+    match items.first() {
+        Some(item) => Until(span).passes(item),
         None => false,
     }
 }
 
-/// The same of the first of the runs.
-fn reaches_runs<E: Entry, S: Span<E>>(runs: &[Run<E>], span: &S) -> bool
-    ensures { Holds (answer_of result
-        (first_passes (λ e. not (is_gt (S.side span.now e))) (all_of runs.now))
-        (begins_with (λ e. is_gt (S.side span.now e)) (all_of runs.now))) }
+/// The entries up to the first that stands past the range.
+pub(crate) fn all_until<'a, E: Entry, S: Span<E>>(front: Front<'a, E>, span: &S) -> Range<'a, E>
+    requires { IsRising E.order (ahead front.entries.now front.pages.now front.runs.now front.groups.now) }
+    ensures { result ≡ until_span (S.side span.now)
+        (ahead front.entry.entries.now front.entry.pages.now front.entry.runs.now front.entry.groups.now) }
 {
-    match runs.first() {
-        Some(run) => AtFirst(&AtFirst(&Until(span))).passes(run),
-        None => false,
-    }
-}
-
-/// The entries of all these up to the first that stands past the range.
-pub(crate) fn all_until<'a, E: Entry, S: Span<E>>(
-    entries: &'a [E],
-    pages: &'a [Page<E>],
-    runs: &'a [Run<E>],
-    span: &S,
-) -> Range<'a, E>
-    requires { IsRising E.order (entries.now ++ (flat pages.now ++ all_of runs.now)) }
-    ensures { result ≡ until_span (S.side span.now) (entries.now ++ (flat pages.now ++ all_of runs.now)) }
-{
-    if reaches_runs(runs, span) {
-        let (runs, last_pages, last_entries) = runs_until(runs, span);
+    if reaches(front.groups, span) {
+        let (groups, runs) = blocks_until(front.groups, span);
         return Range {
-            entries,
-            pages,
-            runs,
-            last_pages,
-            last_entries,
+            front: Front { groups, ..front },
+            back: runs_until(runs, span),
         };
     }
-    if reaches_pages(pages, span) {
-        let (pages, last_entries) = pages_until(pages, span);
+    if reaches(front.runs, span) {
         return Range {
-            entries,
-            pages,
-            runs: &[],
-            last_pages: &[],
-            last_entries,
+            front: Front {
+                runs: &[],
+                groups: &[],
+                ..front
+            },
+            back: runs_until(front.runs, span),
+        };
+    }
+    if reaches(front.pages, span) {
+        let (pages, entries) = pages_until(front.pages, span);
+        return Range {
+            front: Front {
+                pages,
+                runs: &[],
+                groups: &[],
+                ..front
+            },
+            back: Back {
+                runs: &[],
+                pages: &[],
+                entries,
+            },
         };
     }
     Range {
-        entries: entries_until(entries, span),
-        pages: &[],
-        runs: &[],
-        last_pages: &[],
-        last_entries: &[],
+        front: Front {
+            entries: entries_until(front.entries, span),
+            pages: &[],
+            runs: &[],
+            groups: &[],
+        },
+        back: Back {
+            runs: &[],
+            pages: &[],
+            entries: &[],
+        },
     }
 }

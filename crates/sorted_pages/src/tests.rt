@@ -273,23 +273,37 @@ fn seeded_changes_give_a_plain_list(rt: HostRuntime) -> Result<(), Fail> {
     Ok(())
 }
 
-#[test]
-fn a_range_goes_over_runs(rt: HostRuntime) -> Result<(), Fail> {
-    let list = filled(&rt, rt.alloc(), 10_000)?;
-    let from = make_item(60);
-    let until = make_item(9_000);
+/// Compares a range of a list of the keys up to a number with the keys from one on up to another.
+fn compare_range(rt: &impl Abort, list: &Paged<Item>, from: u64, until: u64) {
     let span = Between {
-        from: &from,
-        until: &until,
+        from: &make_item(from),
+        until: &make_item(until),
     };
-    let mut next = 60u64;
+    let mut next = from;
     for entry in list.range(&span) {
         assert!(rt; entry.key == next);
         next = next.wrapping_add(1);
     }
-    assert_eq!(rt; next, 9_000);
-    assert_eq!(rt; list.range(&span).greatest(), 8_999);
-    assert_eq!(rt; list.first_in(&span).copied(), Some(from));
+    assert!(rt; next == until);
+    assert!(rt; list.range(&span).greatest() == until.wrapping_sub(1));
+    assert!(rt; list.first_in(&span).copied() == Some(make_item(from)));
+}
+
+#[test]
+fn a_range_goes_over_runs(rt: HostRuntime) -> Result<(), Fail> {
+    let list = filled(&rt, rt.alloc(), 10_000)?;
+    compare_range(&rt, &list, 60, 9_000);
+    Ok(())
+}
+
+#[test]
+fn a_range_goes_over_groups(rt: HostRuntime) -> Result<(), Fail> {
+    let list = filled(&rt, rt.alloc(), 200_000)?;
+    compare_range(&rt, &list, 60, 199_000);
+    compare_range(&rt, &list, 70_000, 70_001);
+    let changes = changes_of(rt.alloc(), 65_000, 66_000, true)?;
+    let list = changed(&rt, rt.alloc(), &list, &changes)?;
+    compare_range(&rt, &list, 64_000, 140_000);
     Ok(())
 }
 

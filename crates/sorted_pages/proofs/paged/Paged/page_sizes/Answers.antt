@@ -1,11 +1,55 @@
-use Rattle.std.proofs.Common.{◌∙◌, subst, length}
-use Rattle.sorted_pages.specs.Pages.{flat, AddsSizes}
-use Rattle.sorted_pages.proofs.Sizes.{run_sizes_more}
+use Rattle.std.proofs.Common.{◌≡◌, ◌∙◌, ap, sym, subst, ◌+◌, ◌<◌, ◌≤◌, arith, sum, length, []}
+use Rattle.std.specs.List.{flat_map}
+use Rattle.std.specs.Arc.{arc_value}
+use Rattle.sorted_pages.specs.Pages.{of_group, ahead, AreSizes}
+use Rattle.sorted_pages.proofs.Sizes.{no_sizes, sizes_push, one_page}
 use Rattle.sorted_pages.proofs.paged.Paged.page_sizes.Goals as goal
 
-pub loop-run-preserved : goal.loop-run-preserved
-loop-run-preserved g c =
-    run_sizes_more c.loop-run.sizes.items c.push_sizes.new.sizes.items c.deref-run-items.result.now c.loop-run.run-index c.run-item.result
-    c.loop-run.invariant c.loop-run-test.true c.run-item.is
-    (subst (λ ps. AddsSizes c.loop-run.sizes.items c.push_sizes.new.sizes.items (length (flat ps)))
-    (c.items.ensures.items ∙ c.deref.ensures) c.in_ok-push_sizes.ensures)
+pub loop-page-init : goal.loop-page-init
+loop-page-init g c =
+    let none : c.new-sizes.result.items ≡ [] = c.new-sizes.ensures.items in
+    let zero : sum c.new-sizes.result.items ≡ 0 = ap sum none in
+    let all : length (ahead [] c.with_pages-left.result.pages.now c.with_pages-left.result.runs.now c.with_pages-left.result.groups.now) ≡ length c.args.self.now =
+    ap length (c.with_pages-left.ensures.same ∙ ap (flat_map of_group) c.deref.ensures.value ∙ c.self.view_is) in
+    record {
+      sizes = subst (λ ns. AreSizes ns (sum ns)) (sym none) no_sizes;
+      total = omega (arith, zero, all);
+      none = λ h. c.with_pages-left.ensures.same ∙ c.with_pages-left.ensures.none h;
+    }
+
+pub loop-page-smaller : goal.loop-page-smaller
+loop-page-smaller g c =
+    let same : length c.items.result.now ≡ length (arc_value c.in-Some.page.now) = ap length (c.items.ensures.items ∙ c.deref-in-Some.ensures) in
+    let held : length c.items.result.now ≡ length c.deref-in-Some.result.now = ap length c.items.ensures.items in
+    let page : length (ahead [] c.loop-page.left.pages.now c.loop-page.left.runs.now c.loop-page.left.groups.now) ≡ length (arc_value c.in-Some.page.now) + length (ahead [] c.in-Some.pages.now c.loop-page.left.runs.now c.loop-page.left.groups.now) =
+    one_page c.loop-page.left.pages.now c.in-Some.pages.now c.in-Some.page.now c.loop-page.left.runs.now c.loop-page.left.groups.now
+    c.in-Some.ensures.cases.0 in
+    let rest : length (ahead [] c.with_pages-left-in-Some.result.pages.now c.with_pages-left-in-Some.result.runs.now c.with_pages-left-in-Some.result.groups.now) ≡ length (ahead [] c.in-Some.pages.now c.loop-page.left.runs.now c.loop-page.left.groups.now) =
+    ap length c.with_pages-left-in-Some.ensures.same in
+    omega (arith, same, held, page, rest, c.items.ensures.some)
+
+pub loop-page-preserved : goal.loop-page-preserved
+loop-page-preserved g c =
+    let same : length c.items.result.now ≡ length (arc_value c.in-Some.page.now) = ap length (c.items.ensures.items ∙ c.deref-in-Some.ensures) in
+    let held : length c.items.result.now ≡ length c.deref-in-Some.result.now = ap length c.items.ensures.items in
+    let low : 0 < length c.items.result.now = omega (arith, held, c.items.ensures.some) in
+    let high : length c.items.result.now ≤ 64 = omega (arith, held, c.items.ensures.few) in
+    let page : length (ahead [] c.loop-page.left.pages.now c.loop-page.left.runs.now c.loop-page.left.groups.now) ≡ length (arc_value c.in-Some.page.now) + length (ahead [] c.in-Some.pages.now c.loop-page.left.runs.now c.loop-page.left.groups.now) =
+    one_page c.loop-page.left.pages.now c.in-Some.pages.now c.in-Some.page.now c.loop-page.left.runs.now c.loop-page.left.groups.now
+    c.in-Some.ensures.cases.0 in
+    let rest : length (ahead [] c.with_pages-left-in-Some.result.pages.now c.with_pages-left-in-Some.result.runs.now c.with_pages-left-in-Some.result.groups.now) ≡ length (ahead [] c.in-Some.pages.now c.loop-page.left.runs.now c.loop-page.left.groups.now) =
+    ap length c.with_pages-left-in-Some.ensures.same in
+    let next : AreSizes c.push.new.self.items (sum c.loop-page.sizes.items + length c.items.result.now) =
+    sizes_push c.loop-page.sizes.items c.push.new.self.items (sum c.loop-page.sizes.items) (length c.items.result.now)
+    c.loop-page.invariant.sizes low high c.in_ok-push.ensures.items in
+    record {
+      sizes = subst (λ n. AreSizes c.push.new.self.items n) (sym next.total) next;
+      total = omega (arith, next.total, same, page, rest, c.loop-page.invariant.total);
+      none = λ h. c.with_pages-left-in-Some.ensures.same ∙ c.with_pages-left-in-Some.ensures.none h;
+    }
+
+pub returns : goal.returns
+returns g c =
+    let rest : length (ahead [] c.loop-page.left.pages.now c.loop-page.left.runs.now c.loop-page.left.groups.now) ≡ 0 = ap length (c.loop-page.invariant.none c.in_default.ensures.cases) in
+    let all : sum c.loop-page.sizes.items ≡ length c.args.self.now = omega (arith, rest, c.loop-page.invariant.total) in
+    subst (λ n. AreSizes c.loop-page.sizes.items n) all c.loop-page.invariant.sizes

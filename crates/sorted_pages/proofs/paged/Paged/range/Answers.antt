@@ -1,5 +1,6 @@
 use Rattle.std.proofs.Common.{◌∙◌, ap, sym, subst}
-use Rattle.sorted_pages.specs.Pages.{all_of}
+use Rattle.std.specs.List.{flat_map}
+use Rattle.sorted_pages.specs.Pages.{of_group}
 use Rattle.sorted_pages.specs.Sorted.{IsRising}
 use Rattle.sorted_pages.specs.Ranges.{from_span, until_span, within}
 use Rattle.sorted_pages.proofs.Stretches.{rising-from, range_is}
@@ -7,12 +8,13 @@ use Rattle.sorted_pages.proofs.paged.Paged.range.Goals as goal
 
 pub all_until-requires : goal.all_until-requires
 all_until-requires g c =
-    subst (IsRising g.E.Entry.order) (sym (c.runs_from.ensures ∙ ap (λ rs. from_span (g.S.Span.side c.args.span.now) (all_of rs)) c.deref.ensures.value))
-    (rising-from g.E.Entry.order (g.S.Span.side c.args.span.now) (g.met.S.Span.is_monotone c.args.span.now) (all_of c.self.inside.runs.items) c.self.invariant)
+    subst (IsRising g.E.Entry.order)
+    (sym (c.all_from.ensures ∙ ap (λ gs. from_span (g.S.Span.side c.args.span.now) (flat_map of_group gs)) c.deref.ensures.value))
+    (rising-from g.E.Entry.order (g.S.Span.side c.args.span.now) (g.met.S.Span.is_monotone c.args.span.now) (flat_map of_group c.self.inside.groups.items) c.self.invariant)
 
-pub returns : goal.returns
-returns g c =
+pub returns-clause-entries : goal.returns-clause-entries
+returns-clause-entries g c =
     c.all_until.ensures ∙ ap (until_span (g.S.Span.side c.args.span.now))
-    (c.runs_from.ensures ∙ ap (λ rs. from_span (g.S.Span.side c.args.span.now) (all_of rs)) c.deref.ensures.value)
-    ∙ range_is g.E.Entry.order (g.S.Span.side c.args.span.now) (g.met.S.Span.is_monotone c.args.span.now) (all_of c.self.inside.runs.items) c.self.invariant
+    (c.all_from.ensures ∙ ap (λ gs. from_span (g.S.Span.side c.args.span.now) (flat_map of_group gs)) c.deref.ensures.value)
+    ∙ range_is g.E.Entry.order (g.S.Span.side c.args.span.now) (g.met.S.Span.is_monotone c.args.span.now) (flat_map of_group c.self.inside.groups.items) c.self.invariant
     ∙ ap (within (g.S.Span.side c.args.span.now)) c.self.view_is

@@ -1,0 +1,72 @@
+//! Lists that grow at their end. They allocate nothing but what they keep.
+ghost use Rattle.std.specs.Prelude.{◌≡◌, ◌++◌, List, IfOk, OnOk};
+ghost use Rattle.std.specs.List.{flat_map};
+
+use crate::block::Block;
+use crate::cutter::{Cutter, Layout};
+use crate::entry::{Entry, Peaked};
+use crate::level::Level;
+use std::alloc::{AllocError, Global};
+use std::sync::Arc;
+
+/// A list that grows by items of one level.
+pub(crate) trait Growing<E: Entry, T: Level<E>>: Drop {
+    ghost all: { Self → List E };
+
+    fn put(&mut self, item: T) -> Result<(), AllocError>
+        ensures { OnOk result (all self.new ≡ all self.old ++ T.entries item) };
+}
+
+impl<E: Entry, T: Level<E>> Growing<E, T> for Vec<T> {
+    ghost all = { λ items. flat_map T.entries items.items };
+
+    fn put(&mut self, item: T) -> Result<(), AllocError> {
+        self.push(item)?;
+        Ok(())
+    }
+}
+
+/// The items that stand in no block yet, over the list that takes the blocks.
+#[derive(Drop)]
+pub(crate) struct Tier<T: Peaked + Drop, U> {
+    above: U,
+    rest: Cutter<T>,
+}
+
+impl<E: Entry, T: Level<E>, U: Growing<E, Arc<Block<T>>>> Growing<E, T> for Tier<T, U> {
+    ghost all = { λ tier. U.all tier.above ++ flat_map T.entries tier.rest };
+
+    fn put(&mut self, item: T) -> Result<(), AllocError> {
+        if let Some(block) = self.rest.push(item)? {
+            self.above.put(block)?;
+        }
+        Ok(())
+    }
+}
+
+/// No item yet, over a list that takes blocks, with room for this many items in the first block.
+pub(crate) fn begin<E: Entry, T: Level<E>, U: Growing<E, Arc<Block<T>>>>(
+    alloc: Global,
+    layout: Layout,
+    room: usize,
+    above: U,
+) -> Result<Tier<T, U>, AllocError>
+    ensures { IfOk result (λ tier. U.all tier.above ++ flat_map T.entries tier.rest ≡ U.all above) }
+{
+    let mut rest = Cutter::new(alloc, layout, T::most());
+    rest.reserve(room)?;
+    Ok(Tier { above, rest })
+}
+
+/// The list above, with the items that stand in no block yet in one more.
+pub(crate) fn finish<E: Entry, T: Level<E>, U: Growing<E, Arc<Block<T>>>>(
+    tier: Tier<T, U>,
+) -> Result<U, AllocError>
+    ensures { IfOk result (λ above. U.all above ≡ U.all tier.above ++ flat_map T.entries tier.rest) }
+{
+    let Tier { mut above, rest } = tier;
+    if let Some(block) = rest.end()? {
+        above.put(block)?;
+    }
+    Ok(above)
+}

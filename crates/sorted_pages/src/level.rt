@@ -1,0 +1,116 @@
+//! The levels of a list: entries, pages of entries, runs of pages and groups of runs.
+ghost use Rattle.std.specs.Prelude.{◌≡◌, ◌≤◌, ℕ, List, IfOk};
+ghost use Rattle.sorted_pages.specs.Pages.{single, held, IsFirst, IsLast};
+
+use crate::block::Block;
+use crate::entry::{Entry, Peaked};
+use std::alloc::AllocError;
+use std::marker::Model;
+use std::sync::Arc;
+
+/// What stands at one level of a list. It holds at least one entry.
+pub(crate) trait Level<E: Entry>: Peaked + Drop {
+    ghost entries: { Self → List E };
+
+    /// The most of these that a block holds.
+    fn most() -> usize
+        ensures some { 2 ≤ result }
+        ensures few { result ≤ 64 };
+
+    fn first(&self) -> &E
+        ensures { IsFirst result.now (entries self.now) };
+
+    fn last(&self) -> &E
+        ensures { IsLast result.now (entries self.now) };
+
+    /// The same for one more block.
+    fn share(&self) -> Result<Self, AllocError>
+        ensures { IfOk result (λ item. entries item ≡ entries self.now) };
+}
+
+/// An entry, which is the lowest level.
+#[derive(Drop)]
+pub(crate) struct Leaf<E> {
+    entry: E,
+}
+
+impl<E> Model for Leaf<E> {
+    ghost Value = { E };
+
+    ghost view = { λ leaf. leaf.entry };
+}
+
+impl<E> Leaf<E> {
+    pub(crate) fn of(entry: E) -> Leaf<E>
+        ensures { result ≡ entry }
+    {
+        Leaf { entry }
+    }
+
+    pub(crate) fn entry(&self) -> &E
+        ensures { result.now ≡ self.now }
+    {
+        &self.entry
+    }
+}
+
+impl<E: Peaked> Peaked for Leaf<E> {
+    ghost peak = { λ leaf. E.peak leaf };
+
+    fn peak(&self) -> u64 {
+        self.entry.peak()
+    }
+}
+
+impl<E: Entry> Level<E> for Leaf<E> {
+    ghost entries = { λ leaf. single leaf };
+
+    fn most() -> usize {
+        64
+    }
+
+    fn first(&self) -> &E {
+        &self.entry
+    }
+
+    fn last(&self) -> &E {
+        &self.entry
+    }
+
+    fn share(&self) -> Result<Leaf<E>, AllocError> {
+        let entry = self.entry.share()?;
+        Ok(Leaf { entry })
+    }
+}
+
+impl<E: Entry, T: Level<E>> Level<E> for Arc<Block<T>> {
+    ghost entries = { λ block. held T.entries block };
+
+    fn most() -> usize {
+        32
+    }
+
+    fn first(&self) -> &E {
+        let block: &Block<T> = self;
+        block.first().first()
+    }
+
+    fn last(&self) -> &E {
+        let block: &Block<T> = self;
+        block.last().last()
+    }
+
+    fn share(&self) -> Result<Arc<Block<T>>, AllocError> {
+        let block = Arc::try_clone(self)?;
+        Ok(block)
+    }
+}
+
+/// Entries in one place in the order, which many lists may hold.
+pub(crate) type Page<E> = Arc<Block<Leaf<E>>>;
+
+/// Pages one after another.
+pub(crate) type Run<E> = Arc<Block<Page<E>>>;
+
+/// Runs one after another.
+pub(crate) type Group<E> = Arc<Block<Run<E>>>;
