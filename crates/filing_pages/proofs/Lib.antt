@@ -1,0 +1,2 @@
+pub mod NamedLists
+pub mod MapsOfChanges

@@ -1,0 +1,12 @@
+use Rattle.std.proofs.Common.{◌∙◌, ap, sym}
+use Rattle.std.specs.Prelude.{option_map}
+use Rattle.filing_model.specs.TextMap.{get}
+use Rattle.filing_model.proofs.TextMaps.{get-from_entries}
+use Rattle.filing_pages.proofs.NamedLists.{first_named}
+use Rattle.filing_pages.proofs.text_pages.TextPages.get_named.Goals as goal
+
+pub returns : goal.returns
+returns g c =
+    c.first_in.ensures ∙ first_named c.args.name.now c.self.inside.pages
+    ∙ ap (option_map (λ v. (c.args.name.now, v)))
+    (sym (get-from_entries c.self.inside.pages c.args.name.now) ∙ ap (λ m. get m c.args.name.now) c.self.view_is)

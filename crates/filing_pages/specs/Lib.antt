@@ -1,0 +1,2 @@
+pub mod MapChanges
+pub mod Spans

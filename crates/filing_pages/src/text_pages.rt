@@ -1,0 +1,139 @@
+//! A map from texts in shared pages.
+ghost use Rattle.std.specs.Prelude.{◌≡◌, T as Holds, map, option_copied, option_map, string_bytes, IfOk};
+ghost use Rattle.std.specs.FinMap.Entries.{is_sorted};
+ghost use Rattle.sorted_pages.specs.Changes.{entry_of};
+ghost use Rattle.filing_model.specs.Text.{text_cmp};
+ghost use Rattle.filing_model.specs.TextMap.{empty, get, insert};
+ghost use Rattle.filing_pages.specs.MapChanges.{map_with_changes};
+
+use crate::named::Named;
+use sorted_pages::{Change, Paged, Range, Span};
+use std::alloc::{AllocError, Global};
+use std::cmp::Ordering;
+use std::marker::Model;
+
+/// An unchanging map from texts, of which a changed copy shares the pages where nothing changed.
+///
+/// Contracts see the finite map.
+#[derive(Drop)]
+pub struct TextPages<V: Drop> {
+    pages: Paged<Named<V>>,
+}
+
+impl<V: Drop> Model for TextPages<V> {
+    ghost use Rattle.std.specs.Prelude.{T as Holds};
+    ghost use Rattle.std.specs.FinMap.Entries.{is_sorted};
+    ghost use Rattle.filing_model.specs.Text.{text_cmp};
+    ghost use Rattle.filing_model.specs.TextMap.{TextMap, from_entries};
+
+    ghost Value = { TextMap V };
+
+    ghost view = { λ m. from_entries m.pages };
+
+    ghost invariant = { λ m. Holds (is_sorted text_cmp m.pages) };
+}
+
+/// The range of one name.
+#[derive(Drop)]
+struct At<'a>(&'a str);
+
+impl<'a, V: Drop> Span<Named<V>> for At<'a> {
+    ghost use Rattle.filing_model.specs.Text.{text_cmp};
+    ghost use Rattle.filing_pages.specs.Spans.{name_is_monotone};
+
+    ghost side = { λ a n. text_cmp n.0 a.0.now };
+
+    ghost is_monotone = { λ a. name_is_monotone a.0.now };
+
+    fn side(&self, entry: &Named<V>) -> Ordering {
+        entry.name().cmp(self.0)
+    }
+}
+
+/// The range of all names.
+#[derive(Drop)]
+struct All;
+
+impl<V: Drop> Span<Named<V>> for All {
+    ghost use Rattle.std.specs.declared.cmp.Ordering.TheVariants.{Equal};
+    ghost use Rattle.filing_pages.specs.Spans.{all_is_monotone};
+
+    ghost side = { λ a n. Equal };
+
+    ghost is_monotone = { λ a. all_is_monotone };
+
+    fn side(&self, _: &Named<V>) -> Ordering {
+        Ordering::Equal
+    }
+}
+
+impl<V: Drop> TextPages<V> {
+    /// The map of nothing. It takes no memory.
+    pub fn new(alloc: Global) -> TextPages<V>
+        ensures { result ≡ empty }
+    {
+        TextPages {
+            pages: Paged::new(alloc),
+        }
+    }
+
+    /// The map of entries whose names rise.
+    pub fn of_sorted(alloc: Global, entries: Vec<Named<V>>) -> Result<TextPages<V>, AllocError>
+        requires { Holds (is_sorted text_cmp entries.items) }
+        ensures { IfOk result (λ m. m.entries ≡ entries.items) }
+    {
+        let pages = Paged::of_sorted(alloc, entries)?;
+        Ok(TextPages { pages })
+    }
+
+    /// The entry of a name. It takes no memory.
+    pub fn get_named(&self, name: &str) -> Option<&Named<V>>
+        ensures { option_copied result ≡ option_map (λ v. (name.now, v)) (get self.now name.now) }
+    {
+        self.pages.first_in(&At(name))
+    }
+
+    /// The value of a name. It takes no memory.
+    pub fn get(&self, name: &str) -> Option<&V>
+        ensures { option_copied result ≡ get self.now name.now }
+    {
+        let named = self.get_named(name)?;
+        Some(named.value())
+    }
+
+    /// A copy with changes whose names rise. This map stays as it is.
+    pub fn after(
+        &self,
+        alloc: Global,
+        changes: &[Change<Named<V>>],
+    ) -> Result<TextPages<V>, AllocError>
+        requires { Holds (is_sorted text_cmp (map entry_of changes.now)) }
+        ensures { IfOk result (λ m. m ≡ map_with_changes changes.now self.now) }
+    {
+        let pages = self.pages.after(alloc, changes)?;
+        Ok(TextPages { pages })
+    }
+
+    /// The same map once more, which shares all pages.
+    pub fn share(&self, alloc: Global) -> Result<TextPages<V>, AllocError>
+        ensures { IfOk result (λ m. m ≡ self.now) }
+    {
+        let changes = [];
+        self.after(alloc, &changes)
+    }
+
+    /// A copy with a value under a name. This map stays as it is.
+    pub fn with(&self, alloc: Global, name: String, value: V) -> Result<TextPages<V>, AllocError>
+        ensures { IfOk result (λ m. m ≡ insert self.now (string_bytes name) value) }
+    {
+        let entry = Named::new(alloc, name, value)?;
+        self.after(alloc, &[Change::Put(entry)])
+    }
+
+    /// The entries in byte order of their names. It takes no memory.
+    pub fn iter(&self) -> Range<'_, Named<V>>
+        ensures { result ≡ self.now.entries }
+    {
+        self.pages.range(&All)
+    }
+}
