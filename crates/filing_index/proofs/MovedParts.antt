@@ -1,0 +1,218 @@
+-- Which parts the stamps of moves stand in, and what they make of the stamps before.
+use Rattle.std.proofs.Common.{◌≡◌, ◌∙◌, ap, sym, subst, refl, ℕ, ◌≤◌, arith, Bool, true, false, cond, ◌&&◌, ◌||◌, List, [], ◌∷◌, ◌++◌, map, Option, Some, None, is_none, Ordering, Less, Equal, Greater, is_eq, true≢false}
+use Rattle.std.specs.Cmp.{Equal-is, tied_itself, tied_then, nat_cmp_total, eq_by_cmp_equiv}
+use Rattle.std.specs.List.{list_any, flat_map}
+use Rattle.std.specs.Option.{option_cmp, option_eq, option_map, option_map_or}
+use Rattle.std.specs.Ordering.{nat_cmp, ordering_then}
+use Rattle.sorted_pages.specs.declared.change.Change.TheVariants.{Put}
+use Rattle.sorted_pages.specs.Changes.{with_changes}
+use Rattle.filing_model.specs.Text.{Text, text_cmp, text_eq}
+use Rattle.filing_model.specs.Dimensions.{Dims, dims_cmp, dims_eq, concept_of, period_of}
+use Rattle.filing_model.specs.Facts.{Fact}
+use Rattle.filing_model.specs.Calls.{Asked, Any, Without, Exactly}
+use Rattle.filing_model.specs.Duplicates.{has_dims}
+use Rattle.filing_model.specs.Queries.{is_after, answers_query}
+use Rattle.filing_model.specs.Touches.{is_within}
+use Rattle.filing_model.proofs.Texts.{text_eq-sym}
+use Rattle.filing_model.proofs.DimensionSets.{dims_cmp-total, dims_cmp-Equal, nullable_Equal}
+use Rattle.filing_model.proofs.Tests.{both_are_equal}
+use Rattle.filing_index.specs.Moves.{Move, Part, Id, Cell, Range, is_moved, is_moved_in, stamped_by}
+use Rattle.filing_index.specs.Stamps.{Group, no_group, group_cmp, group_code, Stamp, stamp_cmp, stamps_of, stamps_if_there, stamps_of_move, stamps_of_moves, Between, is_upto, ids_side, among_side, part_among, stamp_in}
+use Rattle.std.proofs.lemmas.List.Folds.{list_any-append}
+use Rattle.filing_index.proofs.StampTies.{among_alike}
+use Rattle.filing_index.proofs.PutNumbers.{AllHave, put_all, AllHave-inserted, any-inserted}
+
+-- ---- tests
+
+or_false : (b : Bool) → (b || false) ≡ b
+or_false true = refl
+or_false false = refl
+
+and_true : (b : Bool) → (b && true) ≡ b
+and_true true = refl
+and_true false = refl
+
+implied : (n g r : Bool) → (g ≡ true → n ≡ true) → (n && (g && r)) ≡ (g && r)
+implied true g r f = refl
+implied false true r f = absurd (true≢false (sym (f refl)))
+implied false false r f = refl
+
+and_turned : (a b : Bool) → (a && b) ≡ (b && a)
+and_turned true true = refl
+and_turned true false = refl
+and_turned false true = refl
+and_turned false false = refl
+
+-- ---- one group and another
+
+group_cmp-Equal : (g h : Group) → group_cmp g h ≡ Equal → g ≡ h
+group_cmp-Equal g h e =
+    let one = both_are_equal (option_cmp dims_cmp g.dims h.dims) _ e in
+    let two = both_are_equal (option_cmp text_cmp g.concept h.concept) _ one.1 in
+    let dims = cells g.dims h.dims one.0 in
+    let concept = nullable_Equal g.concept h.concept two.0 in
+    let period = nullable_Equal g.period h.period two.1 in
+    λ i. record { dims = dims i; concept = concept i; period = period i }
+  where
+    cells : (x y : Option Dims) → option_cmp dims_cmp x y ≡ Equal → x ≡ y
+    cells None None e = refl
+    cells None (Some y) e = absurd (true≢false (sym (ap is_eq e)))
+    cells (Some x) None e = absurd (true≢false (sym (ap is_eq e)))
+    cells (Some x) (Some y) e = ap Some (dims_cmp-Equal x y e)
+
+-- groups that tie have one code, so the code decides nothing
+coded : (g h : Group) (r : Ordering)
+    → is_eq (ordering_then (nat_cmp (group_code g) (group_code h)) (ordering_then (group_cmp g h) r)) ≡ (is_eq (group_cmp g h) && is_eq r)
+coded g h r =
+    let codes : Ordering = nat_cmp (group_code g) (group_code h) in
+    let groups : Ordering = group_cmp g h in
+    sym (tied_then codes (ordering_then groups r)) ∙ ap (λ b. is_eq codes && b) (sym (tied_then groups r))
+    ∙ implied (is_eq codes) (is_eq groups) (is_eq r) (λ e.
+    ap (λ k. is_eq (nat_cmp (group_code g) (group_code k))) (sym (group_cmp-Equal g h ((Equal-is groups).0 e)))
+    ∙ ap is_eq (tied_itself nat_cmp_total (group_code g)))
+
+-- a text that may be missing, against one that is there
+ties_with : (o : Option Text) (t : Text) → is_eq (option_cmp text_cmp o (Some t)) ≡ option_eq text_eq (Some t) o
+ties_with None t = refl
+ties_with (Some c) t = text_eq-sym c t
+
+both_ways : (a b : Bool) → is_eq (cond a (cond b Equal Greater) Less) ≡ (a && b)
+both_ways true true = refl
+both_ways true false = refl
+both_ways false b = refl
+
+within_ties : (after upto : Option Text) (id : Text) → is_eq (ids_side (Between after upto) id) ≡ is_within after upto id
+within_ties after upto id = both_ways (is_after after id) (is_upto upto id)
+
+none_ties : (period : Option Text) → is_eq (option_cmp text_cmp period None) ≡ is_none period
+none_ties None = refl
+none_ties (Some x) = refl
+
+-- ---- the stamps of one fact
+
+-- whether a fact under its identifier stands in a part
+abbrev stands_in : Part → Text → Fact → Bool
+stands_in (Id x) id fact = text_eq x id
+stands_in (Cell dims) id fact = has_dims dims fact
+stands_in (Range sought upto) id fact = is_within sought.after upto id && answers_query sought.concept sought.period fact
+
+abbrev hits : Part → List Stamp → Bool
+hits part stamps = list_any (λ s. is_eq (among_side (part_among part) s)) stamps
+
+-- one of the groups of a fact against that of a part, with the same rank
+group_hits : (g h : Group) (r : Ordering) (group_ties ids_tie : Bool) → is_eq (group_cmp g h) ≡ group_ties → is_eq r ≡ ids_tie
+    → (is_eq (ordering_then (nat_cmp (group_code g) (group_code h)) (ordering_then (group_cmp g h) r)) || false) ≡ (group_ties && ids_tie)
+group_hits g h r a b ea eb = or_false _ ∙ coded g h r ∙ (λ i. ea i && eb i)
+
+cell_ties : (dims other : Dims) → is_eq (group_cmp (record no_group { dims = Some other }) (record no_group { dims = Some dims })) ≡ dims_eq dims other
+cell_ties dims other =
+    sym (tied_then (dims_cmp other dims) Equal) ∙ and_true (dims_eq other dims) ∙ (eq_by_cmp_equiv dims_cmp-total).symm other dims
+
+range_ties : (concept : Text) (c p q : Option Text)
+    → is_eq (group_cmp (record no_group { concept = c; period = p }) (record no_group { concept = Some concept; period = q }))
+    ≡ (option_eq text_eq (Some concept) c && is_eq (option_cmp text_cmp p q))
+range_ties concept c p q =
+    sym (tied_then (option_cmp text_cmp c (Some concept)) (option_cmp text_cmp p q)) ∙ ap (λ b. b && is_eq (option_cmp text_cmp p q)) (ties_with c concept)
+
+fact_hits : (part : Part) (n : ℕ) (id : Text) (fact : Fact) → hits part (stamps_of n (id, fact)) ≡ stands_in part id fact
+fact_hits (Id x) n id fact = group_hits no_group no_group (text_cmp id x) true (text_eq id x) refl refl ∙ text_eq-sym id x
+fact_hits (Cell dims) n id fact =
+    group_hits (record no_group { dims = Some fact.dims }) (record no_group { dims = Some dims }) Equal (dims_eq dims fact.dims) true
+    (cell_ties dims fact.dims) refl
+    ∙ and_true (dims_eq dims fact.dims)
+fact_hits (Range sought upto) n id fact = by sought.period
+  where
+    by : (asked : Asked) → hits (Range (record sought { period = asked }) upto) (stamps_of n (id, fact)) ≡ stands_in (Range (record sought { period = asked }) upto) id fact
+    by Any =
+        group_hits (record no_group { concept = concept_of fact.dims }) (record no_group { concept = Some sought.concept })
+        (ids_side (Between sought.after upto) id) _ _ (range_ties sought.concept (concept_of fact.dims) None None) (within_ties sought.after upto id)
+        ∙ and_turned _ (is_within sought.after upto id)
+    by Without =
+        group_hits (record no_group { concept = concept_of fact.dims; period = period_of fact.dims }) (record no_group { concept = Some sought.concept })
+        (ids_side (Between sought.after upto) id) _ _
+        (range_ties sought.concept (concept_of fact.dims) (period_of fact.dims) None
+        ∙ ap (λ b. option_eq text_eq (Some sought.concept) (concept_of fact.dims) && b) (none_ties (period_of fact.dims)))
+        (within_ties sought.after upto id)
+        ∙ and_turned _ (is_within sought.after upto id)
+    by (Exactly text) =
+        group_hits (record no_group { concept = concept_of fact.dims; period = period_of fact.dims })
+        (record no_group { concept = Some sought.concept; period = Some text })
+        (ids_side (Between sought.after upto) id) _ _
+        (range_ties sought.concept (concept_of fact.dims) (period_of fact.dims) (Some text)
+        ∙ ap (λ b. option_eq text_eq (Some sought.concept) (concept_of fact.dims) && b) (ties_with (period_of fact.dims) text))
+        (within_ties sought.after upto id)
+        ∙ and_turned _ (is_within sought.after upto id)
+
+-- ---- the stamps of moves
+
+if_there : (part : Part) (n : ℕ) (id : Text) (fact : Option Fact) → hits part (stamps_if_there n (option_map (λ f. (id, f)) fact)) ≡ option_map_or (stands_in part id) fact false
+if_there part n id None = refl
+if_there part n id (Some fact) = fact_hits part n id fact
+
+-- a test before one of two that may be missing
+either_both : {X : Type 0} (a : Bool) (p : X → Bool) (x y : Option X)
+    → (option_map_or (λ f. a && p f) x false || option_map_or (λ f. a && p f) y false) ≡ (a && (option_map_or p x false || option_map_or p y false))
+either_both true p x y = refl
+either_both false p None None = refl
+either_both false p None (Some y) = refl
+either_both false p (Some x) None = refl
+either_both false p (Some x) (Some y) = refl
+
+move_stands : (part : Part) (move : Move)
+    → (option_map_or (stands_in part move.id) move.old false || option_map_or (stands_in part move.id) move.new false) ≡ is_moved_in part move
+move_stands (Id x) move = ap (λ (b : Bool). b) (id_stands (text_eq x move.id) move.old move.new)
+  where
+    id_stands : (a : Bool) (old new : Option Fact)
+        → (option_map_or (λ f. a) old false || option_map_or (λ f. a) new false) ≡ (a && (option_map_or (λ f. true) old false || option_map_or (λ f. true) new false))
+    id_stands true old new = refl
+    id_stands false None None = refl
+    id_stands false None (Some y) = refl
+    id_stands false (Some x) None = refl
+    id_stands false (Some x) (Some y) = refl
+move_stands (Cell dims) move = refl
+move_stands (Range sought upto) move = either_both (is_within sought.after upto move.id) (answers_query sought.concept sought.period) move.old move.new
+
+moves_hit : (part : Part) (n : ℕ) (moves : List Move) → hits part (flat_map (stamps_of_move n) moves) ≡ is_moved moves part
+moves_hit part n [] = refl
+moves_hit part n (move ∷ moves) =
+    list_any-append (λ s. is_eq (among_side (part_among part) s)) (stamps_of_move n move) (flat_map (stamps_of_move n) moves)
+    ∙ (λ i. (list_any-append (λ s. is_eq (among_side (part_among part) s)) (stamps_if_there n (option_map (λ f. (move.id, f)) move.old)) (stamps_if_there n (option_map (λ f. (move.id, f)) move.new))
+    ∙ (λ j. if_there part n move.id move.old j || if_there part n move.id move.new j) ∙ move_stands part move) i || moves_hit part n moves i)
+
+fact_has : (n : ℕ) (id : Text) (fact : Option Fact) → AllHave (λ s. s.number) n (stamps_if_there n (option_map (λ f. (id, f)) fact))
+fact_has n id None = tt
+fact_has n id (Some fact) = (refl, (refl, (refl, (refl, tt))))
+
+both_have : (n : ℕ) (xs ys : List Stamp) → AllHave (λ s. s.number) n xs → AllHave (λ s. s.number) n ys → AllHave (λ s. s.number) n (xs ++ ys)
+both_have n [] ys a b = b
+both_have n (x ∷ xs) ys a b = (a.0, both_have n xs ys a.1 b)
+
+moves_have : (n : ℕ) (moves : List Move) → AllHave (λ s. s.number) n (flat_map (stamps_of_move n) moves)
+moves_have n [] = tt
+moves_have n (move ∷ moves) =
+    both_have n (stamps_of_move n move) (flat_map (stamps_of_move n) moves)
+    (both_have n (stamps_if_there n (option_map (λ f. (move.id, f)) move.old)) (stamps_if_there n (option_map (λ f. (move.id, f)) move.new)) (fact_has n move.id move.old) (fact_has n move.id move.new))
+    (moves_have n moves)
+
+-- stamps of moves that are put in: what they touch has their number, all else keeps its own
+pub stamped : (moves : List Move) (n : ℕ) (stamps : List Stamp) → ((part : Part) → stamp_in stamps part ≤ n)
+    → stamp_in (with_changes stamp_cmp (map Put (stamps_of_moves n moves)) stamps) ≡ stamped_by moves n (stamp_in stamps)
+stamped moves n stamps upto = λ i part. at part i
+  where
+    at : (part : Part) → stamp_in (with_changes stamp_cmp (map Put (stamps_of_moves n moves)) stamps) part ≡ stamped_by moves n (stamp_in stamps) part
+    at part =
+        put_all stamp_cmp (λ s. s.number) (among_side (part_among part)) (among_alike (part_among part)) n (stamps_of_moves n moves) stamps
+        (AllHave-inserted stamp_cmp (λ s. s.number) (among_side (part_among part)) (among_alike (part_among part)) n (flat_map (stamps_of_move n) moves) [] (moves_have n moves) tt)
+        (upto part)
+        ∙ ap (λ b. cond b n (stamp_in stamps part))
+        (any-inserted stamp_cmp (λ s. s.number) (among_side (part_among part)) (among_alike (part_among part)) (flat_map (stamps_of_move n) moves) []
+        ∙ or_false (hits part (flat_map (stamps_of_move n) moves)) ∙ moves_hit part n moves)
+
+-- no part has more than the number of the last moves
+pub stamped_upto : (moves : List Move) (n : ℕ) (old new : Part → ℕ) → ((part : Part) → old part ≤ n) → new ≡ stamped_by moves n old
+    → (part : Part) → new part ≤ n
+stamped_upto moves n old new h e part = subst (λ f. f part ≤ n) (sym e) (by (is_moved moves part))
+  where
+    by : (b : Bool) → cond b n (old part) ≤ n
+    by true = omega arith
+    by false = h part

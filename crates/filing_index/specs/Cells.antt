@@ -1,0 +1,47 @@
+-- Where facts may share a cell, and the least of some cells that is not allowed. The project's own.
+use Rattle.std.specs.Prelude.{Bool, false, cond, ◌==◌, List, [], ◌∷◌, map, Option, Some, None}
+use Rattle.std.specs.List.{filter}
+use Rattle.std.specs.Borrow.{Bor}
+use Rattle.filing_model.specs.Text.{Text}
+use Rattle.filing_model.specs.TextMap.{TextMap}
+use Rattle.filing_model.specs.Dimensions.{Dims, dims_eq}
+use Rattle.filing_model.specs.Facts.{Fact}
+use Rattle.filing_model.specs.Duplicates.{facts_of, is_disallowed, least_dims}
+use Rattle.filing_model.specs.declared.duplicates.Allowed.{Allowed}
+use Rattle.filing_index.specs.Index.{Coded}
+
+-- ---- the facts that may not be alone in their cell
+
+-- whether an entry, where there is one, has the code of another
+abbrev pub shares_code : Option Coded → Coded → Bool
+shares_code None e = false
+shares_code (Some other) e = other.0.0 == e.0.0
+
+abbrev pub first_of : List Coded → Option Coded
+first_of [] = None
+first_of (e ∷ es) = Some e
+
+-- the facts that stand right before another one of their code
+abbrev pub crowded : List Coded → List (Text × Fact)
+crowded [] = []
+crowded (e ∷ es) = cond (shares_code (first_of es) e) ((e.0.1, e.1) ∷ crowded es) (crowded es)
+
+-- the same of an entry, where there is one, and those ahead of it
+abbrev pub crowded_from : Option Coded → List Coded → List (Text × Fact)
+crowded_from None ahead = []
+crowded_from (Some e) ahead = crowded (e ∷ ahead)
+
+-- ---- the least cell
+
+-- whether these are the dimensions, where there are any
+abbrev pub are_these : Option Dims → Dims → Bool
+are_these None dims = false
+are_these (Some others) dims = dims_eq others dims
+
+-- the facts behind some references
+abbrev pub facts_given : List (Bor (Text × Fact)) → List Fact
+facts_given given = map (λ e. e.now.1) given
+
+-- the least dimensions of these facts whose cell is not allowed in a report that has all
+abbrev pub least_among_facts : List Fact → Allowed → TextMap Fact → Option Dims
+least_among_facts facts a all = least_dims (filter (is_disallowed a (facts_of all.entries)) (map (λ f. f.dims) facts))

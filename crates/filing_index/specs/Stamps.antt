@@ -1,0 +1,164 @@
+-- The stamps of one report: what touched facts leave behind, each with the number of the last touch. The project's own.
+use Rattle.std.specs.Prelude.{ℕ, Bool, true, cond, not, fold, List, [], ◌∷◌, ◌++◌, Option, Some, None}
+use Rattle.std.specs.BTreeSet.{insert_key}
+use Rattle.std.specs.Hash as fed
+use Rattle.std.specs.Hash.{HashWrites}
+use Rattle.std.specs.Hash.DefaultHasher as sip
+use Rattle.std.specs.List.{flat_map}
+use Rattle.std.specs.Option.{option_cmp, option_map, option_map_or}
+use Rattle.std.specs.Ordering.{on, then_cmp, ordering_then, nat_cmp, is_lt}
+use Rattle.std.specs.declared.cmp.Ordering.{Ordering}
+use Rattle.std.specs.declared.cmp.Ordering.TheVariants.{Less, Equal, Greater}
+use Rattle.sorted_pages.specs.Pages.{greatest}
+use Rattle.sorted_pages.specs.Ranges.{within}
+use Rattle.filing_model.specs.Text.{Text, text_cmp}
+use Rattle.filing_model.specs.Dimensions.{Dims, dims_cmp, dims_hash, concept_of, period_of}
+use Rattle.filing_model.specs.Facts.{Fact}
+use Rattle.filing_model.specs.Queries.{is_after}
+use Rattle.filing_model.specs.Calls.{Asked, Any, Without, Exactly}
+use Rattle.filing_index.specs.Moves.{Move, Part, Id, Cell, Range}
+use Rattle.filing_index.specs.declared.stamp.StampKind.{StampKind}
+use Rattle.filing_index.specs.declared.stamp.StampKind.TheVariants as kind
+
+-- ---- stamps and their order
+
+-- what a stamp looks at in the dimensions of a fact
+pub record Group : Type 0 where
+  pub dims : Option Dims
+  pub concept : Option Text
+  pub period : Option Text
+
+abbrev pub no_group : Group
+no_group = record { dims = None; concept = None; period = None }
+
+abbrev pub group_cmp : Group → Group → Ordering
+group_cmp =
+    then_cmp (on (λ g. g.dims) (option_cmp dims_cmp)) (then_cmp (on (λ g. g.concept) (option_cmp text_cmp)) (on (λ g. g.period) (option_cmp text_cmp)))
+
+-- what a hasher is fed of a group
+abbrev pub group_hash : Group → HashWrites
+group_hash group =
+    fed.option dims_hash group.dims ++ (fed.option fed.str group.concept ++ fed.option fed.str group.period)
+
+-- the hash of a group, by std's hasher
+unfoldable pub group_code : Group → ℕ
+group_code group = sip.finish (fold sip.write sip.initial (group_hash group))
+
+-- the rank of its kind, the code of its group, the group, an identifier or nothing, and the number of the last touch
+pub record Stamp : Type 0 where
+  pub rank : ℕ
+  pub code : ℕ
+  pub group : Group
+  pub id : Text
+  pub number : ℕ
+
+-- the code comes early because it is fast to compare. The number takes no part
+abbrev pub stamp_cmp : Stamp → Stamp → Ordering
+stamp_cmp =
+    then_cmp (on (λ s. s.rank) nat_cmp) (then_cmp (on (λ s. s.code) nat_cmp)
+    (then_cmp (on (λ s. s.group) group_cmp) (on (λ s. s.id) text_cmp)))
+
+-- ---- the stamps that a fact leaves
+
+abbrev pub rank_of : StampKind → ℕ
+rank_of kind.Identifier = 0
+rank_of kind.Cell = 1
+rank_of kind.AnyPeriod = 2
+rank_of kind.OnePeriod = 3
+
+abbrev pub group_of : StampKind → Dims → Group
+group_of kind.Identifier dims = no_group
+group_of kind.Cell dims = record no_group { dims = Some dims }
+group_of kind.AnyPeriod dims = record no_group { concept = concept_of dims }
+group_of kind.OnePeriod dims = record no_group { concept = concept_of dims; period = period_of dims }
+
+-- a cell has one stamp for all its identifiers
+abbrev pub id_of : StampKind → Text → Text
+id_of kind.Identifier id = id
+id_of kind.Cell id = []
+id_of kind.AnyPeriod id = id
+id_of kind.OnePeriod id = id
+
+-- the stamp of a kind that a fact under its identifier leaves
+abbrev pub stamp_of : StampKind → ℕ → ℕ → Text × Fact → Stamp
+stamp_of stamp_kind code number held =
+    record { rank = rank_of stamp_kind; code = code; group = group_of stamp_kind held.1.dims; id = id_of stamp_kind held.0; number = number }
+
+-- the same, under the code of its group
+abbrev pub coded_stamp : StampKind → ℕ → Text × Fact → Stamp
+coded_stamp stamp_kind number held = stamp_of stamp_kind (group_code (group_of stamp_kind held.1.dims)) number held
+
+-- one of each kind
+abbrev pub stamps_of : ℕ → Text × Fact → List Stamp
+stamps_of number held =
+    coded_stamp kind.Identifier number held ∷ coded_stamp kind.Cell number held ∷ coded_stamp kind.AnyPeriod number held
+    ∷ coded_stamp kind.OnePeriod number held ∷ []
+
+abbrev pub stamps_if_there : ℕ → Option (Text × Fact) → List Stamp
+stamps_if_there number None = []
+stamps_if_there number (Some held) = stamps_of number held
+
+-- of the fact before and of the fact after
+abbrev pub stamps_of_move : ℕ → Move → List Stamp
+stamps_of_move number move =
+    stamps_if_there number (option_map (λ f. (move.id, f)) move.old) ++ stamps_if_there number (option_map (λ f. (move.id, f)) move.new)
+
+-- entries in order with others, each in its place. One that ties stays
+abbrev pub inserted : {E : Type 0} → (E → E → Ordering) → List E → List E → List E
+inserted R es [] = es
+inserted R es (x ∷ xs) = inserted R (insert_key R es x) xs
+
+-- each that moves leave, once
+abbrev pub stamps_of_moves : ℕ → List Move → List Stamp
+stamps_of_moves number moves = inserted stamp_cmp [] (flat_map (stamps_of_move number) moves)
+
+-- ---- the stamp of a part
+
+-- one identifier; or those greater than one, where it is given, and not greater than another, where that is given
+pub data IdRange : Type 0 where
+  Only : Text → IdRange
+  Between : Option Text → Option Text → IdRange
+
+abbrev pub is_upto : Option Text → Text → Bool
+is_upto upto id = option_map_or (λ last. not (is_lt (text_cmp last id))) upto true
+
+-- how an identifier stands to such a range
+abbrev pub ids_side : IdRange → Text → Ordering
+ids_side (Only id) other = text_cmp other id
+ids_side (Between after upto) id = cond (is_after after id) (cond (is_upto upto id) Equal Greater) Less
+
+-- the stamps of one kind and group with identifiers in a range
+pub record Among : Type 0 where
+  pub rank : ℕ
+  pub group : Group
+  pub ids : IdRange
+
+-- how a stamp stands to them
+abbrev pub among_side : Among → Stamp → Ordering
+among_side among s =
+    ordering_then (nat_cmp s.rank among.rank) (ordering_then (nat_cmp s.code (group_code among.group))
+    (ordering_then (group_cmp s.group among.group) (ids_side among.ids s.id)))
+
+abbrev pub asked_kind : Asked → StampKind
+asked_kind Any = kind.AnyPeriod
+asked_kind Without = kind.OnePeriod
+asked_kind (Exactly text) = kind.OnePeriod
+
+abbrev pub asked_period : Asked → Option Text
+asked_period Any = None
+asked_period Without = None
+asked_period (Exactly text) = Some text
+
+-- those of a part
+abbrev pub part_among : Part → Among
+part_among (Id id) = record { rank = rank_of kind.Identifier; group = no_group; ids = Only id }
+part_among (Cell dims) = record { rank = rank_of kind.Cell; group = record no_group { dims = Some dims }; ids = Between None None }
+part_among (Range sought upto) = record {
+  rank = rank_of (asked_kind sought.period);
+  group = record no_group { concept = Some sought.concept; period = asked_period sought.period };
+  ids = Between sought.after upto;
+}
+
+-- the number of the last touch of a part, or 0 where none was
+abbrev pub stamp_in : List Stamp → Part → ℕ
+stamp_in stamps part = greatest (λ s. s.number) (within (among_side (part_among part)) stamps)

@@ -1,0 +1,178 @@
+//! The class of a cell, and the least of the cells that are not allowed, out of the index by dimensions. It takes no memory.
+ghost use Rattle.std.specs.Prelude.{◌≡◌, [], ◌∷◌, List, option_map};
+ghost use Rattle.std.specs.List.{filter, fold};
+ghost use Rattle.std.specs.Iterator.{IsFinite, Drains, YieldsFirstRef, item_count};
+ghost use Rattle.std.specs.Borrow.{Bor};
+ghost use Rattle.sorted_pages.specs.Sorted.{IsRising};
+ghost use Rattle.filing_model.specs.Text.{Text};
+ghost use Rattle.filing_model.specs.TextMap.{TextMap};
+ghost use Rattle.filing_model.specs.Facts.{Fact as PlainFact};
+ghost use Rattle.filing_model.specs.Duplicates.{class_of, facts_of, is_disallowed, lesser_dims, least_disallowed};
+ghost use Rattle.filing_model.specs.Queries.{cell_facts};
+ghost use Rattle.filing_index.specs.Codes.{cell_code};
+ghost use Rattle.filing_index.specs.Index.{coded_cmp, IsIndex};
+ghost use Rattle.filing_index.specs.Cells.{shares_code, crowded, are_these, facts_given, least_among_facts};
+
+use crate::coded::Coded;
+use crate::found::{All, Found};
+use crate::wanted::Wanted;
+use filing_pages::{Held, Named};
+use oim_fact::{Allowed, Class, DimSet, allows, class_over};
+use sorted_pages::{Paged, Range};
+use std::marker::Model;
+
+/// The class of the facts with these dimensions.
+pub(crate) fn class_in(index: &Paged<Coded>, dims: &DimSet) -> Class
+    ensures { (facts : TextMap PlainFact) → IsIndex cell_code facts index.now
+        → result ≡ class_of (cell_facts dims.now facts) }
+{
+    let cell = Found::of(index, Wanted::Cell(dims), None);
+    class_over(cell.map(|held| held.value().fact()))
+}
+
+fn dims_of<'a>(held: &'a Named<Held>) -> &'a DimSet
+    ensures { result.now ≡ held.now.1.dims }
+{
+    &held.value().fact().dims
+}
+
+/// Whether an entry, where there is one, has the code of another.
+fn shares_code(other: Option<&Coded>, entry: &Coded) -> bool
+    ensures { result ≡ shares_code (option_map (λ e. e.now) other.entry) entry.now }
+{
+    match other {
+        Some(other) => other.code() == entry.code(),
+        None => false,
+    }
+}
+
+/// A walk over an index that stops at each fact right before another one of its code.
+///
+/// A fact that is alone under its code is alone in its cell, and costs no look-up. Of each cell of two facts or more it meets all but the last. Contracts see the list of the facts still to come.
+#[derive(Drop)]
+struct Crowded<'a> {
+    here: Option<&'a Coded>,
+    ahead: Range<'a, Coded>,
+}
+
+impl<'a> Model for Crowded<'a> {
+    ghost use Rattle.std.specs.Prelude.{List, option_map};
+    ghost use Rattle.filing_model.specs.Text.{Text};
+    ghost use Rattle.filing_model.specs.Facts.{Fact as PlainFact};
+
+    ghost Value = { List (Text × PlainFact) };
+
+    ghost use Rattle.filing_index.specs.Cells.{crowded_from};
+
+    ghost view = { λ w. crowded_from (option_map (λ e. e.now) w.here) w.ahead };
+}
+
+impl<'a> Crowded<'a> {
+    fn of(index: &'a Paged<Coded>) -> Crowded<'a>
+        ensures facts { result ≡ crowded index.now }
+        ensures rising { IsRising coded_cmp index.now }
+    {
+        let mut ahead = index.range(&All);
+        let here = ahead.next();
+        Crowded { here, ahead }
+    }
+}
+
+impl<'a> Iterator for Crowded<'a> {
+    type Item = &'a Named<Held>;
+
+    ghost next_gives = { YieldsFirstRef (λ w. w) };
+
+    ghost remaining = { item_count (λ w. w) };
+
+    fn next(&mut self) -> Option<&'a Named<Held>> {
+        while let Some(entry) = self.here {
+            self.here = self.ahead.next();
+            if shares_code(self.here, entry) {
+                return Some(entry.held());
+            }
+        }
+        None
+    }
+}
+
+/// Whether these are the dimensions, where there are any.
+fn are_these(others: Option<&DimSet>, dims: &DimSet) -> bool
+    ensures { result ≡ are_these (option_map (λ d. d.now) others.entry) dims.now }
+{
+    match others {
+        Some(others) => others == dims,
+        None => false,
+    }
+}
+
+/// The lesser of two dimension sets, where there is a first.
+fn lesser<'a>(least: Option<&'a DimSet>, dims: &'a DimSet) -> Option<&'a DimSet>
+    ensures { option_map (λ d. d.now) result ≡ lesser_dims (option_map (λ d. d.now) least.entry) dims.now }
+{
+    match least {
+        None => Some(dims),
+        Some(least) => {
+            if dims < least {
+                Some(dims)
+            } else {
+                Some(least)
+            }
+        }
+    }
+}
+
+/// The lesser of the least so far and these dimensions, where their cell is not allowed.
+pub(crate) fn with_cell<'a>(
+    index: &Paged<Coded>,
+    allowed: Allowed,
+    least: Option<&'a DimSet>,
+    dims: &'a DimSet,
+) -> Option<&'a DimSet>
+    ensures { (facts : TextMap PlainFact) → IsIndex cell_code facts index.now
+        → option_map (λ d. d.now) result
+        ≡ fold lesser_dims (option_map (λ d. d.now) least.entry)
+        (filter (is_disallowed allowed (facts_of facts.entries)) (dims.now ∷ [])) }
+{
+    if allows(allowed, class_in(index, dims)) {
+        return least;
+    }
+    lesser(least, dims)
+}
+
+/// The least dimensions of some facts whose cell is not allowed. The iterator has to end.
+///
+/// A cell is looked at once for all of its facts that come one after another.
+pub(crate) fn least_disallowed_among<'a, I: Iterator<Item = &'a Named<Held>> + Drop>(
+    index: &Paged<Coded>,
+    allowed: Allowed,
+    facts: I,
+) -> Option<&'a DimSet>
+    requires can { I.can_next facts }
+    requires ends { IsFinite (I.remaining facts) }
+    ensures { (given : List (Bor (Text × PlainFact))) × Drains I.next_gives facts given
+        × ((all : TextMap PlainFact) → IsIndex cell_code all index.now
+        → option_map (λ d. d.now) result ≡ least_among_facts (facts_given given) allowed all) }
+{
+    let mut least = None;
+    let mut before = None;
+    for held in facts {
+        let dims = dims_of(held);
+        if !are_these(before, dims) {
+            least = with_cell(index, allowed, least, dims);
+        }
+        before = Some(dims);
+    }
+    least
+}
+
+/// The least dimensions of all facts whose cell is not allowed.
+pub(crate) fn least_disallowed<'a>(index: &'a Paged<Coded>, allowed: Allowed) -> Option<&'a DimSet>
+    ensures { (facts : TextMap PlainFact) → IsIndex cell_code facts index.now
+        → option_map (λ d. d.now) result ≡ least_disallowed allowed facts.entries }
+{
+    if matches!(allowed, Allowed::All) {
+        return None;
+    }
+    least_disallowed_among(index, allowed, Crowded::of(index))
+}

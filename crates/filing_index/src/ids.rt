@@ -1,0 +1,75 @@
+//! The identifiers of what is found.
+ghost use Rattle.std.specs.Prelude.{◌≡◌, option_map};
+ghost use Rattle.std.specs.Iterator.{YieldsFirstRef, item_count};
+ghost use Rattle.filing_model.specs.Facts.{Fact as PlainFact};
+ghost use Rattle.filing_model.specs.TextMap.{TextMap};
+ghost use Rattle.filing_model.specs.Queries.{cell_ids, ids_for};
+ghost use Rattle.filing_index.specs.Codes.{cell_code, query_code};
+ghost use Rattle.filing_index.specs.Index.{IsIndex};
+ghost use Rattle.filing_index.specs.Wanted.{asked_of};
+
+use crate::coded::Coded;
+use crate::found::Found;
+use crate::wanted::{Asked, Wanted};
+use oim_fact::DimSet;
+use sorted_pages::Paged;
+use std::marker::Model;
+
+/// Identifiers of facts, in byte order. It takes no memory.
+///
+/// Contracts see the list of those still to come.
+#[derive(Drop)]
+pub struct Ids<'a> {
+    facts: Found<'a>,
+}
+
+impl<'a> Model for Ids<'a> {
+    ghost use Rattle.std.specs.Prelude.{List, map};
+    ghost use Rattle.filing_model.specs.Text.{Text};
+
+    ghost Value = { List Text };
+
+    ghost view = { λ i. map (λ e. e.0) i.facts };
+}
+
+impl<'a> Ids<'a> {
+    /// Those of a cell, out of the index by dimensions.
+    pub(crate) fn of_cell(index: &'a Paged<Coded>, dims: &'a DimSet) -> Ids<'a>
+        ensures { (facts : TextMap PlainFact) → IsIndex cell_code facts index.now
+            → result ≡ cell_ids dims.now facts }
+    {
+        let facts = Found::of(index, Wanted::Cell(dims), None);
+        Ids { facts }
+    }
+
+    /// Those of a query that are greater than one where one is given, out of the index by which such a query is answered.
+    pub(crate) fn of_query(
+        index: &'a Paged<Coded>,
+        concept: &'a str,
+        period: Asked<'a>,
+        after: Option<&str>,
+    ) -> Ids<'a>
+        ensures { (facts : TextMap PlainFact) → IsIndex (query_code (asked_of period.entry)) facts index.now
+            → result ≡ ids_for (record {
+              concept = concept.now;
+              period = asked_of period.entry;
+              after = option_map (λ t. t.now) after.entry;
+            }) facts }
+    {
+        let facts = Found::of(index, Wanted::Query { concept, period }, after);
+        Ids { facts }
+    }
+}
+
+impl<'a> Iterator for Ids<'a> {
+    type Item = &'a str;
+
+    ghost next_gives = { YieldsFirstRef (λ i. i) };
+
+    ghost remaining = { item_count (λ i. i) };
+
+    fn next(&mut self) -> Option<&'a str> {
+        let held = self.facts.next()?;
+        Some(held.name())
+    }
+}

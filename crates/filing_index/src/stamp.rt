@@ -1,0 +1,289 @@
+//! What a touched fact leaves: stamps, which compare by what they stand for.
+ghost use Rattle.std.specs.Prelude.{◌≡◌, refl, option_copied, option_map, IfOk, Some};
+ghost use Rattle.std.specs.Cmp.{eq_by_cmp_equiv, partial_equiv_from_equiv, partial_order_from_agreeing_total};
+ghost use Rattle.std.specs.Ordering.{eq_by_cmp, ordering_then};
+ghost use Rattle.std.specs.Option.{option_cmp};
+ghost use Rattle.filing_model.specs.Text.{text_cmp};
+ghost use Rattle.filing_model.specs.Dimensions.{dims_cmp};
+ghost use Rattle.filing_index.specs.Stamps.{no_group, rank_of, group_of, id_of, group_cmp, group_code, coded_stamp, stamp_cmp};
+ghost use Rattle.filing_index.specs.StampOrders.{stamp_cmp-total};
+
+use filing_pages::{Held, Named};
+use oim_fact::{DimSet, Fact};
+use sorted_pages::{Entry, Peaked};
+use std::alloc::AllocError;
+use std::cmp::Ordering;
+use std::hash::{DefaultHasher, Hash, Hasher};
+use std::marker::Model;
+
+/// What a stamp stands for.
+#[derive(Clone, Copy, Debug, PartialEq, Eq)]
+pub(crate) enum StampKind {
+    /// An identifier.
+    Identifier,
+    /// The facts of one dimension set.
+    Cell,
+    /// An identifier among the facts of a concept, for pages of any period.
+    AnyPeriod,
+    /// An identifier among the facts of a concept and a period, or none.
+    OnePeriod,
+}
+
+impl StampKind {
+    /// Its place among the kinds.
+    pub(crate) fn rank(self) -> u8
+        ensures { result ≡ rank_of self }
+    {
+        self as u8
+    }
+
+    /// What a stamp of this kind looks at in dimensions.
+    pub(crate) fn group(self, dims: &DimSet) -> Group<'_>
+        ensures { result ≡ group_of self dims.now }
+    {
+        match self {
+            StampKind::Identifier => Group::none(),
+            StampKind::Cell => Group::of_cell(dims),
+            StampKind::AnyPeriod => Group::of_page(dims.concept(), None),
+            StampKind::OnePeriod => Group::of_page(dims.concept(), dims.period()),
+        }
+    }
+}
+
+/// How texts stand to each other that may be missing.
+fn order_texts(one: Option<&str>, other: Option<&str>) -> Ordering
+    ensures { result ≡ option_cmp text_cmp (option_map (λ t. t.now) one.entry) (option_map (λ t. t.now) other.entry) }
+{
+    one.cmp(&other)
+}
+
+/// How dimension sets stand to each other that may be missing.
+fn order_dims(one: Option<&DimSet>, other: Option<&DimSet>) -> Ordering
+    ensures { result ≡ option_cmp dims_cmp (option_copied one.entry) (option_copied other.entry) }
+{
+    one.cmp(&other)
+}
+
+/// What a stamp looks at in the dimensions of a fact. Contracts see the parts.
+#[derive(Drop)]
+pub(crate) struct Group<'a> {
+    dims: Option<&'a DimSet>,
+    concept: Option<&'a str>,
+    period: Option<&'a str>,
+}
+
+impl<'a> Model for Group<'a> {
+    ghost use Rattle.std.specs.Prelude.{option_copied, option_map};
+    ghost use Rattle.filing_index.specs.Stamps.{Group as PlainGroup};
+
+    ghost Value = { PlainGroup };
+
+    ghost view = { λ g.
+        record {
+          dims = option_copied g.dims;
+          concept = option_map (λ t. t.now) g.concept;
+          period = option_map (λ t. t.now) g.period;
+        } };
+}
+
+impl<'a> Group<'a> {
+    pub(crate) fn none() -> Group<'a>
+        ensures { result ≡ no_group }
+    {
+        Group {
+            dims: None,
+            concept: None,
+            period: None,
+        }
+    }
+
+    pub(crate) fn of_cell(dims: &'a DimSet) -> Group<'a>
+        ensures { result ≡ record no_group { dims = Some dims.now } }
+    {
+        Group {
+            dims: Some(dims),
+            concept: None,
+            period: None,
+        }
+    }
+
+    pub(crate) fn of_page(concept: &'a str, period: Option<&'a str>) -> Group<'a>
+        ensures { result ≡ record no_group { concept = Some concept.now; period = option_map (λ t. t.now) period.entry } }
+    {
+        Group {
+            dims: None,
+            concept: Some(concept),
+            period,
+        }
+    }
+
+    pub(crate) fn order(&self, other: &Group<'_>) -> Ordering
+        ensures { result ≡ group_cmp self.now other.now }
+    {
+        order_dims(self.dims, other.dims)
+            .then(order_texts(self.concept, other.concept))
+            .then(order_texts(self.period, other.period))
+    }
+
+    /// Its hash.
+    #[tactic(auto, unfolding(crate::specs::Stamps::group_code))]
+    pub(crate) fn code(&self) -> u64
+        ensures { result ≡ group_code self.now }
+    {
+        let mut state = DefaultHasher::new();
+        self.dims.hash(&mut state);
+        self.concept.hash(&mut state);
+        self.period.hash(&mut state);
+        state.finish()
+    }
+}
+
+/// The dimensions of a fact that is held.
+fn dims_of(held: &Named<Held>) -> &DimSet
+    ensures { result.now ≡ held.now.1.dims }
+{
+    let fact: &Fact = held.value().fact();
+    &fact.dims
+}
+
+/// The number of the last touch of what a fact stands in.
+///
+/// It compares by what it stands for, which is read from the fact. The number takes no part.
+#[derive(Drop)]
+pub(crate) struct Stamp {
+    kind: StampKind,
+    code: u64,
+    number: u64,
+    held: Named<Held>,
+}
+
+impl Model for Stamp {
+    ghost use Rattle.filing_index.specs.Stamps.{Stamp as PlainStamp, stamp_of};
+
+    ghost Value = { PlainStamp };
+
+    ghost view = { λ s. stamp_of s.kind s.code s.number s.held };
+}
+
+impl Stamp {
+    /// The stamp of a kind that a fact leaves.
+    pub(crate) fn of(kind: StampKind, held: &Named<Held>, number: u64) -> Result<Stamp, AllocError>
+        ensures { IfOk result (λ s. s ≡ coded_stamp kind number held.now) }
+    {
+        let code = kind.group(dims_of(held)).code();
+        let held = held.share()?;
+        Ok(Stamp {
+            kind,
+            code,
+            number,
+            held,
+        })
+    }
+
+    pub(crate) fn rank(&self) -> u8
+        ensures { result ≡ self.now.rank }
+    {
+        self.kind.rank()
+    }
+
+    pub(crate) fn code(&self) -> u64
+        ensures { result ≡ self.now.code }
+    {
+        self.code
+    }
+
+    pub(crate) fn group(&self) -> Group<'_>
+        ensures { result ≡ self.now.group }
+    {
+        self.kind.group(dims_of(&self.held))
+    }
+
+    /// The identifier, or nothing where the stamp is for all of a cell.
+    pub(crate) fn id(&self) -> &str
+        ensures { result.now ≡ self.now.id }
+    {
+        match self.kind {
+            StampKind::Cell => "",
+            StampKind::Identifier | StampKind::AnyPeriod | StampKind::OnePeriod => self.held.name(),
+        }
+    }
+
+    /// How it stands to another stamp with the same rank and code.
+    fn order_alike(&self, other: &Stamp) -> Ordering
+        ensures { result ≡ ordering_then (group_cmp self.now.group other.now.group) (text_cmp self.now.id other.now.id) }
+    {
+        match self.group().order(&other.group()) {
+            Ordering::Equal => self.id().cmp(other.id()),
+            order => order,
+        }
+    }
+}
+
+impl PartialEq for Stamp {
+    ghost eq = { eq_by_cmp stamp_cmp };
+
+    ghost laws = { partial_equiv_from_equiv (eq_by_cmp_equiv stamp_cmp-total) };
+
+    fn eq(&self, other: &Stamp) -> bool {
+        self.cmp(other).is_eq()
+    }
+}
+
+impl Eq for Stamp {
+    ghost laws = { eq_by_cmp_equiv stamp_cmp-total };
+}
+
+impl PartialOrd for Stamp {
+    ghost partial_cmp = { λ x y. Some (stamp_cmp x y) };
+
+    ghost laws = { partial_order_from_agreeing_total stamp_cmp stamp_cmp-total (λ x y. refl) (λ x y. refl) };
+
+    fn partial_cmp(&self, other: &Stamp) -> Option<Ordering> {
+        Some(self.cmp(other))
+    }
+}
+
+impl Ord for Stamp {
+    ghost cmp = { stamp_cmp };
+
+    ghost total = { stamp_cmp-total };
+
+    ghost matches_partial_cmp = { λ x y. refl };
+
+    ghost matches_eq = { λ x y. refl };
+
+    fn cmp(&self, other: &Stamp) -> Ordering {
+        match (self.rank(), self.code()).cmp(&(other.rank(), other.code())) {
+            Ordering::Equal => self.order_alike(other),
+            order => order,
+        }
+    }
+}
+
+impl Peaked for Stamp {
+    ghost peak = { λ s. s.number };
+
+    fn peak(&self) -> u64 {
+        self.number
+    }
+}
+
+impl Entry for Stamp {
+    ghost order = { stamp_cmp };
+
+    ghost is_total = { stamp_cmp-total };
+
+    fn order(&self, other: &Stamp) -> Ordering {
+        self.cmp(other)
+    }
+
+    fn share(&self) -> Result<Stamp, AllocError> {
+        let held = self.held.share()?;
+        Ok(Stamp {
+            kind: self.kind,
+            code: self.code,
+            number: self.number,
+            held,
+        })
+    }
+}

@@ -1,0 +1,173 @@
+//! The number of the last touch of each part of one report.
+ghost use Rattle.std.specs.Prelude.{◌≡◌, ℕ, ◌≤◌, [], map, IfOk, OnOk, option_map};
+ghost use Rattle.std.specs.Option.{option_copied};
+ghost use Rattle.std.specs.BTreeSet.{insert_key};
+ghost use Rattle.sorted_pages.specs.Pages.{greatest};
+ghost use Rattle.sorted_pages.specs.Ranges.{within};
+ghost use Rattle.sorted_pages.specs.Sorted.{IsRising};
+ghost use Rattle.sorted_pages.specs.Changes.{entry_of};
+ghost use Rattle.sorted_pages.specs.declared.change.Change.TheVariants.{Put};
+ghost use Rattle.filing_index.specs.Moves.{Part, Id, Cell, Range, stamped_by};
+ghost use Rattle.filing_index.specs.Wanted.{asked_of};
+ghost use Rattle.filing_index.specs.Stamps.{among_side, coded_stamp, inserted, stamps_of, stamps_if_there, stamps_of_move, stamps_of_moves, stamp_cmp, stamp_in};
+
+use crate::moves::Move;
+use crate::stamp::{Group, Stamp, StampKind};
+use crate::stamp_spans::{Among, IdRange};
+use crate::wanted::Asked;
+use filing_pages::{Held, Named};
+use oim_fact::DimSet;
+use sorted_pages::{Change, Paged};
+use std::alloc::{AllocError, Global};
+use std::collections::BTreeSet;
+use std::marker::Model;
+
+/// The number of the last touch of each part of one report, also of identifiers that were removed and of cells and
+/// ranges that are empty now. A changed copy shares the pages where nothing changed.
+///
+/// Contracts see the stamps that touched facts left, and `stamp_in` says which number a part has by them.
+#[derive(Drop)]
+pub struct Stamps {
+    stamps: Paged<Stamp>,
+}
+
+impl Model for Stamps {
+    ghost use Rattle.std.specs.Prelude.{List};
+    ghost use Rattle.filing_index.specs.Stamps.{Stamp as PlainStamp};
+
+    ghost Value = { List PlainStamp };
+
+    ghost view = { λ s. s.stamps };
+}
+
+/// Puts the stamp of one kind that a fact leaves among others.
+fn leave_one(
+    stamps: &mut BTreeSet<Stamp>,
+    kind: StampKind,
+    held: &Named<Held>,
+    number: u64,
+) -> Result<(), AllocError>
+    ensures { OnOk result (stamps.new.keys ≡ insert_key stamp_cmp stamps.old.keys (coded_stamp kind number held.now)) }
+{
+    stamps.insert(Stamp::of(kind, held, number)?)?;
+    Ok(())
+}
+
+/// Puts the stamps that a fact leaves among others.
+fn leave(stamps: &mut BTreeSet<Stamp>, held: &Named<Held>, number: u64) -> Result<(), AllocError>
+    ensures { OnOk result (stamps.new.keys ≡ inserted stamp_cmp stamps.old.keys (stamps_of number held.now)) }
+{
+    leave_one(stamps, StampKind::Identifier, held, number)?;
+    leave_one(stamps, StampKind::Cell, held, number)?;
+    leave_one(stamps, StampKind::AnyPeriod, held, number)?;
+    leave_one(stamps, StampKind::OnePeriod, held, number)?;
+    Ok(())
+}
+
+/// Puts the stamps of a fact that may be missing among others.
+fn leave_if_there(
+    stamps: &mut BTreeSet<Stamp>,
+    held: Option<&Named<Held>>,
+    number: u64,
+) -> Result<(), AllocError>
+    ensures { OnOk result (stamps.new.keys ≡ inserted stamp_cmp stamps.old.keys (stamps_if_there number (option_copied held.entry))) }
+{
+    match held {
+        Some(held) => leave(stamps, held, number),
+        None => Ok(()),
+    }
+}
+
+/// Puts the stamps of what becomes of a fact among others.
+fn leave_both(stamps: &mut BTreeSet<Stamp>, each: &Move, number: u64) -> Result<(), AllocError>
+    ensures { OnOk result (stamps.new.keys ≡ inserted stamp_cmp stamps.old.keys (stamps_of_move number each.now)) }
+{
+    leave_if_there(stamps, each.old(), number)?;
+    leave_if_there(stamps, each.new(), number)?;
+    Ok(())
+}
+
+/// The stamps of moves, each once.
+fn left_by(alloc: Global, moves: &[Move], number: u64) -> Result<BTreeSet<Stamp>, AllocError>
+    ensures { IfOk result (λ s. s.keys ≡ stamps_of_moves number moves.now) }
+{
+    let mut stamps = BTreeSet::new(alloc);
+    for each in moves {
+        leave_both(&mut stamps, each, number)?;
+    }
+    Ok(stamps)
+}
+
+/// Puts of stamps.
+fn puts(alloc: Global, stamps: BTreeSet<Stamp>) -> Result<Vec<Change<Stamp>>, AllocError>
+    ensures all { IfOk result (λ changes. changes.items ≡ map Put stamps.keys) }
+    ensures rising { IfOk result (λ changes. IsRising stamp_cmp (map entry_of changes.items)) }
+{
+    stamps.into_iter().map(Change::Put).collect(alloc)
+}
+
+impl Stamps {
+    /// Where nothing was touched. It takes no memory.
+    pub fn new(alloc: Global) -> Stamps
+        ensures { stamp_in result ≡ (λ part. 0) }
+    {
+        Stamps {
+            stamps: Paged::new(alloc),
+        }
+    }
+
+    /// The greatest number of some stamps, or 0.
+    fn greatest(&self, among: &Among<'_>) -> u64
+        ensures { result ≡ greatest (λ s. s.number) (within (among_side among.now) self.now) }
+    {
+        self.stamps.range(among).greatest()
+    }
+
+    /// The number of the last touch of an identifier, or 0.
+    pub fn of_id(&self, id: &str) -> u64
+        ensures { result ≡ stamp_in self.now (Id id.now) }
+    {
+        self.greatest(&Among::of(StampKind::Identifier, Group::none(), IdRange::Only(id)))
+    }
+
+    /// The number of the last touch of a cell, or 0.
+    pub fn of_cell(&self, dims: &DimSet) -> u64
+        ensures { result ≡ stamp_in self.now (Cell dims.now) }
+    {
+        let all = IdRange::Between(None, None);
+        self.greatest(&Among::of(StampKind::Cell, Group::of_cell(dims), all))
+    }
+
+    /// The number of the last touch among the facts of a concept and a period, of identifiers greater than one, where
+    /// it is given, and not greater than another, where that is given; or 0.
+    pub fn of_range(
+        &self,
+        concept: &str,
+        period: Asked<'_>,
+        after: Option<&str>,
+        upto: Option<&str>,
+    ) -> u64
+        ensures { result ≡ stamp_in self.now (Range
+            (record { concept = concept.now; period = asked_of period.entry; after = option_map (λ t. t.now) after.entry })
+            (option_map (λ t. t.now) upto.entry)) }
+    {
+        let (kind, period) = match period {
+            Asked::Any => (StampKind::AnyPeriod, None),
+            Asked::Without => (StampKind::OnePeriod, None),
+            Asked::Text(period) => (StampKind::OnePeriod, Some(period)),
+        };
+        let group = Group::of_page(concept, period);
+        self.greatest(&Among::of(kind, group, IdRange::Between(after, upto)))
+    }
+
+    /// The stamps after moves of a number that none of them exceeds. These stay as they are.
+    pub fn after(&self, alloc: Global, moves: &[Move], number: u64) -> Result<Stamps, AllocError>
+        requires { (part : Part) → stamp_in self.now part ≤ number }
+        ensures { IfOk result (λ s. stamp_in s ≡ stamped_by moves.now number (stamp_in self.now)) }
+    {
+        let left = left_by(alloc, moves, number)?;
+        let changes = puts(alloc, left)?;
+        let stamps = self.stamps.after(alloc, &changes)?;
+        Ok(Stamps { stamps })
+    }
+}
