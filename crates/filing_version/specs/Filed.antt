@@ -1,0 +1,71 @@
+-- The reports of a version, each with the stamps of its parts. The project's own.
+use Rattle.std.specs.Prelude.{◌≡◌, ℕ, ◌≤◌, cond, List, [], ◌∷◌, map, Option, Some, None, is_some}
+use Rattle.std.specs.Option.{option_map_or}
+use Rattle.filing_model.specs.Text.{Text}
+use Rattle.filing_model.specs.TextMap.{TextMap, get, insert, from_entries}
+use Rattle.filing_model.specs.Reports.{Report}
+use Rattle.filing_model.specs.Repository.{Repository}
+use Rattle.filing_model.specs.Changes.{ReportChange, Change, changed}
+use Rattle.filing_model.specs.Things as thing
+use Rattle.filing_model.specs.Things.{Thing, report_of}
+use Rattle.filing_model.specs.Stamps.{Version}
+use Rattle.filing_index.specs.Moves.{Part, Id, Cell, Range, moves_of, stamped_by}
+
+-- a report with the number of its load, that of the last commit that declared its value, and those of its parts
+pub record Filed : Type 0 where
+  pub report : Report
+  pub loaded : ℕ
+  pub declared : ℕ
+  pub stamp : Part → ℕ
+
+-- the map with each value under f
+abbrev pub mapped : {X Y : Type 0} → (X → Y) → TextMap X → TextMap Y
+mapped f m = from_entries (map (λ e. (e.0, f e.1)) m.entries)
+
+-- the stamp of a thing that lies in the report
+abbrev pub stamp_in : Thing → Filed → ℕ
+stamp_in (thing.Report name) f = f.loaded
+stamp_in (thing.Id name id) f = f.stamp (Id id)
+stamp_in (thing.Cell name dims) f = f.stamp (Cell dims)
+stamp_in (thing.Range name sought upto) f = f.stamp (Range sought upto)
+stamp_in (thing.Policy name) f = f.declared
+
+abbrev pub stamp_at : TextMap Filed → Thing → ℕ
+stamp_at filed t = option_map_or (stamp_in t) (get filed (report_of t)) 0
+
+-- the version of this number with these reports
+abbrev pub version_of : ℕ → TextMap Filed → Version
+version_of number filed = record {
+  repository = record { count = number; reports = mapped (λ f. f.report) filed };
+  stamp = stamp_at filed;
+}
+
+-- no stamp is greater than the number
+pub record IsStampedUpTo (number : ℕ) (filed : TextMap Filed) : Type 0 where
+  pub up_to : (t : Thing) → stamp_at filed t ≤ number
+
+-- ---- the next version
+
+-- a report that was loaded now
+abbrev pub newly_filed : ℕ → Report → Filed
+newly_filed number r = record { report = r; loaded = number; declared = 0; stamp = λ part. 0 }
+
+-- a report with a change laid over it
+abbrev pub changed_filed : ℕ → ReportChange → Filed → Filed
+changed_filed number change f = record {
+  report = changed change f.report;
+  loaded = f.loaded;
+  declared = cond (is_some change.declared) number f.declared;
+  stamp = stamped_by (moves_of change.facts.entries f.report.facts) number f.stamp;
+}
+
+-- the reports with the change of each of these laid over it, one after another
+abbrev pub filed_after : ℕ → List (Text × ReportChange) → TextMap Filed → TextMap Filed
+filed_after number [] filed = filed
+filed_after number (e ∷ es) filed =
+    filed_after number es
+    (option_map_or (λ f. insert filed e.0 (changed_filed number e.1 f)) (get filed e.0) filed)
+
+-- each changed report is there
+abbrev pub ChangesWhatIsThere : Change → TextMap Filed → Type 0
+ChangesWhatIsThere change filed = (name : Text) → get filed name ≡ None → get change name ≡ None

@@ -1,0 +1,188 @@
+//! `Change`: what a session puts, removes and declares, by report.
+ghost use Rattle.std.specs.Prelude.{◌≡◌, option_copied, option_map, string_bytes, unwrap_or, IfOk, OnOk, OnErr};
+ghost use Rattle.std.specs.Arc.{arc_value};
+ghost use Rattle.filing_model.specs.TextMap.{empty, get, insert};
+ghost use Rattle.filing_model.specs.Changes.{change_at, declared_in, with_change, with_declared};
+ghost use Rattle.filing_version.specs.Puts.{fact_seen, puts_of};
+
+use crate::changed_report::{ChangedReport, fact_of};
+use crate::puts::Puts;
+use filing_pages::{Named, Range, TextPages};
+use oim_fact::{Allowed, Fact};
+use std::alloc::{AllocError, Global};
+use std::marker::Model;
+use std::sync::Arc;
+
+/// What is put, removed and declared, by report. Contracts see the plain change.
+#[derive(Drop)]
+pub struct Change {
+    alloc: Global,
+    reports: TextPages<ChangedReport>,
+}
+
+impl Model for Change {
+    ghost use Rattle.filing_model.specs.Changes.{Change as PlainChange};
+
+    ghost Value = { PlainChange };
+
+    ghost view = { λ c. c.reports };
+}
+
+/// A put that needs no more memory. Contracts see the change as it is to be.
+#[derive(Drop)]
+pub struct ReadyPut {
+    reports: TextPages<ChangedReport>,
+}
+
+impl Model for ReadyPut {
+    ghost use Rattle.filing_model.specs.Changes.{Change as PlainChange};
+
+    ghost Value = { PlainChange };
+
+    ghost view = { λ r. r.reports };
+}
+
+/// A declaration that needs no more memory. Contracts see the change as it is to be.
+#[derive(Drop)]
+pub struct ReadyDeclare {
+    reports: TextPages<ChangedReport>,
+}
+
+impl Model for ReadyDeclare {
+    ghost use Rattle.filing_model.specs.Changes.{Change as PlainChange};
+
+    ghost Value = { PlainChange };
+
+    ghost view = { λ r. r.reports };
+}
+
+impl Change {
+    /// The change of nothing. It takes no memory.
+    pub fn new(alloc: Global) -> Change
+        ensures { result ≡ empty }
+    {
+        Change {
+            alloc,
+            reports: TextPages::new(alloc),
+        }
+    }
+
+    /// What changes in a report, or this.
+    fn report_or<'a>(&'a self, name: &str, none: &'a ChangedReport) -> &'a ChangedReport
+        ensures { result.now ≡ unwrap_or (get self.now name.now) none.now }
+    {
+        self.reports.get(name).unwrap_or(none)
+    }
+
+    /// The reports with another change of one of them.
+    fn with_report(
+        &self,
+        name: &str,
+        report: ChangedReport,
+    ) -> Result<TextPages<ChangedReport>, AllocError>
+        ensures { IfOk result (λ reports. reports ≡ insert self.now name.now report) }
+    {
+        let name = String::from_str(self.alloc, name)?;
+        self.reports.with(self.alloc, name, report)
+    }
+
+    /// Makes the growths of `put`. The change stays as it is.
+    pub fn ready(
+        &self,
+        report: &str,
+        id: String,
+        fact: Option<Arc<Fact>>,
+    ) -> Result<ReadyPut, AllocError>
+        ensures { IfOk result (λ next. next
+            ≡ with_change self.now report.now (string_bytes id) (option_map arc_value fact)) }
+    {
+        let none = ChangedReport::new(self.alloc);
+        let changed = self
+            .report_or(report, &none)
+            .with_fact(self.alloc, id, fact)?;
+        let reports = self.with_report(report, changed)?;
+        Ok(ReadyPut { reports })
+    }
+
+    /// Makes a put that is ready. It takes no memory.
+    pub fn take(&mut self, ready: ReadyPut)
+        ensures { self.new ≡ ready }
+    {
+        self.reports = ready.reports;
+    }
+
+    /// Puts a fact, or removes what stands there, in the place of an earlier put of the identifier.
+    pub fn put(
+        &mut self,
+        report: &str,
+        id: String,
+        fact: Option<Arc<Fact>>,
+    ) -> Result<(), AllocError>
+        ensures ok { OnOk result (self.new
+            ≡ with_change self.old report.now (string_bytes id) (option_map arc_value fact)) }
+        ensures err { OnErr result (self.new ≡ self.old) }
+    {
+        let ready = self.ready(report, id, fact)?;
+        self.take(ready);
+        Ok(())
+    }
+
+    /// Makes the growths of `declare`. The change stays as it is.
+    pub fn ready_declare(&self, report: &str, allowed: Allowed) -> Result<ReadyDeclare, AllocError>
+        ensures { IfOk result (λ next. next ≡ with_declared self.now report.now allowed) }
+    {
+        let none = ChangedReport::new(self.alloc);
+        let changed = self
+            .report_or(report, &none)
+            .declaring(self.alloc, allowed)?;
+        let reports = self.with_report(report, changed)?;
+        Ok(ReadyDeclare { reports })
+    }
+
+    /// Makes a declaration that is ready. It takes no memory.
+    pub fn take_declare(&mut self, ready: ReadyDeclare)
+        ensures { self.new ≡ ready }
+    {
+        self.reports = ready.reports;
+    }
+
+    /// Declares a value, in the place of the one that the change declared before.
+    pub fn declare(&mut self, report: &str, allowed: Allowed) -> Result<(), AllocError>
+        ensures ok { OnOk result (self.new ≡ with_declared self.old report.now allowed) }
+        ensures err { OnErr result (self.new ≡ self.old) }
+    {
+        let ready = self.ready_declare(report, allowed)?;
+        self.take_declare(ready);
+        Ok(())
+    }
+
+    /// What is put at an identifier, or none where it is removed. It takes no memory.
+    pub fn staged(&self, report: &str, id: &str) -> Option<Option<&Arc<Fact>>>
+        ensures { option_map fact_seen result ≡ change_at self.now report.now id.now }
+    {
+        let changed = self.reports.get(report)?;
+        let put = changed.facts().get(id)?;
+        Some(fact_of(put))
+    }
+
+    /// The value that a report is to declare. It takes no memory.
+    pub fn declared(&self, report: &str) -> Option<Allowed>
+        ensures { result ≡ declared_in self.now report.now }
+    {
+        self.reports.get(report)?.declared()
+    }
+
+    /// The changed reports in byte order of their names. It takes no memory.
+    pub(crate) fn reports(&self) -> Range<'_, Named<ChangedReport>>
+        ensures { result ≡ self.now.entries }
+    {
+        self.reports.iter()
+    }
+
+    /// The puts in byte order of reports, then of identifiers. It takes no memory.
+    pub fn puts(&self) -> Puts<'_>
+        ensures { result ≡ puts_of self.now }
+    {
+        Puts::of(self.reports())
+    }
+}

@@ -1,0 +1,90 @@
+//! What a change puts, removes and declares in one report.
+ghost use Rattle.std.specs.Prelude.{◌≡◌, Some, option_map, string_bytes, IfOk};
+ghost use Rattle.std.specs.Arc.{arc_value};
+ghost use Rattle.filing_model.specs.TextMap.{insert};
+ghost use Rattle.filing_model.specs.Changes.{no_change};
+ghost use Rattle.filing_version.specs.Puts.{fact_seen};
+
+use filing_pages::{Held, TextPages};
+use oim_fact::{Allowed, Fact};
+use std::alloc::{AllocError, Global};
+use std::marker::Model;
+use std::sync::Arc;
+
+/// The value that a report is to declare, if any, and by identifier the fact that is put there, or none where it is removed.
+#[derive(Drop)]
+pub(crate) struct ChangedReport {
+    declared: Option<Allowed>,
+    facts: TextPages<Option<Held>>,
+}
+
+impl Model for ChangedReport {
+    ghost use Rattle.filing_model.specs.Changes.{ReportChange};
+
+    ghost Value = { ReportChange };
+
+    ghost view = { λ r. record { declared = r.declared; facts = r.facts } };
+}
+
+/// The fact that is put, or none where it is removed.
+pub(crate) fn fact_of(put: &Option<Held>) -> Option<&Arc<Fact>>
+    ensures { fact_seen result ≡ put.now }
+{
+    put.as_ref().map(Held::fact)
+}
+
+impl ChangedReport {
+    /// Nothing. It takes no memory.
+    pub(crate) fn new(alloc: Global) -> ChangedReport
+        ensures { result ≡ no_change }
+    {
+        ChangedReport {
+            declared: None,
+            facts: TextPages::new(alloc),
+        }
+    }
+
+    pub(crate) fn declared(&self) -> Option<Allowed>
+        ensures { result ≡ self.now.declared }
+    {
+        self.declared
+    }
+
+    pub(crate) fn facts(&self) -> &TextPages<Option<Held>>
+        ensures { result.now ≡ self.now.facts }
+    {
+        &self.facts
+    }
+
+    /// A copy with a fact put, or removed, at an identifier.
+    pub(crate) fn with_fact(
+        &self,
+        alloc: Global,
+        id: String,
+        fact: Option<Arc<Fact>>,
+    ) -> Result<ChangedReport, AllocError>
+        ensures { IfOk result (λ r. r ≡
+            record self.now { facts = insert self.now.facts (string_bytes id) (option_map arc_value fact) }) }
+    {
+        let facts = self.facts.with(alloc, id, fact.map(Held::of))?;
+        Ok(ChangedReport {
+            declared: self.declared,
+            facts,
+        })
+    }
+
+    /// A copy with a value declared.
+    pub(crate) fn declaring(
+        &self,
+        alloc: Global,
+        allowed: Allowed,
+    ) -> Result<ChangedReport, AllocError>
+        ensures { IfOk result (λ r. r ≡ record self.now { declared = Some allowed }) }
+    {
+        let facts = self.facts.share(alloc)?;
+        Ok(ChangedReport {
+            declared: Some(allowed),
+            facts,
+        })
+    }
+}
