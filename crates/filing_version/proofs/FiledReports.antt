@@ -11,12 +11,12 @@ use Rattle.filing_model.specs.Reports.{Report}
 use Rattle.filing_model.specs.Duplicates.{has_dims}
 use Rattle.filing_model.specs.Queries.{answers_query}
 use Rattle.filing_model.specs.Repository.{Repository, report_at, fact_at, fact_in, with_report}
-use Rattle.filing_model.specs.Changes.{ReportChange, Change, no_change, change_in, change_at, declared_in, changed, laid_over, after_change}
+use Rattle.filing_model.specs.Changes.{ReportChange, Change, no_change, change_in, changed, after_change}
 use Rattle.filing_model.specs.Things as thing
 use Rattle.filing_model.specs.Things.{Thing, thing_eq, report_of}
 use Rattle.filing_model.specs.Touches.{passes_at, is_within}
-use Rattle.filing_model.specs.Stamps.{Version, is_stamped, version_after, version_with}
-use Rattle.filing_model.proofs.TextMaps.{same_map, get-insert, get-from_entries}
+use Rattle.filing_model.specs.Stamps.{is_stamped, version_after, version_with}
+use Rattle.filing_model.proofs.TextMaps.{get-insert, get-from_entries}
 use Rattle.filing_model.proofs.Texts.{text_same, text_eq-refl}
 use Rattle.filing_model.proofs.Tests.{first_holds, second_holds}
 use Rattle.filing_model.proofs.MapsOfLists.{tied_is_not_found}
@@ -24,7 +24,7 @@ use Rattle.filing_laws.proofs.EachElement.{Each}
 use Rattle.filing_laws.proofs.FirstFound.{each_is_found}
 use Rattle.filing_laws.proofs.EqualThings.{thing_same, thing_itself}
 use Rattle.filing_laws.proofs.LaidOver.{report_at-laid_over, fact_in-changed, repositories_same}
-use Rattle.filing_index.specs.Moves.{Part, Move, Id, Cell, Range, moves_of, passes, is_moved_in, is_moved}
+use Rattle.filing_index.specs.Moves.{Move, Id, Cell, Range, moves_of, passes, is_moved_in, is_moved}
 use Rattle.filing_version.specs.Filed.{Filed, mapped, stamp_in, stamp_at, version_of, newly_filed, changed_filed, filed_after, ChangesWhatIsThere, IsStampedUpTo}
 
 -- ---- maps whose values are looked at

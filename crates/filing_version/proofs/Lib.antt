@@ -1,1 +1,2 @@
 pub mod FiledReports
+pub mod StampedReports

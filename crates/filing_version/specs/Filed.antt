@@ -1,5 +1,5 @@
 -- The reports of a version, each with the stamps of its parts. The project's own.
-use Rattle.std.specs.Prelude.{◌≡◌, ℕ, ◌≤◌, cond, List, [], ◌∷◌, map, Option, Some, None, is_some}
+use Rattle.std.specs.Prelude.{◌≡◌, ℕ, ◌≤◌, cond, List, [], ◌∷◌, map, None, is_some}
 use Rattle.std.specs.Option.{option_map_or}
 use Rattle.filing_model.specs.Text.{Text}
 use Rattle.filing_model.specs.TextMap.{TextMap, get, insert, from_entries}
@@ -10,6 +10,7 @@ use Rattle.filing_model.specs.Things as thing
 use Rattle.filing_model.specs.Things.{Thing, report_of}
 use Rattle.filing_model.specs.Stamps.{Version}
 use Rattle.filing_index.specs.Moves.{Part, Id, Cell, Range, moves_of, stamped_by}
+use Rattle.filing_index.specs.Stamps.{Stamp, stamp_in as part_stamp}
 
 -- a report with the number of its load, that of the last commit that declared its value, and those of its parts
 pub record Filed : Type 0 where
@@ -69,3 +70,27 @@ filed_after number (e ∷ es) filed =
 -- each changed report is there
 abbrev pub ChangesWhatIsThere : Change → TextMap Filed → Type 0
 ChangesWhatIsThere change filed = (name : Text) → get filed name ≡ None → get change name ≡ None
+
+-- ---- as code holds them: stamps are a list, since a function has no place in memory
+
+-- a report with its numbers, and the stamps that touched facts left
+pub record StampedReport : Type 0 where
+  pub report : Report
+  pub loaded : ℕ
+  pub declared : ℕ
+  pub stamps : List Stamp
+
+abbrev pub filed_of : StampedReport → Filed
+filed_of r = record { report = r.report; loaded = r.loaded; declared = r.declared; stamp = part_stamp r.stamps }
+
+-- a number, and the reports by their names
+pub record StampedReports : Type 0 where
+  pub number : ℕ
+  pub reports : TextMap StampedReport
+
+-- the version that they are
+abbrev pub version_in : StampedReports → Version
+version_in v = version_of v.number (mapped filed_of v.reports)
+
+abbrev pub repository_in : StampedReports → Repository
+repository_in v = (version_in v).repository

@@ -1,15 +1,21 @@
-//! Changes of reports: what a session puts, removes and declares.
+//! Unchanging versions of the repository, and changes of them.
 //!
-//! `change` is all of it, `changed_report` that of one report, and `puts` its puts one by one.
+//! `change` is what a session puts, removes and declares, `changed_report` that of one report, and `puts` its puts one by one.
 //!
 //! It knows nothing of sessions, of the history or of devices.
 #![tactic(auto)]
 
 mod change;
 mod changed_report;
+mod filed;
+mod got;
 mod puts;
 #[cfg(test)]
 mod tests;
+mod version;
 
 pub use change::{Change, ReadyDeclare, ReadyPut};
+pub use filing_index::{Asked, Ids};
+pub use got::Got;
 pub use puts::{Put, Puts};
+pub use version::RepoVersion;

@@ -1,0 +1,237 @@
+-- The version that stamped reports are, look-up by look-up, and after a load or a change.
+use Rattle.std.proofs.Common.{◌≡◌, ◌∙◌, ap, sym, refl, subst, cond, true, false, Bool, ◌||◌, filter, filter_map, fold, true≢false, List, [], ◌∷◌, Option, Some, None, option_map, option_and_then, is_some, ℕ, arith}
+use Rattle.std.specs.Prelude.{◌≤◌}
+use Rattle.std.specs.Option.{option_map_or, option_or}
+use Rattle.std.proofs.lemmas.Bool.{and_parts}
+use Rattle.filing_model.specs.Text.{Text, text_eq}
+use Rattle.filing_model.specs.TextMap.{TextMap, get, insert}
+use Rattle.filing_model.specs.Reports.{Report}
+use Rattle.filing_model.specs.Repository.{Repository, report_at, with_fact}
+use Rattle.filing_model.specs.Dimensions.{Dims}
+use Rattle.filing_model.specs.Facts.{Fact}
+use Rattle.filing_model.specs.Changes.{ReportChange, Change, with_facts, declaring_if, changed, least_changed, find_map, first_disallowed, after_change}
+use Rattle.filing_model.specs.Duplicates.{has_dims, lesser_dims}
+use Rattle.filing_model.specs.Sessions.{repository_obeys, refusal_of}
+use Rattle.filing_laws.specs.NetChange.{refusal_at}
+use Rattle.filing_laws.proofs.NewFacts.{each_change_is_decided_by_its_new_facts}
+use Rattle.filing_model.specs.Queries.{answers_query}
+use Rattle.filing_model.specs.Touches.{is_within}
+use Rattle.filing_model.specs.declared.duplicates.Allowed.{Allowed}
+use Rattle.filing_model.specs.Things as thing
+use Rattle.filing_model.specs.Things.{Thing, report_of}
+use Rattle.filing_model.proofs.TextMaps.{same_map, get-insert}
+use Rattle.filing_model.proofs.Texts.{text_same}
+use Rattle.filing_index.specs.Moves.{Part, Id, Cell, Range, Move, moves_of, passes, is_moved_in, is_moved, stamped_by, with_changes}
+use Rattle.filing_index.specs.Moved.{moves_in}
+use Rattle.filing_index.specs.Stamps.{stamp_in as part_stamp}
+use Rattle.filing_version.specs.Filed.{Filed, mapped, stamp_in, stamp_at, changed_filed, filed_after, StampedReport, filed_of, StampedReports, repository_in}
+use Rattle.filing_version.proofs.FiledReports.{get-mapped, report_at-version_of}
+
+-- ---- look-ups
+
+both_mapped : (o : Option StampedReport) → option_map (λ (f : Filed). f.report) (option_map filed_of o) ≡ option_map (λ r. r.report) o
+both_mapped None = refl
+both_mapped (Some r) = refl
+
+-- the report of a name
+pub reported : (v : StampedReports) (name : Text) → report_at (repository_in v) name ≡ option_map (λ r. r.report) (get v.reports name)
+reported v name =
+    report_at-version_of v.number (mapped filed_of v.reports) name
+    ∙ ap (option_map (λ (f : Filed). f.report)) (get-mapped filed_of v.reports name)
+    ∙ both_mapped (get v.reports name)
+
+stamp_mapped : (t : Thing) (o : Option StampedReport) → option_map_or (stamp_in t) (option_map filed_of o) 0 ≡ option_map_or (λ r. stamp_in t (filed_of r)) o 0
+stamp_mapped t None = refl
+stamp_mapped t (Some r) = refl
+
+-- the stamp of a thing
+stamped : (m : TextMap StampedReport) (t : Thing) → stamp_at (mapped filed_of m) t ≡ option_map_or (λ r. stamp_in t (filed_of r)) (get m (report_of t)) 0
+stamped m t = ap (λ o. option_map_or (stamp_in t) o 0) (get-mapped filed_of m (report_of t)) ∙ stamp_mapped t (get m (report_of t))
+
+-- where its report is held
+pub stamp_there : (m : TextMap StampedReport) (t : Thing) (r : StampedReport) → get m (report_of t) ≡ Some r → stamp_in t (filed_of r) ≡ stamp_at (mapped filed_of m) t
+stamp_there m t r is = sym (stamped m t ∙ ap (λ o. option_map_or (λ r. stamp_in t (filed_of r)) o 0) is)
+
+-- where it is not
+pub stamp_nowhere : (m : TextMap StampedReport) (t : Thing) → get m (report_of t) ≡ None → 0 ≡ stamp_at (mapped filed_of m) t
+stamp_nowhere m t none = sym (stamped m t ∙ ap (λ o. option_map_or (λ r. stamp_in t (filed_of r)) o 0) none)
+
+-- where no report is seen, none is held
+pub absent_held : (v : StampedReports) (name : Text) → report_at (repository_in v) name ≡ None → get (mapped filed_of v.reports) name ≡ None
+absent_held v name none = get-mapped filed_of v.reports name ∙ by (get v.reports name) refl
+  where
+    by : (o : Option StampedReport) → get v.reports name ≡ o → option_map filed_of o ≡ None
+    by None is = refl
+    by (Some r) is =
+        let apart : Some r.report ≡ None = sym (reported v name ∙ ap (option_map (λ r. r.report)) is) ∙ none in
+        cc
+
+-- no report, none seen
+pub absent_seen : (v : StampedReports) (name : Text) → get (mapped filed_of v.reports) name ≡ None → report_at (repository_in v) name ≡ None
+absent_seen v name none =
+    report_at-version_of v.number (mapped filed_of v.reports) name ∙ ap (option_map (λ (f : Filed). f.report)) none
+
+-- the stamps of the parts of a report that is held are not greater than those of the things
+pub parts_up_to : (number : ℕ) (m : TextMap StampedReport) (name : Text) (r : StampedReport) → get m name ≡ Some r → ((t : Thing) → stamp_at (mapped filed_of m) t ≤ number)
+    → (part : Part) → part_stamp r.stamps part ≤ number
+parts_up_to number m name r held up_to part = at part
+  where
+    seen : (t : Thing) → report_of t ≡ name → stamp_in t (filed_of r) ≤ number
+    seen t is = subst (λ n. n ≤ number)
+        (ap (λ o. option_map_or (stamp_in t) o 0) (get-mapped filed_of m (report_of t) ∙ ap (λ q. option_map filed_of (get m q)) is ∙ ap (option_map filed_of) held)) (up_to t)
+
+    at : (part : Part) → part_stamp r.stamps part ≤ number
+    at (Id id) = seen (thing.Id name id) refl
+    at (Cell dims) = seen (thing.Cell name dims) refl
+    at (Range sought upto) = seen (thing.Range name sought upto) refl
+
+-- ---- a report put
+
+pub mapped-insert : (m : TextMap StampedReport) (name : Text) (r : StampedReport) → mapped filed_of (insert m name r) ≡ insert (mapped filed_of m) name (filed_of r)
+mapped-insert m name r = same_map _ _ (λ q.
+    get-mapped filed_of (insert m name r) q
+    ∙ ap (option_map filed_of) (get-insert m name r q)
+    ∙ by q (text_eq q name)
+    ∙ ap (λ o. cond (text_eq q name) (Some (filed_of r)) o) (sym (get-mapped filed_of m q))
+    ∙ sym (get-insert (mapped filed_of m) name (filed_of r) q))
+  where
+    by : (q : Text) (b : Bool) → option_map filed_of (cond b (Some r) (get m q)) ≡ cond b (Some (filed_of r)) (option_map filed_of (get m q))
+    by q true = refl
+    by q false = refl
+
+-- ---- the reports of a change laid one after another
+
+-- what the rest of the changes makes of the reports so far is what all make of the first ones, and no stamp is greater than the number
+pub record LaysTheRest (number : ℕ) (all : List (Text × ReportChange)) (first : TextMap Filed) (rest : List (Text × ReportChange)) (so_far : TextMap Filed) : Type 0 where
+  pub same : filed_after number rest so_far ≡ filed_after number all first
+  pub up_to : (t : Thing) → stamp_at so_far t ≤ number
+
+-- one that is there
+pub lays_one : (number : ℕ) (all : List (Text × ReportChange)) (first : TextMap Filed) (e : Text × ReportChange) (es : List (Text × ReportChange)) (m : TextMap Filed) (f : Filed)
+    → get m e.0 ≡ Some f → LaysTheRest number all first (e ∷ es) m → LaysTheRest number all first es (insert m e.0 (changed_filed number e.1 f))
+lays_one number all first e es m f held h = record {
+  same = sym (ap (λ o. filed_after number es (option_map_or (λ f. insert m e.0 (changed_filed number e.1 f)) o m)) held) ∙ h.same;
+  up_to = λ t. subst (λ n. n ≤ number) (sym (ap (λ o. option_map_or (stamp_in t) o 0) (get-insert m e.0 (changed_filed number e.1 f) (report_of t)))) (by t (text_eq (report_of t) e.0) refl);
+}
+  where
+    capped : (b : Bool) (old : ℕ) → old ≤ number → cond b number old ≤ number
+    capped true old h = omega arith
+    capped false old h = h
+
+    within : (t : Thing) → stamp_in t f ≤ number → stamp_in t (changed_filed number e.1 f) ≤ number
+    within (thing.Report name) h = h
+    within (thing.Id name id) h = capped (is_moved (moves_of e.1.facts.entries f.report.facts) (Id id)) (f.stamp (Id id)) h
+    within (thing.Cell name dims) h = capped (is_moved (moves_of e.1.facts.entries f.report.facts) (Cell dims)) (f.stamp (Cell dims)) h
+    within (thing.Range name sought upto) h = capped (is_moved (moves_of e.1.facts.entries f.report.facts) (Range sought upto)) (f.stamp (Range sought upto)) h
+    within (thing.Policy name) h = capped (is_some e.1.declared) f.declared h
+
+    by : (t : Thing) (b : Bool) → text_eq (report_of t) e.0 ≡ b → option_map_or (stamp_in t) (cond b (Some (changed_filed number e.1 f)) (get m (report_of t))) 0 ≤ number
+    by t true same =
+        within t (subst (λ n. n ≤ number) (ap (λ o. option_map_or (stamp_in t) o 0) (ap (get m) (text_same (report_of t) e.0 same) ∙ held)) (h.up_to t))
+    by t false other = h.up_to t
+
+-- one that is not
+pub lays_none : (number : ℕ) (all : List (Text × ReportChange)) (first : TextMap Filed) (e : Text × ReportChange) (es : List (Text × ReportChange)) (m : TextMap Filed)
+    → get m e.0 ≡ None → LaysTheRest number all first (e ∷ es) m → LaysTheRest number all first es m
+lays_none number all first e es m none h = record {
+  same = sym (ap (λ o. filed_after number es (option_map_or (λ f. insert m e.0 (changed_filed number e.1 f)) o m)) none) ∙ h.same;
+  up_to = h.up_to;
+}
+
+-- ---- the first disallowed cell
+
+-- what is found in one changed report
+abbrev pub disallowed_at : Repository → Text × ReportChange → Option (Text × Dims)
+disallowed_at c e = option_map (λ dims. (e.0, dims)) (option_and_then (least_changed e.1) (report_at c e.0))
+
+-- what is found in the first changed report counts
+pub found_first : (c : Repository) (e : Text × ReportChange) (es : List (Text × ReportChange)) (dims : Dims)
+    → option_and_then (least_changed e.1) (report_at c e.0) ≡ Some dims → Some (e.0, dims) ≡ find_map (disallowed_at c) (e ∷ es)
+found_first c e es dims found = sym (ap (λ o. option_or (option_map (λ dims. (e.0, dims)) o) (find_map (disallowed_at c) es)) found)
+
+pub found_later : (c : Repository) (e : Text × ReportChange) (es : List (Text × ReportChange))
+    → option_and_then (least_changed e.1) (report_at c e.0) ≡ None → find_map (disallowed_at c) es ≡ find_map (disallowed_at c) (e ∷ es)
+found_later c e es none = sym (ap (λ o. option_or (option_map (λ dims. (e.0, dims)) o) (find_map (disallowed_at c) es)) none)
+
+-- where the version before obeyed, it decides the commit
+pub decides : (c base : Repository) (change : Change) → repository_obeys base ≡ true → c ≡ after_change change base → refusal_of c ≡ option_map (refusal_at c) (first_disallowed c change)
+decides c base change obeys is =
+    ap refusal_of is
+    ∙ (each_change_is_decided_by_its_new_facts base change obeys).refusal
+    ∙ sym (ap (λ (c : Repository). option_map (refusal_at c) (first_disallowed c change)) is)
+
+-- ---- the least of some dimensions
+
+-- one more
+pub least_with_one : (d : Dims → Bool) (least : Option Dims) (x : Dims) (xs : List Dims)
+    → fold lesser_dims (fold lesser_dims least (filter d (x ∷ []))) (filter d xs) ≡ fold lesser_dims least (filter d (x ∷ xs))
+least_with_one d least x xs = by (d x)
+  where
+    by : (b : Bool) → fold lesser_dims (fold lesser_dims least (cond b (x ∷ []) [])) (filter d xs) ≡ fold lesser_dims least (cond b (x ∷ filter d xs) (filter d xs))
+    by true = refl
+    by false = refl
+
+-- ---- the facts that are put
+
+pub facts_put : (e : Text × Option Fact) (es : List (Text × Option Fact)) (fact : Fact) → e.1 ≡ Some fact → filter_map (λ e. e.1) (e ∷ es) ≡ fact ∷ filter_map (λ e. e.1) es
+facts_put (id, o) es fact is = ap (λ o. filter_map (λ e. e.1) ((id, o) ∷ es)) is
+
+-- a report with its facts changed by identifier
+pub with_facts-report : (es : List (Text × Option Fact)) (r : Report) → with_facts es r ≡ record r { facts = with_changes es r.facts }
+with_facts-report [] r = refl
+with_facts-report (e ∷ es) r = ap (λ (x : Report). with_fact x e.0 e.1) (with_facts-report es r) ∙ by e.1
+  where
+    by : (o : Option Fact) → with_fact (record r { facts = with_changes es r.facts }) e.0 o ≡ record r { facts = with_changes ((e.0, o) ∷ es) r.facts }
+    by (Some fact) = refl
+    by None = refl
+
+-- ---- moves that touch nothing
+
+-- what passes a test stands there
+there_where_passes : (test : Fact → Bool) (m : Move) → passes test m ≡ true → passes (λ fact. true) m ≡ true
+there_where_passes test m h = by m.old m.new h
+  where
+    by : (o n : Option Fact) → (option_map_or test o false || option_map_or test n false) ≡ true → (option_map_or (λ fact. true) o false || option_map_or (λ fact. true) n false) ≡ true
+    by None None h = h
+    by None (Some f) h = refl
+    by (Some f) n h = refl
+
+touches_where_there : (part : Part) (m : Move) → is_moved_in part m ≡ true → passes (λ fact. true) m ≡ true
+touches_where_there (Id id) m h = (and_parts (text_eq id m.id) (passes (λ fact. true) m) h).1
+touches_where_there (Cell dims) m h = there_where_passes (has_dims dims) m h
+touches_where_there (Range sought upto) m h =
+    there_where_passes (answers_query sought.concept sought.period) m (and_parts (is_within sought.after upto m.id) (passes (answers_query sought.concept sought.period) m) h).1
+
+any_there : (part : Part) (ms : List Move) → is_moved (filter (passes (λ fact. true)) ms) part ≡ is_moved ms part
+any_there part [] = refl
+any_there part (m ∷ ms) = by (any_there part ms) (passes (λ fact. true) m) refl (is_moved_in part m) refl
+  where
+    by : is_moved (filter (passes (λ fact. true)) ms) part ≡ is_moved ms part → (b : Bool) → passes (λ fact. true) m ≡ b → (t : Bool) → is_moved_in part m ≡ t
+        → is_moved (cond b (m ∷ filter (passes (λ fact. true)) ms) (filter (passes (λ fact. true)) ms)) part ≡ (is_moved_in part m || is_moved ms part)
+    by later true is t touches = ap (λ b. is_moved_in part m || b) later
+    by later false is true touches = absurd (true≢false (sym (touches_where_there part m touches) ∙ is))
+    by later false is false touches = later ∙ sym (ap (λ b. b || is_moved ms part) touches)
+
+-- so what moves stamp is told by those that have a fact
+pub stamped_by-moves_in : (changes : List (Text × Option Fact)) (facts : TextMap Fact) (number : ℕ) (stamp : Part → ℕ)
+    → stamped_by (moves_in changes facts) number stamp ≡ stamped_by (moves_of changes facts) number stamp
+stamped_by-moves_in changes facts number stamp = λ i part. cond (any_there part (moves_of changes facts) i) number (stamp part)
+
+-- ---- a changed report
+
+declared_facts : (o : Option Allowed) (r : Report) → (declaring_if o r).facts ≡ r.facts
+declared_facts None r = refl
+declared_facts (Some value) r = refl
+
+same_front : (o : Option Allowed) (front : Report) (facts after : TextMap Fact)
+    → record (declaring_if o front) { facts = after } ≡ record (declaring_if o (record front { facts = facts })) { facts = after }
+same_front None front facts after = refl
+same_front (Some value) front facts after = refl
+
+-- the front with its declared value and the facts with their changes are the report with both
+pub changed_front : (change : ReportChange) (front : Report) (facts : TextMap Fact)
+    → record (declaring_if change.declared front) { facts = with_changes change.facts.entries facts } ≡ changed change (record front { facts = facts })
+changed_front change front facts =
+    same_front change.declared front facts (with_changes change.facts.entries facts)
+    ∙ ap (λ m. record (declaring_if change.declared (record front { facts = facts })) { facts = with_changes change.facts.entries m }) (sym (declared_facts change.declared (record front { facts = facts })))
+    ∙ sym (with_facts-report change.facts.entries (declaring_if change.declared (record front { facts = facts })))

@@ -1,0 +1,19 @@
+use Rattle.std.proofs.Common.{◌∙◌, ap, sym, List}
+use Rattle.filing_model.specs.TextMap.{get}
+use Rattle.filing_model.specs.Things as thing
+use Rattle.filing_index.specs.Moves.{Id}
+use Rattle.filing_index.specs.Stamps.{Stamp, stamp_in as part_stamp}
+use Rattle.filing_version.proofs.StampedReports.{stamp_there, stamp_nowhere}
+use Rattle.filing_version.proofs.version.RepoVersion.stamp_id.Goals as goal
+
+pub returns-in-Some : goal.returns-in-Some
+returns-in-Some c =
+    c.of_id.ensures
+    ∙ ap (λ (s : List Stamp). part_stamp s (Id c.args.id.now)) c.stamps.ensures
+    ∙ stamp_there c.args.self.now.reports (thing.Id c.args.report.now c.args.id.now) c.in-Some.filed.now
+    ((λ i. get (sym c.self.view_is i).reports c.args.report.now) ∙ sym c.in-Some.ensures)
+
+pub returns-in-None : goal.returns-in-None
+returns-in-None c =
+    stamp_nowhere c.args.self.now.reports (thing.Id c.args.report.now c.args.id.now)
+    ((λ i. get (sym c.self.view_is i).reports c.args.report.now) ∙ sym c.in-None.ensures)

@@ -1,0 +1,280 @@
+//! One report of a version, with the stamps of its parts.
+ghost use Rattle.std.specs.Prelude.{◌≡◌, ◌≤◌, cond, is_some, map, option_map, string_bytes, T as Holds, IfOk};
+ghost use Rattle.std.specs.Arc.{arc_value};
+ghost use Rattle.std.specs.FinMap.Entries.{is_sorted};
+ghost use Rattle.filing_model.specs.Text.{text_cmp};
+ghost use Rattle.std.specs.List.{filter_map};
+ghost use Rattle.filing_model.specs.TextMap.{empty};
+ghost use Rattle.filing_model.specs.DeclaredValue.{report_declaring};
+ghost use Rattle.filing_model.specs.Changes.{declaring_if, least_among, least_changed};
+ghost use Rattle.filing_model.specs.Duplicates.{least_disallowed};
+ghost use Rattle.oim_report.specs.Parts.{facts_view, IsInfo};
+ghost use Rattle.filing_index.specs.Moves.{Part, moves_of, stamped_by, with_changes};
+ghost use Rattle.filing_index.specs.Stamps.{stamp_in};
+ghost use Rattle.filing_version.specs.Filed.{filed_of, newly_filed, changed_filed};
+
+use crate::changed_report::ChangedReport;
+use filing_index::{Facts, Stamps};
+use filing_pages::{Held, Named, TextPages};
+use oim_fact::{Allowed, DimSet, Fact, Names};
+use oim_report::{Report, ReportParts};
+use std::alloc::{AllocError, Global};
+use std::marker::Model;
+use std::sync::Arc;
+
+/// A report whose facts stand in indexes, with the number of its load, that of the last commit that declared its value, and those of its parts. Contracts see these.
+#[derive(Drop)]
+pub(crate) struct FiledReport {
+    /// The report without its facts.
+    front: Arc<Report>,
+    facts: Facts,
+    loaded: u64,
+    declared: u64,
+    stamps: Stamps,
+}
+
+impl Model for FiledReport {
+    ghost use Rattle.std.specs.Arc.{arc_value};
+    ghost use Rattle.filing_version.specs.Filed.{StampedReport};
+
+    ghost Value = { StampedReport };
+
+    ghost view = { λ f. record {
+      report = record (arc_value f.front) { facts = f.facts };
+      loaded = f.loaded;
+      declared = f.declared;
+      stamps = f.stamps;
+    } };
+}
+
+/// Facts as an index holds them.
+fn held_facts(
+    alloc: Global,
+    mut facts: Vec<(String, Arc<Fact>)>,
+) -> Result<Vec<Named<Held>>, AllocError>
+    ensures { IfOk result (λ v. v.items ≡ facts_view facts.items) }
+{
+    let mut held = Vec::with_capacity(alloc, facts.len())?;
+    while let Some((id, fact)) = facts.pop() {
+        held.push(Named::new(alloc, id, Held::of(fact))?)?;
+    }
+    held.as_mut_slice().reverse();
+    Ok(held)
+}
+
+/// The indexes of facts whose identifiers rise.
+fn indexed(alloc: Global, facts: Vec<(String, Arc<Fact>)>) -> Result<Facts, AllocError>
+    requires { Holds (is_sorted text_cmp (facts_view facts.items)) }
+    ensures { IfOk result (λ f. f.entries ≡ facts_view facts.items) }
+{
+    let held = held_facts(alloc, facts)?;
+    Facts::of_sorted(alloc, held)
+}
+
+/// A report of no facts.
+fn front_of(
+    alloc: Global,
+    info: String,
+    names: Names,
+    allowed: Allowed,
+) -> Result<Arc<Report>, AllocError>
+    requires { IsInfo (string_bytes info) names.prefixes allowed }
+    ensures { IfOk result (λ r. arc_value r ≡ record { info = string_bytes info; names = names; allowed = allowed; facts = empty }) }
+{
+    let front = Report::of(ReportParts {
+        info,
+        names,
+        allowed,
+        facts: Vec::new(alloc),
+    });
+    Ok(Arc::new(alloc, front)?)
+}
+
+/// A copy of a report that declares this value.
+fn copy_declaring(alloc: Global, front: &Report, allowed: Allowed) -> Result<Report, AllocError>
+    ensures { IfOk result (λ r. r ≡ report_declaring front.now allowed) }
+{
+    let copy = front.clone()?;
+    copy.with_allowed(alloc, allowed)
+}
+
+/// A report that declares this value, where one is given; else another owner of the same.
+fn declaring(
+    alloc: Global,
+    front: &Arc<Report>,
+    declared: Option<Allowed>,
+) -> Result<Arc<Report>, AllocError>
+    ensures { IfOk result (λ r. arc_value r ≡ declaring_if declared (arc_value front.now)) }
+{
+    match declared {
+        None => Arc::try_clone(front),
+        Some(allowed) => {
+            let changed = copy_declaring(alloc, front, allowed)?;
+            Ok(Arc::new(alloc, changed)?)
+        }
+    }
+}
+
+impl FiledReport {
+    /// A report that is loaded as this version.
+    pub(crate) fn new(alloc: Global, report: Report, number: u64) -> Result<FiledReport, AllocError>
+        ensures { IfOk result (λ f. filed_of f ≡ newly_filed number report) }
+    {
+        let ReportParts {
+            info,
+            names,
+            allowed,
+            facts,
+        } = report.into_parts();
+        let facts = indexed(alloc, facts)?;
+        let front = front_of(alloc, info, names, allowed)?;
+        Ok(FiledReport {
+            front,
+            facts,
+            loaded: number,
+            declared: 0,
+            stamps: Stamps::new(alloc),
+        })
+    }
+
+    /// The facts with puts laid over them, and the stamps of their parts, which have this number where the puts touch them.
+    fn moved(
+        &self,
+        alloc: Global,
+        puts: &TextPages<Option<Held>>,
+        number: u64,
+    ) -> Result<(Facts, Stamps), AllocError>
+        requires { (part : Part) → stamp_in self.now.stamps part ≤ number }
+        ensures facts { IfOk result (λ moved. moved.0 ≡ with_changes puts.now.entries self.now.report.facts) }
+        ensures stamps { IfOk result (λ moved. stamp_in moved.1
+            ≡ stamped_by (moves_of puts.now.entries self.now.report.facts) number (stamp_in self.now.stamps)) }
+    {
+        let moves = self.facts.moves(alloc, puts)?;
+        let facts = self.facts.after(alloc, &moves)?;
+        let stamps = self.stamps.after(alloc, &moves, number)?;
+        Ok((facts, stamps))
+    }
+
+    /// The report with a change laid over it, stamped with this number.
+    pub(crate) fn after(
+        &self,
+        alloc: Global,
+        change: &ChangedReport,
+        number: u64,
+    ) -> Result<FiledReport, AllocError>
+        requires { (part : Part) → stamp_in self.now.stamps part ≤ number }
+        ensures { IfOk result (λ f. filed_of f ≡ changed_filed number change.now (filed_of self.now)) }
+    {
+        let declared = match change.declared() {
+            Some(_) => number,
+            None => self.declared,
+        };
+        let front = declaring(alloc, &self.front, change.declared())?;
+        let (facts, stamps) = self.moved(alloc, change.facts(), number)?;
+        Ok(FiledReport {
+            front,
+            facts,
+            loaded: self.loaded,
+            declared,
+            stamps,
+        })
+    }
+
+    /// The facts, which are shared.
+    fn shared_facts(&self, alloc: Global) -> Result<Vec<(String, Arc<Fact>)>, AllocError>
+        ensures { IfOk result (λ v. facts_view v.items ≡ self.now.report.facts.entries) }
+    {
+        let mut facts = Vec::new(alloc);
+        for entry in self.facts.iter() {
+            let id = String::from_str(alloc, entry.name())?;
+            facts.push((id, Arc::try_clone(entry.value().fact())?))?;
+        }
+        Ok(facts)
+    }
+
+    /// The report. Its facts are shared.
+    pub(crate) fn report(&self, alloc: Global) -> Result<Report, AllocError>
+        ensures { IfOk result (λ r. r ≡ self.now.report) }
+    {
+        let facts = self.shared_facts(alloc)?;
+        let names = self.front.names().clone()?;
+        let info = String::from_str(alloc, self.front.info())?;
+        Ok(Report::of(ReportParts {
+            info,
+            names,
+            allowed: self.front.allowed(),
+            facts,
+        }))
+    }
+
+    pub(crate) fn facts(&self) -> &Facts
+        ensures { result.now ≡ self.now.report.facts }
+    {
+        &self.facts
+    }
+
+    pub(crate) fn stamps(&self) -> &Stamps
+        ensures { result.now ≡ self.now.stamps }
+    {
+        &self.stamps
+    }
+
+    pub(crate) fn names(&self) -> &Names
+        ensures { result.now ≡ self.now.report.names }
+    {
+        self.front.names()
+    }
+
+    pub(crate) fn allowed(&self) -> Allowed
+        ensures { result ≡ self.now.report.allowed }
+    {
+        self.front.allowed()
+    }
+
+    /// The least dimensions whose cell a changed report does not allow: of all its cells where the change declares a value, else of those of the facts that it puts.
+    pub(crate) fn least_changed<'a>(&'a self, change: &'a ChangedReport) -> Option<&'a DimSet>
+        ensures { option_map (λ d. d.now) result ≡ least_changed change.now self.now.report }
+    {
+        match change.declared() {
+            Some(_) => self.least_disallowed(),
+            None => self.least_among(change.facts()),
+        }
+    }
+
+    /// The least dimensions of facts that are put whose cell is not allowed. A fact that is put stands in the report.
+    fn least_among<'a>(&self, puts: &'a TextPages<Option<Held>>) -> Option<&'a DimSet>
+        ensures { option_map (λ d. d.now) result ≡ least_among (filter_map (λ e. e.1) puts.now.entries) self.now.report }
+    {
+        let allowed = self.allowed();
+        let mut least = None;
+        for put in puts.iter() {
+            if let Some(held) = put.value() {
+                least = self
+                    .facts
+                    .lesser_disallowed(allowed, least, &held.fact().dims);
+            }
+        }
+        least
+    }
+
+    /// The least dimensions whose cell is not allowed.
+    pub(crate) fn least_disallowed(&self) -> Option<&DimSet>
+        ensures { option_map (λ d. d.now) result ≡ least_disallowed self.now.report.allowed self.now.report.facts.entries }
+    {
+        self.facts.least_disallowed(self.allowed())
+    }
+
+    /// The number of its load.
+    pub(crate) fn loaded(&self) -> u64
+        ensures { result ≡ self.now.loaded }
+    {
+        self.loaded
+    }
+
+    /// The number of the last commit that declared its value, or 0.
+    pub(crate) fn declared(&self) -> u64
+        ensures { result ≡ self.now.declared }
+    {
+        self.declared
+    }
+}

@@ -1,0 +1,250 @@
+//! `RepoVersion`: one unchanging state of the repository.
+ghost use Rattle.std.specs.Prelude.{◌≡◌, ◌+◌, ◌<◌, ◌^◌, None, true, Option, option_map, option_and_then, string_bytes, IfOk};
+ghost use Rattle.std.specs.Arc.{arc_value};
+ghost use Rattle.filing_model.specs.Text.{Text};
+ghost use Rattle.filing_model.specs.TextMap.{get as value_at};
+ghost use Rattle.filing_model.specs.Repository.{Repository, report_at, fact_in};
+ghost use Rattle.filing_model.specs.Things as thing;
+ghost use Rattle.filing_model.specs.Stamps.{first_version, version_after, version_with};
+ghost use Rattle.filing_model.specs.Changes.{after_change, first_disallowed};
+ghost use Rattle.filing_model.specs.Duplicates.{class_of, least_disallowed};
+ghost use Rattle.filing_model.specs.Queries.{cell_facts, cell_ids, ids_for};
+ghost use Rattle.filing_model.specs.Sessions.{repository_obeys, refusal_of};
+ghost use Rattle.filing_laws.specs.NetChange.{refusal_at};
+ghost use Rattle.filing_index.specs.Wanted.{asked_of};
+ghost use Rattle.filing_version.specs.Found.{got_of};
+ghost use Rattle.filing_version.specs.Filed.{version_in, repository_in};
+
+use crate::change::Change;
+use crate::filed::FiledReport;
+use crate::got::Got;
+use filing_index::{Asked, Ids};
+use filing_pages::TextPages;
+use oim_fact::{Allowed, Class, DimSet, Names};
+use oim_report::Report;
+use std::alloc::{AllocError, Global};
+use std::marker::Model;
+
+/// One state of the repository, which never changes: its reports, and the stamp of each thing, the number of the last load or commit that touched it. Reports and facts are shared with other versions. Contracts see the plain repository with its stamps, by `version_in`.
+#[derive(Drop)]
+pub struct RepoVersion {
+    number: u64,
+    reports: TextPages<FiledReport>,
+}
+
+impl Model for RepoVersion {
+    ghost use Rattle.filing_version.specs.Filed.{mapped, filed_of, IsStampedUpTo, StampedReports};
+
+    ghost Value = { StampedReports };
+
+    ghost view = { λ v. record { number = v.number; reports = v.reports } };
+
+    ghost invariant = { λ v. IsStampedUpTo v.number (mapped filed_of v.reports) };
+}
+
+#[tactic(auto, using(crate::proofs::StampedReports::reported))]
+impl RepoVersion {
+    /// The version before the first load. It takes no memory.
+    pub fn empty(alloc: Global) -> RepoVersion
+        ensures { version_in result ≡ first_version }
+    {
+        RepoVersion {
+            number: 0,
+            reports: TextPages::new(alloc),
+        }
+    }
+
+    /// How many loads and commits were accepted.
+    pub fn number(&self) -> u64
+        ensures { result ≡ (repository_in self.now).count }
+    {
+        self.number
+    }
+
+    /// What stands at an identifier. It takes no memory, nor do the look-ups below.
+    pub fn get(&self, report: &str, id: &str) -> Got<'_>
+        ensures { got_of result ≡ option_map (λ r. fact_in r id.now) (report_at (repository_in self.now) report.now) }
+    {
+        let Some(filed) = self.reports.get(report) else {
+            return Got::NoReport;
+        };
+        match filed.facts().get(id) {
+            Some(fact) => Got::Found(fact),
+            None => Got::Absent,
+        }
+    }
+
+    /// The class of a cell, and the identifiers of its facts in byte order, or none where the report is not there.
+    pub fn cell<'a>(&'a self, report: &str, dims: &'a DimSet) -> Option<(Class, Ids<'a>)>
+        ensures { result ≡ option_map (λ r. (class_of (cell_facts dims.now r.facts), cell_ids dims.now r.facts))
+            (report_at (repository_in self.now) report.now) }
+    {
+        let facts = self.reports.get(report)?.facts();
+        Some((facts.class_of_cell(dims), facts.ids_of_cell(dims)))
+    }
+
+    /// The identifiers, in byte order, of the facts with a concept and a period that is asked for; those that are greater than one, where one is given. None where the report is not there.
+    pub fn query<'a>(
+        &'a self,
+        report: &str,
+        concept: &'a str,
+        period: Asked<'a>,
+        after: Option<&str>,
+    ) -> Option<Ids<'a>>
+        ensures { result ≡ option_map (λ r. ids_for (record {
+          concept = concept.now;
+          period = asked_of period.entry;
+          after = option_map (λ t. t.now) after.entry;
+        }) r.facts) (report_at (repository_in self.now) report.now) }
+    {
+        let facts = self.reports.get(report)?.facts();
+        Some(facts.ids_of_query(concept, period, after))
+    }
+
+    /// The prefixes of a report with its numeric table, or none where it is not there.
+    pub fn names(&self, report: &str) -> Option<&Names>
+        ensures { option_map (λ n. n.now) result ≡ option_map (λ r. r.names) (report_at (repository_in self.now) report.now) }
+    {
+        Some(self.reports.get(report)?.names())
+    }
+
+    /// The version with a change laid over it, which counts one more. What the change touches has that number as its stamp.
+    pub fn after(&self, alloc: Global, change: &Change) -> Result<RepoVersion, AllocError>
+        requires there { (name : Text) → report_at (repository_in self.now) name ≡ None → value_at change.now name ≡ None }
+        requires few { (repository_in self.now).count + 1 < 2 ^ 64 }
+        ensures { IfOk result (λ v. version_in v ≡ version_after change.now (version_in self.now)) }
+    {
+        let number = self.number + 1;
+        let mut reports = self.reports.share(alloc)?;
+        for part in change.reports() {
+            if let Some(filed) = reports.get(part.name()) {
+                let next = filed.after(alloc, part.value(), number)?;
+                reports = reports.with(alloc, String::from_str(alloc, part.name())?, next)?;
+            }
+        }
+        Ok(RepoVersion { number, reports })
+    }
+
+    /// The version with one report more, which counts one more and stamps its name.
+    pub fn with_report(
+        &self,
+        alloc: Global,
+        name: String,
+        report: Report,
+    ) -> Result<RepoVersion, AllocError>
+        requires new { report_at (repository_in self.now) (string_bytes name) ≡ None }
+        requires few { (repository_in self.now).count + 1 < 2 ^ 64 }
+        ensures { IfOk result (λ v. version_in v ≡ version_with (string_bytes name) report (version_in self.now)) }
+    {
+        let number = self.number + 1;
+        let filed = FiledReport::new(alloc, report, number)?;
+        let reports = self.reports.with(alloc, name, filed)?;
+        Ok(RepoVersion { number, reports })
+    }
+
+    /// The report of this name. Its facts are shared.
+    pub fn report(&self, alloc: Global, name: &str) -> Result<Option<Report>, AllocError>
+        ensures { IfOk result (λ o. o ≡ report_at (repository_in self.now) name.now) }
+    {
+        match self.reports.get(name) {
+            None => Ok(None),
+            Some(filed) => Ok(Some(filed.report(alloc)?)),
+        }
+    }
+
+    /// The allowed duplicates that a report declares, or none where it is not there.
+    pub fn allowed(&self, report: &str) -> Option<Allowed>
+        ensures { result ≡ option_map (λ r. r.allowed) (report_at (repository_in self.now) report.now) }
+    {
+        Some(self.reports.get(report)?.allowed())
+    }
+
+    /// Asked of the version that a change made: the least report, and in it the least dimensions, whose cell it does not allow, among the cells of the facts that are put, and among all cells of a report for which a value is declared.
+    ///
+    /// Where the version before obeyed, this decides the commit: it is the least of all.
+    pub fn first_disallowed<'a>(&'a self, change: &'a Change) -> Option<(&'a str, &'a DimSet)>
+        ensures first { option_map (λ d. (d.0.now, d.1.now)) result ≡ first_disallowed (repository_in self.now) change.now }
+        ensures decides { (base : Repository) → repository_obeys base ≡ true
+            → (repository_in self.now) ≡ after_change change.now base
+            → refusal_of (repository_in self.now)
+            ≡ option_map (λ d. refusal_at (repository_in self.now) (d.0.now, d.1.now)) result }
+    {
+        for part in change.reports() {
+            if let Some(filed) = self.reports.get(part.name()) {
+                if let Some(dims) = filed.least_changed(part.value()) {
+                    return Some((part.name(), dims));
+                }
+            }
+        }
+        None
+    }
+
+    /// The least dimensions whose cell a report does not allow.
+    pub fn disallowed_in(&self, report: &str) -> Option<&DimSet>
+        ensures { option_map (λ d. d.now) result
+            ≡ option_and_then (λ r. least_disallowed r.allowed r.facts.entries) (report_at (repository_in self.now) report.now) }
+    {
+        self.reports.get(report)?.least_disallowed()
+    }
+
+    /// The number of the load of this name, or 0.
+    pub fn stamp_report(&self, name: &str) -> u64
+        ensures { result ≡ (version_in self.now).stamp (thing.Report name.now) }
+    {
+        match self.reports.get(name) {
+            Some(filed) => filed.loaded(),
+            None => 0,
+        }
+    }
+
+    /// The number of the last commit that touched an identifier, or 0.
+    pub fn stamp_id(&self, report: &str, id: &str) -> u64
+        ensures { result ≡ (version_in self.now).stamp (thing.Id report.now id.now) }
+    {
+        match self.reports.get(report) {
+            Some(filed) => filed.stamps().of_id(id),
+            None => 0,
+        }
+    }
+
+    /// The number of the last commit that touched a cell, or 0.
+    pub fn stamp_cell(&self, report: &str, dims: &DimSet) -> u64
+        ensures { result ≡ (version_in self.now).stamp (thing.Cell report.now dims.now) }
+    {
+        match self.reports.get(report) {
+            Some(filed) => filed.stamps().of_cell(dims),
+            None => 0,
+        }
+    }
+
+    /// The number of the last commit that touched what is asked for, up to an identifier where one is given, or 0.
+    pub fn stamp_range(
+        &self,
+        report: &str,
+        concept: &str,
+        period: Asked<'_>,
+        after: Option<&str>,
+        upto: Option<&str>,
+    ) -> u64
+        ensures { result ≡ (version_in self.now).stamp (thing.Range report.now (record {
+          concept = concept.now;
+          period = asked_of period.entry;
+          after = option_map (λ t. t.now) after.entry;
+        }) (option_map (λ t. t.now) upto.entry)) }
+    {
+        match self.reports.get(report) {
+            Some(filed) => filed.stamps().of_range(concept, period, after, upto),
+            None => 0,
+        }
+    }
+
+    /// The number of the last commit that declared the allowed duplicates of a report, or 0.
+    pub fn stamp_policy(&self, report: &str) -> u64
+        ensures { result ≡ (version_in self.now).stamp (thing.Policy report.now) }
+    {
+        match self.reports.get(report) {
+            Some(filed) => filed.declared(),
+            None => 0,
+        }
+    }
+}
