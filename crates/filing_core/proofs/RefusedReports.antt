@@ -1,42 +1,63 @@
--- A report is refused for its least disallowed cell, where it has one.
-use Rattle.std.proofs.Common.{◌≡◌, ◌∙◌, ap, sym, refl, true, false, List, [], map, Some, None}
+-- A load is refused for a name that is taken, or for the least disallowed cell of its report.
+use Rattle.std.proofs.Common.{◌≡◌, ◌∙◌, ap, sym, refl, subst, cond, Result, true, false, true≢false, Bool, [], Some, None, Option, option_map, is_some}
 use Rattle.std.specs.Option.{option_map_or}
 use Rattle.filing_model.specs.Text.{Text}
+use Rattle.filing_model.specs.TextMap.{get}
 use Rattle.filing_model.specs.Dimensions.{Dims}
-use Rattle.filing_model.specs.Facts.{Fact}
 use Rattle.filing_model.specs.Reports.{Report}
-use Rattle.filing_model.specs.Replies.{Disallowed}
-use Rattle.filing_model.specs.Duplicates.{class_of, facts_of, cell_of, least_disallowed}
-use Rattle.filing_model.specs.Sessions.{report_obeys}
-use Rattle.filing_model.specs.declared.duplicates.Allowed.{Allowed}
-use Rattle.filing_model.specs.declared.duplicates.Class.{Class}
+use Rattle.filing_model.specs.Repository.{Repository, report_at, with_report}
+use Rattle.filing_model.specs.Replies as reply
+use Rattle.filing_model.specs.Replies.{Reply}
+use Rattle.filing_model.specs.Duplicates.{class_of, least_disallowed}
+use Rattle.filing_model.specs.Queries.{cell_facts, cell_ids}
 use Rattle.filing_model.specs.declared.duplicates.Class.TheVariants.{Empty}
+use Rattle.filing_model.specs.Sessions.{report_obeys, disallowed_cell}
+use Rattle.filing_model.proofs.TextMaps.{get-insert}
+use Rattle.filing_model.proofs.Texts.{text_eq-refl}
 use Rattle.filing_model.proofs.DisallowedCells.{obeys_where_no_cell_is_disallowed}
-use Rattle.filing_core.specs.Cells.{IsRefusedFor}
+use Rattle.filing_laws.specs.NetChange.{refusal_at}
+use Rattle.filing_step.specs.declared.reply.Reply as step
+use Rattle.filing_version.specs.Filed.{StampedReports}
+use Rattle.filing_core.specs.Refusals.{report_refusal, load_refusal, LoadMakes}
 
--- the report that declares this and has these facts
-pub record Has (r : Report) (a : Allowed) (entries : List (Text × Fact)) : Type 0 where
-  pub allowed : r.allowed ≡ a
-  pub facts : r.facts.entries ≡ entries
+pub absent : (o : Option Report) → is_some (option_map (λ r. r.allowed) o) ≡ false → o ≡ None
+absent None none = refl
+absent (Some r) there = absurd (true≢false there)
 
-least_in : (r : Report) (a : Allowed) (entries : List (Text × Fact)) → Has r a entries → least_disallowed r.allowed r.facts.entries ≡ least_disallowed a entries
-least_in r a entries has = λ i. least_disallowed (has.allowed i) (has.facts i)
+-- the report that was loaded is there
+pub loaded_there : (c : Repository) (name : Text) (r : Report) → report_at (with_report c name r) name ≡ Some r
+loaded_there c name r = get-insert c.reports name r name ∙ ap (λ b. cond b (Some r) (get c.reports name)) (text_eq-refl name)
 
-pub obeys_where_none : (r : Report) (a : Allowed) (entries : List (Text × Fact)) → Has r a entries → least_disallowed a entries ≡ None → IsRefusedFor r None
-obeys_where_none r a entries has none = (obeys_where_no_cell_is_disallowed r.allowed r.facts.entries).1 (least_in r a entries has ∙ none)
+pub taken : (c : Repository) (name : Text) (r : Report) → is_some (report_at c name) ≡ true → load_refusal c name r ≡ Some reply.NameTaken
+taken c name r there = ap (λ b. cond b (Some reply.NameTaken) (report_refusal name r)) there
 
-pub refused_where_some : (r : Report) (a : Allowed) (entries : List (Text × Fact)) (d : Dims) (class : Class) (ids : List Text)
-    → Has r a entries → least_disallowed a entries ≡ Some d
-    → class ≡ class_of (facts_of (cell_of d entries)) → ids ≡ map (λ e. e.0) (cell_of d entries) → IsRefusedFor r (Some (class, ids))
-refused_where_some r a entries d class ids has some class_is ids_are = (
-  elim (report_obeys r) as (λ b. report_obeys r ≡ b → b ≡ false) [
-    | true ↦ λ obeys. let none : None ≡ Some d =
-        sym ((obeys_where_no_cell_is_disallowed r.allowed r.facts.entries).0 obeys) ∙ least_in r a entries has ∙ some in absurd (cc)
-    | false ↦ λ _. refl
-  ] refl,
-  λ name.
-      ap (λ o. option_map_or (λ e. Disallowed name (class_of (facts_of (cell_of e r.facts.entries)))
-      (map (λ x. x.0) (cell_of e r.facts.entries))) o (Disallowed name Empty [])) (least_in r a entries has ∙ some)
-      ∙ (λ i. Disallowed name (class_of (facts_of (cell_of d (has.facts i)))) (map (λ x. x.0) (cell_of d (has.facts i))))
-      ∙ sym (λ i. Disallowed name (class_is i) (ids_are i)),
-)
+free : (c : Repository) (name : Text) (r : Report) → report_at c name ≡ None → load_refusal c name r ≡ report_refusal name r
+free c name r none = ap (λ o. cond (is_some o) (Some reply.NameTaken) (report_refusal name r)) none
+
+-- no cell is disallowed
+pub accepted : (c : Repository) (name : Text) (r : Report) → report_at c name ≡ None → least_disallowed r.allowed r.facts.entries ≡ None → load_refusal c name r ≡ None
+accepted c name r none least =
+    free c name r none
+    ∙ ap (λ b. cond b None (Some (disallowed_cell name r))) ((obeys_where_no_cell_is_disallowed r.allowed r.facts.entries).1 least)
+
+-- how a report is refused whose least disallowed cell, if any, is this
+abbrev told : Text → Report → Option Dims → Reply
+told name r least = option_map_or (λ dims. reply.Disallowed name (class_of (cell_facts dims r.facts)) (cell_ids dims r.facts)) least (reply.Disallowed name Empty [])
+
+-- one is
+pub refused : (c next : Repository) (name : Text) (r : Report) (dims : Dims) → report_at c name ≡ None → report_at next name ≡ Some r
+    → least_disallowed r.allowed r.facts.entries ≡ Some dims → load_refusal c name r ≡ Some (refusal_at next (name, dims))
+refused c next name r dims none there least =
+    free c name r none ∙ by (report_obeys r) refl ∙ ap (λ o. Some (told name r o)) least
+    ∙ sym (ap (λ o. Some (option_map_or (λ (r : Report). reply.Disallowed name (class_of (cell_facts dims r.facts)) (cell_ids dims r.facts)) o reply.NoReport)) there)
+  where
+    by : (b : Bool) → report_obeys r ≡ b → cond b None (Some (disallowed_cell name r)) ≡ Some (told name r (least_disallowed r.allowed r.facts.entries))
+    by true obeys =
+        let apart : None ≡ Some dims = sym ((obeys_where_no_cell_is_disallowed r.allowed r.facts.entries).0 obeys) ∙ least in
+        absurd cc
+    by false disobeys = refl
+
+-- what a load makes, in the words of whoever asked for it
+pub load_as : (c d : Repository) (m name : Text) (r : Report) (o p : Result StampedReports step.Reply) → c ≡ d → m ≡ name → o ≡ p → LoadMakes c m r o → LoadMakes d name r p
+load_as c d m name r o p same_repository same_name same makes =
+    subst (λ o. LoadMakes d name r o) same (subst (λ n. LoadMakes d n r o) same_name (subst (λ c. LoadMakes c m r o) same_repository makes))

@@ -1,9 +1,10 @@
 -- Why a load or a commit is refused, and what one makes that is not.
-use Rattle.std.specs.Prelude.{◌≡◌, ◌+◌, ℕ, cond, map, string_bytes, List, [], ◌∷◌, Option, Some, None, Result, Ok, Err, is_some, ⊤, true, false}
+use Rattle.std.specs.Prelude.{◌≡◌, ◌+◌, ℕ, cond, ◌∷◌, Option, Some, None, Result, Ok, Err, is_some, false}
 use Rattle.filing_model.specs.Text.{Text}
-use Rattle.filing_model.specs.TextMap.{get}
 use Rattle.filing_model.specs.Reports.{Report}
-use Rattle.filing_model.specs.Repository.{Repository, report_at}
+use Rattle.filing_model.specs.Repository.{Repository, report_at, with_report}
+use Rattle.filing_model.specs.Changes.{Change, after_change}
+use Rattle.filing_version.specs.Filed.{StampedReports, repository_in}
 use Rattle.filing_model.specs.Replies as reply
 use Rattle.filing_model.specs.Replies.{Reply}
 use Rattle.filing_model.specs.Sessions.{report_obeys, disallowed_cell, refusal_of}
@@ -11,12 +12,8 @@ use Rattle.filing_model.specs.History as model
 use Rattle.filing_model.specs.History.{History, repository}
 use Rattle.filing_model.specs.Lawful.{next_reply}
 use Rattle.filing_model.specs.Versions.{counts}
-use Rattle.filing_core.specs.Staged.{StagedFacts, IsNextVersion}
-use Rattle.filing_core.specs.declared.disallowed.DisallowedCell.{DisallowedCell}
-
--- the reply that tells a cell which its report does not allow
-abbrev pub refusal_told : DisallowedCell → Reply
-refusal_told c = reply.Disallowed (string_bytes c.report) c.class (map string_bytes c.ids.items)
+use Rattle.filing_step.specs.Steps.{reply_of}
+use Rattle.filing_step.specs.declared.reply.Reply as step
 
 -- of a report by itself: its least disallowed cell, where it has one
 abbrev pub report_refusal : Text → Report → Option Reply
@@ -26,16 +23,15 @@ report_refusal name r = cond (report_obeys r) None (Some (disallowed_cell name r
 abbrev pub load_refusal : Repository → Text → Report → Option Reply
 load_refusal c name r = cond (is_some (report_at c name)) (Some reply.NameTaken) (report_refusal name r)
 
--- each of these reports for which nothing is staged obeys
-abbrev pub UnstagedObey : StagedFacts → List (Text × Report) → Type 0
-UnstagedObey staged [] = ⊤
-UnstagedObey staged (e ∷ es) = (get staged e.0 ≡ None → report_obeys e.1 ≡ true) × UnstagedObey staged es
+-- a load makes the version with one report more, or is refused with this reply
+abbrev pub LoadMakes : Repository → Text → Report → Result StampedReports step.Reply → Type 0
+LoadMakes c name r (Ok next) = (load_refusal c name r ≡ None) × (repository_in next ≡ with_report c name r)
+LoadMakes c name r (Err told) = load_refusal c name r ≡ Some (reply_of told)
 
--- the next version, which is not refused, or the refusal of it
-abbrev pub CommitMakes : Repository → StagedFacts → Result Repository DisallowedCell → Type 0
-CommitMakes base staged (Ok next) = IsNextVersion base next staged × (refusal_of next ≡ None)
-CommitMakes base staged (Err r) = (next : Repository) × IsNextVersion base next staged
-    × (refusal_of next ≡ Some (refusal_told r))
+-- a commit makes the version with its change laid over the one before, which is not refused, or is refused with this reply
+abbrev pub CommitMakes : Repository → Change → Result StampedReports step.Reply → Type 0
+CommitMakes base change (Ok next) = (repository_in next ≡ after_change change base) × (refusal_of (repository_in next) ≡ None)
+CommitMakes base change (Err told) = refusal_of (after_change change base) ≡ Some (reply_of told)
 
 -- the commit of the session passes, and this is the repository that it makes
 pub record IsPassedCommit (h : History) (session : Option ℕ) (next : Repository) : Type 0 where
@@ -52,6 +48,6 @@ pub record IsRefusedCommit (h : History) (session : Option ℕ) (r : Reply) : Ty
   pub told : next_reply h session model.Commit ≡ Some r
   pub quiet : counts r ≡ false
 
-abbrev pub AnswersCommit : History → Option ℕ → Result Repository DisallowedCell → Type 0
-AnswersCommit h session (Ok next) = IsPassedCommit h session next
-AnswersCommit h session (Err r) = IsRefusedCommit h session (refusal_told r)
+abbrev pub AnswersCommit : History → Option ℕ → Result StampedReports step.Reply → Type 0
+AnswersCommit h session (Ok next) = IsPassedCommit h session (repository_in next)
+AnswersCommit h session (Err told) = IsRefusedCommit h session (reply_of told)

@@ -1,45 +1,41 @@
-//! Reports that do not obey the allowed duplicates which they declare.
+//! How a cell that its report does not allow is told.
 
-ghost use Rattle.std.specs.Prelude.{◌≡◌, option_map, IfOk};
+ghost use Rattle.std.specs.Prelude.{◌≡◌, map, string_bytes, IfOk};
 ghost use Rattle.filing_step.specs.Steps.{reply_of};
-ghost use Rattle.filing_core.specs.Refusals.{report_refusal, refusal_told};
+ghost use Rattle.filing_laws.specs.NetChange.{refusal_at};
+ghost use Rattle.filing_version.specs.Filed.{repository_in};
 
-use crate::cells::refusal_in;
 use filing_step::Reply;
-use oim_fact::Class;
-use oim_report::Report;
+use filing_version::{Ids, RepoVersion};
+use oim_fact::DimSet;
 use std::alloc::{AllocError, Global};
 
-/// The least cell of a report that it does not allow: the name of the report, and the class and the identifiers, in byte order, of the cell.
-#[derive(Drop)]
-pub(crate) struct DisallowedCell {
-    pub(crate) report: String,
-    pub(crate) class: Class,
-    pub(crate) ids: Vec<String>,
-}
-
-impl DisallowedCell {
-    pub(crate) fn into_reply(self) -> Reply
-        ensures { reply_of result ≡ refusal_told self }
-    {
-        Reply::Disallowed(self.report, self.class, self.ids)
+/// The identifiers as texts of their own.
+fn texts_of(alloc: Global, ids: Ids<'_>) -> Result<Vec<String>, AllocError>
+    ensures { IfOk result (λ v. map string_bytes v.items ≡ ids.entry) }
+{
+    let mut texts = Vec::new(alloc);
+    for id in ids {
+        texts.push(String::from_str(alloc, id)?)?;
     }
+    Ok(texts)
 }
 
-/// What refuses a report, where it does not obey.
+/// The reply that tells a cell of a version: its report, its class, and its identifiers in byte order.
 pub(crate) fn disallowed(
     alloc: Global,
+    version: &RepoVersion,
     name: &str,
-    report: &Report,
-) -> Result<Option<DisallowedCell>, AllocError>
-    ensures { IfOk result (λ o. option_map refusal_told o ≡ report_refusal name.now report.now) }
+    dims: &DimSet,
+) -> Result<Reply, AllocError>
+    ensures { IfOk result (λ r. reply_of r ≡ refusal_at (repository_in version.now) (name.now, dims.now)) }
 {
-    match refusal_in(alloc, report.allowed(), report.facts())? {
-        Some((class, ids)) => Ok(Some(DisallowedCell {
-            report: String::from_str(alloc, name)?,
+    match version.cell(name, dims) {
+        Some((class, ids)) => Ok(Reply::Disallowed(
+            String::from_str(alloc, name)?,
             class,
-            ids,
-        })),
-        None => Ok(None),
+            texts_of(alloc, ids)?,
+        )),
+        None => Ok(Reply::NoReport),
     }
 }
