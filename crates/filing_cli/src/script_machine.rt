@@ -265,8 +265,8 @@ impl ScriptMachine {
         ensures { IfOk result (λ text. answered self.now (judged_export self.now name.now)
             ≡ (string_bytes text, self.now)) }
     {
-        match self.core.current().report(name) {
-            Some(report) => exported_reply(alloc, report),
+        match self.core.current().report(alloc, name)? {
+            Some(report) => exported_reply(alloc, &report),
             None => reply_text(alloc, &Reply::NoReport),
         }
     }

@@ -6,8 +6,9 @@ use crate::question::{owned_at, text_at};
 use anyhow::Result;
 use filing_cli::reply_text;
 use filing_core::{Core, CoreFault, Entry, Kind, Reply, Step};
+use filing_version::Got;
 use oim_fact::NumericTable;
-use oim_report::{Report, json_value, raw_fact, report_of, write_fact};
+use oim_report::{json_value, raw_fact, report_of, write_fact};
 use serde_json::Value;
 use std::alloc::{AllocError, Global};
 use std::sync::Arc;
@@ -135,13 +136,12 @@ fn entry_text(alloc: Global, entry: &Entry) -> Result<String> {
 }
 
 /// The fact of a report under an identifier, as it is written.
-fn held(alloc: Global, report: &Report, id: &str) -> Result<String> {
-    for (key, fact) in report.facts() {
-        if key.as_str() == id {
-            return Ok(write_fact(alloc, fact)?);
-        }
+fn held(alloc: Global, core: &Core, report: &str, id: &str) -> Result<String> {
+    match core.current().get(report, id) {
+        Got::NoReport => Ok(String::from_str(alloc, "no report")?),
+        Got::Absent => Ok(String::from_str(alloc, "none")?),
+        Got::Found(fact) => Ok(write_fact(alloc, fact)?),
     }
-    Ok(String::from_str(alloc, "none")?)
 }
 
 /// What a core tells of itself.
@@ -154,10 +154,7 @@ fn look(alloc: Global, core: &Core, question: &Value) -> Result<String> {
                 None => Ok(String::from_str(alloc, "none")?),
             }
         }
-        "held" => match core.current().report(text_at(question, 1)) {
-            Some(report) => held(alloc, report, text_at(question, 2)),
-            None => Ok(String::from_str(alloc, "no report")?),
-        },
+        "held" => held(alloc, core, text_at(question, 1), text_at(question, 2)),
         _ => {
             let (entries, number, busy) = state(core);
             Ok(format!(in alloc; "{entries} entries, version {number}, busy {busy}")?)
