@@ -70,6 +70,10 @@ underway_next {old = old} {now = now} {rest = rest} piece is left_is next_is = r
       ap (λ t. t ++ rest) next_is ∙ append_assoc now piece rest ∙ ap (λ t. now ++ t) (sym left_is) ∙ is.parts;
 }
 
+-- nothing is left of it
+pub underway_all : {old now left whole : Text} → IsUnderway old now left whole → left ≡ [] → now ≡ old ++ whole
+underway_all {now = now} is none = sym (append-nil now) ∙ ap (λ t. now ++ t) (sym none) ∙ is.parts
+
 -- a front of the next piece was appended
 pub front_underway : {old now new left piece whole : Text} (more : Text) → IsUnderway old now left whole
     → left ≡ piece ++ more → IsFrontAppended now new piece → IsFrontAppended old new whole

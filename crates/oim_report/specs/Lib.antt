@@ -3,6 +3,7 @@ pub mod Parts
 pub mod Readable
 pub mod Faults
 pub mod Appended
+pub mod Entries
 -- ---- the laws of reading back, and their premises
 pub mod ReadBack
 pub mod Nesting

@@ -1,11 +1,12 @@
 //! Reports and numeric tables of xBRL-JSON 1.0, read from their texts, and facts and reports written.
 //!
-//! In reading, `values` makes a JSON value of bytes, `reading` a report of the value, `info` reads `documentInfo`, `facts` all facts and `fact` one; `table` reads numeric tables, and `fault` says why a text is no report. `report` is what was read, and `declared_value` sets the value that a report declares. In writing, `report_text` and `fact_text` put texts together of `pieces`. `read_back` has the laws that what is written is read back, and `info_laws` those of an info in which a value was set.
+//! In reading, `values` makes a JSON value of bytes, `reading` a report of the value, `info` reads `documentInfo`, `facts` all facts and `fact` one; `table` reads numeric tables, and `fault` says why a text is no report. `report` is what was read, `entries` goes through its facts, and `declared_value` sets the value that a report declares. In writing, `report_text` and `fact_text` put texts together of `pieces`. `read_back` has the laws that what is written is read back, and `info_laws` those of an info in which a value was set.
 //!
 //! It knows nothing of versions, of sessions or of devices.
 #![tactic(auto)]
 
 mod declared_value;
+mod entries;
 mod fact;
 mod fact_text;
 mod facts;
@@ -21,6 +22,7 @@ mod table;
 mod values;
 
 pub use declared_value::with_allowed;
+pub use entries::Entries;
 pub use fact::raw_fact;
 pub use fact_text::{push_dims, push_fact, push_raw, write_fact, write_raw};
 pub use fault::ReportFault;
@@ -35,6 +37,6 @@ pub use read_back::{
 };
 pub use reading::{read_report, report_from, report_of};
 pub use report::{Report, ReportParts};
-pub use report_text::{push_report, write_report};
+pub use report_text::{push_report, push_report_of, write_report};
 pub use table::read_table;
 pub use values::json_value;

@@ -5,6 +5,7 @@ ghost use Rattle.filing_model.specs.DeclaredValue.{report_declaring};
 ghost use Rattle.oim_report.specs.Parts.{AreParts, facts_view, parts_of, whole};
 
 use crate::declared_value::with_allowed;
+use crate::entries::Entries;
 use filing_model::Allowed;
 use oim_fact::{Fact, Names};
 use std::alloc::{AllocError, Global};
@@ -175,5 +176,12 @@ impl Report {
         ensures { facts_view result.now ≡ self.now.facts.entries }
     {
         &self.facts
+    }
+
+    /// The same one by one.
+    pub fn entries(&self) -> Entries<'_>
+        ensures { result ≡ self.now.facts.entries }
+    {
+        Entries::of(self.facts())
     }
 }
