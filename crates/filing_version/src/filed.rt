@@ -207,6 +207,13 @@ impl FiledReport {
         }))
     }
 
+    /// The compact text of `documentInfo`.
+    pub(crate) fn info(&self) -> &str
+        ensures { result.now ≡ self.now.report.info }
+    {
+        self.front.info()
+    }
+
     pub(crate) fn facts(&self) -> &Facts
         ensures { result.now ≡ self.now.report.facts }
     {

@@ -1,12 +1,13 @@
 //! Unchanging versions of the repository, and changes of them.
 //!
-//! `change` is what a session puts, removes and declares, `changed_report` that of one report, and `puts` its puts one by one.
+//! `change` is what a session puts, removes and declares, `changed_report` that of one report, and `puts` its puts one by one. `entries` goes through the facts of a report.
 //!
 //! It knows nothing of sessions, of the history or of devices.
 #![tactic(auto)]
 
 mod change;
 mod changed_report;
+mod entries;
 mod filed;
 mod got;
 mod puts;
@@ -15,6 +16,7 @@ mod tests;
 mod version;
 
 pub use change::{Change, ReadyDeclare, ReadyPut};
+pub use entries::Entries;
 pub use filing_index::{Asked, Ids};
 pub use got::Got;
 pub use puts::{Put, Puts};

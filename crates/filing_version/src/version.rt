@@ -16,6 +16,7 @@ ghost use Rattle.filing_version.specs.Found.{got_of};
 ghost use Rattle.filing_version.specs.Filed.{version_in, repository_in};
 
 use crate::change::Change;
+use crate::entries::Entries;
 use crate::filed::FiledReport;
 use crate::got::Got;
 use filing_index::{Asked, Ids};
@@ -99,6 +100,20 @@ impl RepoVersion {
     {
         let facts = self.reports.get(report)?.facts();
         Some(facts.ids_of_query(concept, period, after))
+    }
+
+    /// The facts of a report under their identifiers, in byte order of these, or none where it is not there.
+    pub fn entries(&self, report: &str) -> Option<Entries<'_>>
+        ensures { result ≡ option_map (λ r. r.facts.entries) (report_at (repository_in self.now) report.now) }
+    {
+        Some(Entries::of(self.reports.get(report)?.facts().iter()))
+    }
+
+    /// The compact text of the `documentInfo` of a report, or none where it is not there.
+    pub fn info(&self, report: &str) -> Option<&str>
+        ensures { option_map (λ t. t.now) result ≡ option_map (λ r. r.info) (report_at (repository_in self.now) report.now) }
+    {
+        Some(self.reports.get(report)?.info())
     }
 
     /// The prefixes of a report with its numeric table, or none where it is not there.
