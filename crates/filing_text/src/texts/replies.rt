@@ -1,7 +1,10 @@
 //! The texts of replies to steps.
 
 ghost use Rattle.std.specs.Prelude.{◌≡◌, ◌++◌, false, map, OnOk, IfOk, string_bytes, codes, decimal};
+ghost use Rattle.std.specs.Iterator.{IsFinite};
 ghost use Rattle.json.specs.Print.{quoted};
+ghost use Rattle.filing_model.specs.Reports.{Report as PlainReport};
+ghost use Rattle.oim_report.specs.Entries.{IsReportOf};
 ghost use Rattle.filing_step.specs.Steps.{reply_of};
 ghost use Rattle.filing_model.specs.Replies.{Disallowed};
 ghost use Rattle.filing_model.specs.Writing.{fact_text, listed};
@@ -12,7 +15,7 @@ use super::words::class_word;
 use filing_model::{Class, Trouble};
 use filing_step::Reply;
 use oim_fact::Fact;
-use oim_report::{Report, push_comma, push_fact, push_quoted, push_report};
+use oim_report::{Report, push_comma, push_fact, push_quoted, push_report_of};
 use std::alloc::{AllocError, Global};
 
 /// Appends a whole number.
@@ -113,13 +116,27 @@ pub fn reply_text(alloc: Global, reply: &Reply) -> Result<String, AllocError>
     Ok(out)
 }
 
+/// The reply that gives the report of this info and these facts, which was asked for. The iterator has to end.
+pub fn exported_reply_of<'a, I: Iterator<Item = (&'a str, &'a Fact)> + Drop>(
+    alloc: Global,
+    info: &str,
+    entries: I,
+) -> Result<String, AllocError>
+    requires can { I.can_next entries }
+    requires ends { IsFinite (I.remaining entries) }
+    ensures { (report : PlainReport) → IsReportOf I.next_gives info.now entries report
+        → IfOk result (λ text. string_bytes text ≡ exported_text report) }
+{
+    let mut out = String::new(alloc);
+    out.push_str("[\"report\",")?;
+    push_report_of(&mut out, info, entries)?;
+    out.push_str("]")?;
+    Ok(out)
+}
+
 /// The reply that gives a report that was asked for.
 pub fn exported_reply(alloc: Global, report: &Report) -> Result<String, AllocError>
     ensures { IfOk result (λ text. string_bytes text ≡ exported_text report.now) }
 {
-    let mut out = String::new(alloc);
-    out.push_str("[\"report\",")?;
-    push_report(&mut out, report)?;
-    out.push_str("]")?;
-    Ok(out)
+    exported_reply_of(alloc, report.info(), report.entries())
 }
