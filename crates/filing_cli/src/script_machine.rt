@@ -17,9 +17,10 @@ use crate::session_names::SessionNames;
 use filing_core::{Core, CoreFault};
 use filing_step::{Kind, Reply, Step};
 use filing_text::{
-    Line, bad_fact_reply, bad_line_reply, bad_report_reply, exported_reply, line_of,
+    Line, bad_fact_reply, bad_line_reply, bad_report_reply, exported_reply_of, line_of,
     name_in_use_reply, no_session_reply, reply_text, taken_at,
 };
+use filing_version::RepoVersion;
 use line_run::Machine;
 use oim_fact::{NumericTable, RawFact};
 use oim_report::{Report, ReportFault, json_value, raw_fact, read_report, report_from};
@@ -265,9 +266,10 @@ impl ScriptMachine {
         ensures { IfOk result (λ text. answered self.now (judged_export self.now name.now)
             ≡ (string_bytes text, self.now)) }
     {
-        match self.core.current().report(alloc, name)? {
-            Some(report) => exported_reply(alloc, &report),
-            None => reply_text(alloc, &Reply::NoReport),
+        let version: &RepoVersion = self.core.current();
+        match (version.info(name), version.entries(name)) {
+            (Some(info), Some(entries)) => exported_reply_of(alloc, info, entries),
+            _ => reply_text(alloc, &Reply::NoReport),
         }
     }
 
