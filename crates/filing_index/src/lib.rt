@@ -20,6 +20,8 @@ mod stamp_spans;
 mod stamp_tests;
 mod stamps;
 #[cfg(test)]
+mod test_facts;
+#[cfg(test)]
 mod tests;
 mod wanted;
 

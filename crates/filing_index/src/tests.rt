@@ -1,14 +1,17 @@
+use crate::test_facts::{dims_of, held};
 use crate::{Facts, Order};
 use filing_pages::{Held, Named, TextPages};
-use oim_fact::{DimSet, Fact, FactValue};
+use oim_fact::{Fact, FactValue};
 use sorted_pages::is_rising;
 use std::alloc::{AllocError, Global};
 use std::process::Abort;
-use std::sync::Arc;
-use std::test::Fail;
 
 /// How many identifiers are drawn from.
 const IDENTIFIERS: usize = 200;
+
+const CONCEPTS: [&str; 5] = ["v0", "v1", "v2", "v3", "v4"];
+
+const PERIODS: [&str; 7] = ["v0", "v1", "v2", "v3", "v4", "v5", "v6"];
 
 /// The next number of a fixed sequence.
 fn next_number(state: u64) -> u64 {
@@ -17,43 +20,50 @@ fn next_number(state: u64) -> u64 {
         .wrapping_add(1_442_695_040_888_963_407)
 }
 
-/// The identifier of a place. Places below 1,000 and their identifiers rise alike.
+/// The identifier of a place. Places below 9,000 and their identifiers rise alike.
 fn identifier(alloc: Global, place: usize) -> Result<String, AllocError> {
-    format!(in alloc; "f{place:03}")
-}
-
-/// A dimension of a fact.
-fn dimension(
-    alloc: Global,
-    name: &str,
-    value: u64,
-) -> Result<(String, Option<String>), AllocError> {
-    let name = String::from_str(alloc, name)?;
-    Ok((name, Some(format!(in alloc; "v{value}")?)))
+    place.saturating_add(1_000).to_string(alloc)
 }
 
 /// The fact of a number. Every third has no period.
 fn fact(rt: &impl Abort, alloc: Global, number: u64) -> Result<Held, AllocError> {
-    let mut pairs = Vec::new(alloc);
-    pairs.push(dimension(alloc, "concept", number % 5)?)?;
-    if !number.is_multiple_of(3) {
-        pairs.push(dimension(alloc, "period", number % 7)?)?;
-    }
-    let Ok(dims) = DimSet::of(pairs) else {
-        panic!(rt; "no dimension set");
+    let concept = CONCEPTS[(number % 5) as usize];
+    let period = if number.is_multiple_of(3) {
+        None
+    } else {
+        Some(PERIODS[(number % 7) as usize])
     };
-    let value = FactValue::Text(format!(in alloc; "{number}")?);
-    let links = None;
-    Ok(Held::of(Arc::new(alloc, Fact { dims, value, links })?))
+    let dims = dims_of(rt, alloc, concept, period)?;
+    held(alloc, dims, FactValue::Text(number.to_string(alloc)?))
 }
 
 /// Whether a fact is that of a number.
 fn is_of(alloc: Global, fact: &Fact, number: u64) -> Result<bool, AllocError> {
-    let text = format!(in alloc; "{number}")?;
+    let text = number.to_string(alloc)?;
     Ok(match &fact.value {
         FactValue::Text(value) => *value == text,
         _ => false,
     })
+}
+
+/// The fact of a number, where there is one.
+fn put(rt: &impl Abort, alloc: Global, number: Option<u64>) -> Result<Option<Held>, AllocError> {
+    match number {
+        None => Ok(None),
+        Some(number) => Ok(Some(fact(rt, alloc, number)?)),
+    }
+}
+
+/// Changes and one more, of this place.
+fn with_change(
+    rt: &impl Abort,
+    alloc: Global,
+    changes: &TextPages<Option<Held>>,
+    place: usize,
+    number: Option<u64>,
+) -> Result<TextPages<Option<Held>>, AllocError> {
+    let put = put(rt, alloc, number)?;
+    changes.with(alloc, identifier(alloc, place)?, put)
 }
 
 /// Changes of drawn identifiers, in a plain list of numbers too.
@@ -69,15 +79,9 @@ fn drawn(
         state = next_number(state);
         let place = (state >> 33) as usize % IDENTIFIERS;
         let number = state >> 40;
-        let is_put = !number.is_multiple_of(4);
         if place < plain.len() {
-            plain[place] = if is_put { Some(number) } else { None };
-            let put = if is_put {
-                Some(fact(rt, alloc, number)?)
-            } else {
-                None
-            };
-            changes = changes.with(alloc, identifier(alloc, place)?, put)?;
+            plain[place] = (!number.is_multiple_of(4)).then_some(number);
+            changes = with_change(rt, alloc, &changes, place, plain[place])?;
         }
     }
     Ok(changes)
@@ -111,6 +115,20 @@ fn length_of(facts: &Facts) -> usize {
     length
 }
 
+/// Whether the fact of a place is that of a number, or there is neither.
+fn is_at(
+    alloc: Global,
+    facts: &Facts,
+    place: usize,
+    number: Option<u64>,
+) -> Result<bool, AllocError> {
+    let id = identifier(alloc, place)?;
+    match (facts.get(&id), number) {
+        (Some(fact), Some(number)) => is_of(alloc, fact, number),
+        (found, number) => Ok(found.is_none() && number.is_none()),
+    }
+}
+
 /// Compares facts with plain numbers by place.
 fn compare(
     rt: &impl Abort,
@@ -120,14 +138,8 @@ fn compare(
 ) -> Result<(), AllocError> {
     let mut count = 0usize;
     for (place, number) in plain.iter().enumerate() {
-        let id = identifier(alloc, place)?;
-        match (facts.get(&id), number) {
-            (Some(fact), Some(number)) => {
-                assert!(rt; is_of(alloc, fact, *number)?);
-                count = count.saturating_add(1);
-            }
-            (found, number) => assert!(rt; found.is_none() && number.is_none()),
-        }
+        assert!(rt; is_at(alloc, facts, place, *number)?);
+        count = count.saturating_add(number.is_some() as usize);
     }
     assert!(rt; length_of(facts) == count);
     for order in [Order::Cell, Order::Period, Order::Concept] {
@@ -136,25 +148,47 @@ fn compare(
     Ok(())
 }
 
-/// The numbers of no facts.
-fn no_numbers(alloc: Global) -> Result<Vec<Option<u64>>, AllocError> {
-    let mut plain = Vec::new(alloc);
-    for _ in 0..IDENTIFIERS {
-        plain.push(None)?;
+/// The facts after drawn changes, which a plain list of numbers gets too.
+fn next_facts(
+    rt: &impl Abort,
+    alloc: Global,
+    facts: &Facts,
+    seed: u64,
+    plain: &mut [Option<u64>],
+) -> Result<Facts, AllocError> {
+    let changes = drawn(rt, alloc, seed, plain)?;
+    changed(alloc, facts, &changes)
+}
+
+/// Compares facts with plain numbers after each of many drawn changes of both.
+fn compare_changed(
+    rt: &impl Abort,
+    alloc: Global,
+    facts: &mut Facts,
+    plain: &mut [Option<u64>],
+) -> Result<(), AllocError> {
+    for round in 0..300u64 {
+        *facts = next_facts(rt, alloc, facts, round, plain)?;
+        compare(rt, alloc, facts, plain)?;
     }
-    Ok(plain)
+    Ok(())
 }
 
 #[test]
-fn drawn_changes_give_a_plain_list(rt: HostRuntime) -> Result<(), Fail> {
+fn drawn_changes_give_a_plain_list(rt: HostRuntime) -> Result<(), AllocError> {
     let mut facts = Facts::new(rt.alloc());
-    let mut plain = no_numbers(rt.alloc())?;
-    for round in 0..300u64 {
-        let changes = drawn(&rt, rt.alloc(), round, &mut plain)?;
-        facts = changed(rt.alloc(), &facts, &changes)?;
-        compare(&rt, rt.alloc(), &facts, &plain)?;
-    }
-    Ok(())
+    compare_changed(&rt, rt.alloc(), &mut facts, &mut [None; IDENTIFIERS])
+}
+
+/// The fact of a number under the identifier of a place.
+fn entry(
+    rt: &impl Abort,
+    alloc: Global,
+    place: usize,
+    number: u64,
+) -> Result<Named<Held>, AllocError> {
+    let held = fact(rt, alloc, number)?;
+    Named::new(alloc, identifier(alloc, place)?, held)
 }
 
 /// The facts of numbers in byte order of their identifiers.
@@ -166,8 +200,7 @@ fn entries_of(
     let mut entries = Vec::new(alloc);
     for (place, number) in plain.iter().enumerate() {
         if let Some(number) = number {
-            let held = fact(rt, alloc, *number)?;
-            entries.push(Named::new(alloc, identifier(alloc, place)?, held)?)?;
+            entries.push(entry(rt, alloc, place, *number)?)?;
         }
     }
     Ok(entries)
@@ -182,14 +215,18 @@ fn built(alloc: Global, entries: Vec<Named<Held>>) -> Result<Facts, AllocError> 
     }
 }
 
+/// Compares facts built at once with plain numbers.
+fn compare_built(rt: &impl Abort, alloc: Global, plain: &[Option<u64>]) -> Result<(), AllocError> {
+    let facts = built(alloc, entries_of(rt, alloc, plain)?)?;
+    compare(rt, alloc, &facts, plain)
+}
+
 #[test]
-fn facts_built_at_once_are_as_a_plain_list(rt: HostRuntime) -> Result<(), Fail> {
-    let mut plain = no_numbers(rt.alloc())?;
+fn facts_built_at_once_are_as_a_plain_list(rt: HostRuntime) -> Result<(), AllocError> {
+    let mut plain = [None; IDENTIFIERS];
     for round in 0..100u64 {
         drawn(&rt, rt.alloc(), round, &mut plain)?;
-        let entries = entries_of(&rt, rt.alloc(), &plain)?;
-        let facts = built(rt.alloc(), entries)?;
-        compare(&rt, rt.alloc(), &facts, &plain)?;
+        compare_built(&rt, rt.alloc(), &plain)?;
     }
     Ok(())
 }
