@@ -5,7 +5,6 @@ use crate::{Between, Change, Entry, Paged, Peaked, are_rising, is_rising};
 use std::alloc::{AllocError, Global};
 use std::cmp::Ordering;
 use std::process::Abort;
-use std::test::Fail;
 
 /// A number with a weight, which takes no part in the order.
 #[derive(Clone, Copy, Debug, PartialEq, Eq)]
@@ -58,136 +57,195 @@ fn changed(
     list.after(alloc, changes)
 }
 
-/// The entries with the keys up to a number.
-fn numbered(alloc: Global, count: u64) -> Result<Vec<Item>, AllocError> {
+/// Entries with so many keys from one number on, each by so much above the one before.
+fn spaced(alloc: Global, first: u64, step: u64, count: u64) -> Result<Vec<Item>, AllocError> {
     let mut entries = Vec::new(alloc);
-    for key in 0..count {
-        entries.push(make_item(key))?;
+    for place in 0..count {
+        entries.push(make_item(place.wrapping_mul(step).wrapping_add(first)))?;
     }
     Ok(entries)
 }
 
-/// The list of the entries with the keys up to a number.
-fn filled(rt: &impl Abort, alloc: Global, count: u64) -> Result<Paged<Item>, AllocError> {
-    let entries = numbered(alloc, count)?;
+/// The list of entries whose keys rise.
+fn built(rt: &impl Abort, alloc: Global, entries: Vec<Item>) -> Result<Paged<Item>, AllocError> {
     assert!(rt; is_rising(&entries));
     Paged::of_sorted(alloc, entries)
 }
 
-/// Puts of the keys from one number up to another, or removals.
-fn changes_of(
-    alloc: Global,
-    from: u64,
-    to: u64,
-    is_put: bool,
-) -> Result<Vec<Change<Item>>, AllocError> {
-    let mut changes = Vec::new(alloc);
+/// The list of the entries with the keys up to a number.
+fn filled(rt: &impl Abort, alloc: Global, count: u64) -> Result<Paged<Item>, AllocError> {
+    built(rt, alloc, spaced(alloc, 0, 1, count)?)
+}
+
+/// Puts or removals of the keys from one number up to another.
+#[derive(Clone, Copy)]
+enum Edit {
+    Put(u64, u64),
+    Remove(u64, u64),
+}
+
+/// Pushes the changes of an edit.
+fn push_edit(changes: &mut Vec<Change<Item>>, edit: Edit) -> Result<(), AllocError> {
+    let (from, to) = match edit {
+        Edit::Put(from, to) | Edit::Remove(from, to) => (from, to),
+    };
     for key in from..to {
-        changes.push(if is_put {
-            Change::Put(make_item(key))
-        } else {
-            Change::Remove(make_item(key))
+        let entry = make_item(key);
+        changes.push(match edit {
+            Edit::Put(_, _) => Change::Put(entry),
+            Edit::Remove(_, _) => Change::Remove(entry),
         })?;
+    }
+    Ok(())
+}
+
+/// The changes of edits.
+fn changes_of(alloc: Global, edits: &[Edit]) -> Result<Vec<Change<Item>>, AllocError> {
+    let mut changes = Vec::new(alloc);
+    for edit in edits {
+        push_edit(&mut changes, *edit)?;
     }
     Ok(changes)
 }
 
-#[test]
-fn fills_pages_of_64(rt: HostRuntime) -> Result<(), Fail> {
-    let list = filled(&rt, rt.alloc(), 150)?;
-    assert_eq!(rt;
-        list.page_sizes(rt.alloc())?.as_slice(),
-        [64, 64, 22].as_slice()
-    );
-    Ok(())
+/// The list after edits whose keys rise.
+fn edited(
+    rt: &impl Abort,
+    alloc: Global,
+    list: &Paged<Item>,
+    edits: &[Edit],
+) -> Result<Paged<Item>, AllocError> {
+    let changes = changes_of(alloc, edits)?;
+    changed(rt, alloc, list, &changes)
 }
 
-#[test]
-fn cuts_a_page_that_would_hold_65(rt: HostRuntime) -> Result<(), Fail> {
-    let full = filled(&rt, rt.alloc(), 64)?;
-    assert_eq!(rt; full.page_sizes(rt.alloc())?.as_slice(), [64].as_slice());
-    let one_more = changed(
-        &rt,
-        rt.alloc(),
-        &full,
-        &changes_of(rt.alloc(), 64, 65, true)?,
-    )?;
-    assert_eq!(rt;
-        one_more.page_sizes(rt.alloc())?.as_slice(),
-        [32, 33].as_slice()
-    );
-    Ok(())
+/// The lengths of the pages of a list that is built of so many keys and then edited in turn.
+struct Layout {
+    name: &'static str,
+    first: u64,
+    step: u64,
+    count: u64,
+    edits: &'static [&'static [Edit]],
+    sizes: &'static [usize],
 }
 
-#[test]
-fn drops_a_page_that_is_empty(rt: HostRuntime) -> Result<(), Fail> {
-    let full = filled(&rt, rt.alloc(), 64)?;
-    let cut = changed(
-        &rt,
-        rt.alloc(),
-        &full,
-        &changes_of(rt.alloc(), 64, 65, true)?,
-    )?;
-    let left = changed(
-        &rt,
-        rt.alloc(),
-        &cut,
-        &changes_of(rt.alloc(), 0, 32, false)?,
-    )?;
-    assert_eq!(rt; left.page_sizes(rt.alloc())?.as_slice(), [33].as_slice());
-    Ok(())
-}
+const FULL: Layout = Layout {
+    name: "fills one page with 64",
+    first: 0,
+    step: 1,
+    count: 64,
+    edits: &[],
+    sizes: &[64],
+};
 
-/// The lengths of the pages of a list that gets this many entries at once.
-fn sizes_of_new(rt: &impl Abort, alloc: Global, count: u64) -> Result<Vec<usize>, AllocError> {
-    let empty = Paged::new(alloc);
-    let changes = changes_of(alloc, 0, count, true)?;
-    let list = changed(rt, alloc, &empty, &changes)?;
-    list.page_sizes(alloc)
-}
+const LAYOUTS: [Layout; 9] = [
+    FULL,
+    Layout {
+        name: "fills pages of 64",
+        count: 150,
+        sizes: &[64, 64, 22],
+        ..FULL
+    },
+    Layout {
+        name: "cuts a page that would hold 65",
+        edits: &[&[Edit::Put(64, 65)]],
+        sizes: &[32, 33],
+        ..FULL
+    },
+    Layout {
+        name: "drops a page that is empty",
+        edits: &[&[Edit::Put(64, 65)], &[Edit::Remove(0, 32)]],
+        sizes: &[33],
+        ..FULL
+    },
+    Layout {
+        name: "cuts after 32 and keeps 63",
+        count: 0,
+        edits: &[&[Edit::Put(0, 95)]],
+        sizes: &[32, 63],
+        ..FULL
+    },
+    Layout {
+        name: "cuts after every 32",
+        count: 0,
+        edits: &[&[Edit::Put(0, 96)]],
+        sizes: &[32, 32, 32],
+        ..FULL
+    },
+    Layout {
+        name: "keeps what is less than 32 in the last page",
+        count: 0,
+        edits: &[&[Edit::Put(0, 100)]],
+        sizes: &[32, 32, 36],
+        ..FULL
+    },
+    Layout {
+        name: "keeps a page that loses its old keys for new ones",
+        count: 1,
+        edits: &[&[Edit::Remove(0, 1), Edit::Put(1, 2)]],
+        sizes: &[1],
+        ..FULL
+    },
+    // Two pages of the keys from 2 to 128 and from 130 to 256.
+    Layout {
+        name: "places new keys by the first keys before",
+        first: 2,
+        step: 2,
+        count: 128,
+        edits: &[&[
+            Edit::Put(1, 2),
+            Edit::Remove(2, 3),
+            Edit::Put(129, 130),
+            Edit::Remove(130, 131),
+            Edit::Put(131, 132),
+        ]],
+        sizes: &[32, 33, 64],
+    },
+];
 
-#[test]
-fn cuts_after_every_32(rt: HostRuntime) -> Result<(), Fail> {
-    let one_less = sizes_of_new(&rt, rt.alloc(), 95)?;
-    assert_eq!(rt; one_less.as_slice(), [32, 63].as_slice());
-    let three = sizes_of_new(&rt, rt.alloc(), 96)?;
-    assert_eq!(rt; three.as_slice(), [32, 32, 32].as_slice());
-    let more = sizes_of_new(&rt, rt.alloc(), 100)?;
-    assert_eq!(rt; more.as_slice(), [32, 32, 36].as_slice());
-    Ok(())
-}
-
-#[test]
-fn a_page_that_loses_its_old_keys_stays_for_new_ones(rt: HostRuntime) -> Result<(), Fail> {
-    let list = filled(&rt, rt.alloc(), 1)?;
-    let moved = [Change::Remove(make_item(0)), Change::Put(make_item(1))];
-    let list = changed(&rt, rt.alloc(), &list, &moved)?;
-    assert_eq!(rt; list.page_sizes(rt.alloc())?.as_slice(), [1].as_slice());
-    assert_eq!(rt; list.get(&make_item(1)).copied(), Some(make_item(1)));
-    assert_eq!(rt; list.get(&make_item(0)).copied(), None);
-    Ok(())
-}
-
-#[test]
-fn new_keys_go_by_the_first_keys_before(rt: HostRuntime) -> Result<(), Fail> {
-    let mut entries = Vec::new(rt.alloc());
-    for place in 1..129u64 {
-        entries.push(make_item(place.wrapping_mul(2)))?;
+/// The list of a layout.
+fn laid_out(rt: &impl Abort, alloc: Global, layout: &Layout) -> Result<Paged<Item>, AllocError> {
+    let entries = spaced(alloc, layout.first, layout.step, layout.count)?;
+    let mut list = built(rt, alloc, entries)?;
+    for edits in layout.edits {
+        list = edited(rt, alloc, &list, edits)?;
     }
-    assert!(rt; is_rising(&entries));
-    let list = Paged::of_sorted(rt.alloc(), entries)?;
-    let changes = [
-        Change::Put(make_item(1)),
-        Change::Remove(make_item(2)),
-        Change::Put(make_item(129)),
-        Change::Remove(make_item(130)),
-        Change::Put(make_item(131)),
-    ];
-    let list = changed(&rt, rt.alloc(), &list, &changes)?;
-    assert_eq!(rt;
-        list.page_sizes(rt.alloc())?.as_slice(),
-        [32, 33, 64].as_slice()
-    );
+    Ok(list)
+}
+
+/// Whether the pages of a list have these lengths.
+fn has_sizes(alloc: Global, list: &Paged<Item>, sizes: &[usize]) -> Result<bool, AllocError> {
+    let found = list.page_sizes(alloc)?;
+    Ok(found.as_slice() == sizes)
+}
+
+/// Compares the pages of a layout's list with its lengths.
+fn compare_layout(rt: &impl Abort, alloc: Global, layout: &Layout) -> Result<(), AllocError> {
+    let list = laid_out(rt, alloc, layout)?;
+    let is_same = has_sizes(alloc, &list, layout.sizes)?;
+    assert!(rt; is_same, "{}", layout.name);
+    Ok(())
+}
+
+#[test]
+fn pages_have_their_lengths(rt: HostRuntime) -> Result<(), AllocError> {
+    for layout in &LAYOUTS {
+        compare_layout(&rt, rt.alloc(), layout)?;
+    }
+    Ok(())
+}
+
+/// Whether the entry of a key is found as it was made.
+fn is_found(list: &Paged<Item>, key: u64) -> bool {
+    list.get(&make_item(key)).copied() == Some(make_item(key))
+}
+
+#[test]
+fn a_new_key_is_found_and_a_removed_one_is_not(rt: HostRuntime) -> Result<(), AllocError> {
+    let edits = [Edit::Remove(0, 1), Edit::Put(1, 2)];
+    let list = edited(&rt, rt.alloc(), &filled(&rt, rt.alloc(), 1)?, &edits)?;
+    assert!(rt; is_found(&list, 1));
+    assert!(rt; list.get(&make_item(0)).is_none());
     Ok(())
 }
 
@@ -226,6 +284,32 @@ fn change_plain(plain: &mut Vec<Item>, change: &Change<Item>) -> Result<(), Allo
     Ok(())
 }
 
+/// The plain list after changes in turn.
+fn change_all(plain: &mut Vec<Item>, changes: &[Change<Item>]) -> Result<(), AllocError> {
+    for change in changes {
+        change_plain(plain, change)?;
+    }
+    Ok(())
+}
+
+/// The sum of the lengths, where each is from 1 to 64.
+fn total(sizes: &[usize]) -> Option<usize> {
+    let mut total = 0usize;
+    for size in sizes {
+        if *size < 1 || *size > 64 {
+            return None;
+        }
+        total = total.saturating_add(*size);
+    }
+    Some(total)
+}
+
+/// How many entries the pages of a list hold, where each holds 1 to 64.
+fn length_of(alloc: Global, list: &Paged<Item>) -> Result<Option<usize>, AllocError> {
+    let sizes = list.page_sizes(alloc)?;
+    Ok(total(&sizes))
+}
+
 /// Compares a list with a plain one, and the sizes of its pages with their bounds.
 fn compare(
     rt: &impl Abort,
@@ -236,13 +320,7 @@ fn compare(
     for entry in plain {
         assert!(rt; list.get(entry).copied() == Some(*entry));
     }
-    let sizes = list.page_sizes(alloc)?;
-    let mut total = 0usize;
-    for size in &sizes {
-        assert!(rt; *size >= 1 && *size <= 64);
-        total = total.saturating_add(*size);
-    }
-    assert!(rt; total == plain.len());
+    assert!(rt; length_of(alloc, list)? == Some(plain.len()));
     Ok(())
 }
 
@@ -255,22 +333,35 @@ fn next_list(
     round: u64,
 ) -> Result<Paged<Item>, AllocError> {
     let changes = some_changes(alloc, round, round % 10 + 1)?;
-    for change in &changes {
-        change_plain(plain, change)?;
+    change_all(plain, &changes)?;
+    changed(rt, alloc, list, &changes)
+}
+
+/// Compares a list with the plain one of its seeded changes, after each round.
+fn compare_rounds(rt: &impl Abort, alloc: Global, plain: &mut Vec<Item>) -> Result<(), AllocError> {
+    let mut list = Paged::new(alloc);
+    for round in 0..500u64 {
+        list = next_list(rt, alloc, &list, plain, round)?;
+        compare(rt, alloc, &list, plain)?;
     }
-    let next = changed(rt, alloc, list, &changes)?;
-    compare(rt, alloc, &next, plain)?;
-    Ok(next)
+    Ok(())
 }
 
 #[test]
-fn seeded_changes_give_a_plain_list(rt: HostRuntime) -> Result<(), Fail> {
-    let mut list = Paged::new(rt.alloc());
-    let mut plain = Vec::new(rt.alloc());
-    for round in 0..500u64 {
-        list = next_list(&rt, rt.alloc(), &list, &mut plain, round)?;
+fn seeded_changes_give_a_plain_list(rt: HostRuntime) -> Result<(), AllocError> {
+    compare_rounds(&rt, rt.alloc(), &mut Vec::new(rt.alloc()))
+}
+
+/// The number after the keys of a range, where these rise by one from a number on.
+fn next_key(list: &Paged<Item>, span: &Between<'_, Item>, from: u64) -> Option<u64> {
+    let mut next = from;
+    for entry in list.range(span) {
+        if entry.key != next {
+            return None;
+        }
+        next = next.wrapping_add(1);
     }
-    Ok(())
+    Some(next)
 }
 
 /// Compares a range of a list of the keys up to a number with the keys from one on up to another.
@@ -279,30 +370,24 @@ fn compare_range(rt: &impl Abort, list: &Paged<Item>, from: u64, until: u64) {
         from: &make_item(from),
         until: &make_item(until),
     };
-    let mut next = from;
-    for entry in list.range(&span) {
-        assert!(rt; entry.key == next);
-        next = next.wrapping_add(1);
-    }
-    assert!(rt; next == until);
+    assert!(rt; next_key(list, &span, from) == Some(until));
     assert!(rt; list.range(&span).greatest() == until.wrapping_sub(1));
     assert!(rt; list.first_in(&span).copied() == Some(make_item(from)));
 }
 
 #[test]
-fn a_range_goes_over_runs(rt: HostRuntime) -> Result<(), Fail> {
+fn a_range_goes_over_runs(rt: HostRuntime) -> Result<(), AllocError> {
     let list = filled(&rt, rt.alloc(), 10_000)?;
     compare_range(&rt, &list, 60, 9_000);
     Ok(())
 }
 
 #[test]
-fn a_range_goes_over_groups(rt: HostRuntime) -> Result<(), Fail> {
+fn a_range_goes_over_groups(rt: HostRuntime) -> Result<(), AllocError> {
     let list = filled(&rt, rt.alloc(), 200_000)?;
     compare_range(&rt, &list, 60, 199_000);
     compare_range(&rt, &list, 70_000, 70_001);
-    let changes = changes_of(rt.alloc(), 65_000, 66_000, true)?;
-    let list = changed(&rt, rt.alloc(), &list, &changes)?;
+    let list = edited(&rt, rt.alloc(), &list, &[Edit::Put(65_000, 66_000)])?;
     compare_range(&rt, &list, 64_000, 140_000);
     Ok(())
 }
@@ -324,15 +409,22 @@ fn changed_at_last(
     }
 }
 
+/// Compares a list and what becomes of it with a plain list.
+fn compare_removal(
+    rt: &impl Abort,
+    alloc: Global,
+    list: &Paged<Item>,
+    plain: &mut Vec<Item>,
+) -> Result<(), AllocError> {
+    let changes = changes_of(alloc, &[Edit::Remove(100, 180)])?;
+    let next = changed_at_last(rt, alloc, list, plain, &changes)?;
+    change_all(plain, &changes)?;
+    compare(rt, alloc, &next, plain)
+}
+
 #[test]
-fn a_refused_change_leaves_the_list(rt: HostRuntime) -> Result<(), Fail> {
-    let mut plain = numbered(rt.alloc(), 200)?;
+fn a_refused_change_leaves_the_list(rt: HostRuntime) -> Result<(), AllocError> {
+    let mut plain = spaced(rt.alloc(), 0, 1, 200)?;
     let list = filled(&rt, rt.alloc(), 200)?;
-    let changes = changes_of(rt.alloc(), 100, 180, false)?;
-    let next = changed_at_last(&rt, rt.alloc(), &list, &plain, &changes)?;
-    for change in &changes {
-        change_plain(&mut plain, change)?;
-    }
-    compare(&rt, rt.alloc(), &next, &plain)?;
-    Ok(())
+    compare_removal(&rt, rt.alloc(), &list, &mut plain)
 }
