@@ -9,7 +9,6 @@ use std::io::Cursor;
 use std::marker::Brand;
 use std::process::Abort;
 use std::sync::ledger::{Blank, Ledger};
-use std::test::Fail;
 
 // Replies with the length of the line before, which is 0 at first.
 #[derive(Drop)]
@@ -58,6 +57,9 @@ const BYTE_BY_BYTE: Trial = Trial {
 // Five lines, of which two are blank, and the last has no line feed.
 const SCRIPT: &[u8] = b"ab\n\n \t\r\nabc\nx";
 
+// Its replies.
+const ALL: &[u8; 6] = b"0\n2\n3\n";
+
 // The definitions at small texts: two lines and a part, white space alone, and replies put together.
 #[tactic(auto, unfolding(crate::specs::Lines::lines_of, crate::specs::Lines::whole_lines, crate::specs::Lines::last_part, crate::specs::Lines::spoken, crate::specs::Lines::lines_text))]
 fn rows()
@@ -70,7 +72,7 @@ fn rows()
 {}
 
 // What a trial left: the result, what is written, and the length that the machine has in mind.
-#[derive(Debug, Drop)]
+#[derive(Drop)]
 struct Outcome {
     result: Result<(), ScriptFault>,
     written: Vec<u8>,
@@ -110,6 +112,27 @@ fn try_run(alloc: Global, input: &[u8], trial: Trial) -> Result<Outcome, AllocEr
     run_over::<Brand, Brand>(alloc, input, trial, Blank::new(3), Blank::new(1))
 }
 
+// Whether a run passed, or that it wanted memory.
+fn is_passed(ended: Result<(), ScriptFault>) -> Result<bool, AllocError> {
+    match ended {
+        Err(ScriptFault::NoMemory(_)) => Err(AllocError),
+        ended => Ok(ended.is_ok()),
+    }
+}
+
+// Whether a trial comes to this result with this written, or that it wanted memory.
+fn comes_to(
+    alloc: Global,
+    input: &[u8],
+    trial: Trial,
+    want: Result<(), ScriptFault>,
+    written: &[u8],
+) -> Result<bool, AllocError> {
+    let outcome = try_run(alloc, input, trial)?;
+    is_passed(outcome.result)?;
+    Ok(outcome.result == want && outcome.written.as_slice() == written)
+}
+
 fn check(
     rt: &impl Abort,
     alloc: Global,
@@ -117,184 +140,143 @@ fn check(
     trial: Trial,
     want: Result<(), ScriptFault>,
     written: &[u8],
-) -> Result<(), Fail> {
-    let outcome = try_run(alloc, input, trial)?;
-    if let Err(ScriptFault::NoMemory(_)) = outcome.result {
-        return Err(AllocError.into());
-    }
-    assert!(rt; outcome.result == want, "{trial:?}: {outcome:?}");
-    assert!(rt;
-        outcome.written.as_slice() == written,
-        "{trial:?}: {outcome:?}"
-    );
+) -> Result<(), AllocError> {
+    let is_same = comes_to(alloc, input, trial, want, written)?;
+    assert!(rt; is_same, "{trial:?}");
     Ok(())
 }
 
 #[test]
-fn an_empty_input_has_no_reply(rt: HostRuntime) -> Result<(), Fail> {
+fn an_empty_input_has_no_reply(rt: HostRuntime) -> Result<(), AllocError> {
     check(&rt, rt.alloc(), b"", SOUND, Ok(()), b"")
 }
 
 #[test]
-fn the_last_line_needs_no_line_feed(rt: HostRuntime) -> Result<(), Fail> {
-    check(&rt, rt.alloc(), SCRIPT, SOUND, Ok(()), b"0\n2\n3\n")?;
-    check(
-        &rt,
-        rt.alloc(),
-        b"ab\n\n \t\r\nabc\nx\n",
-        SOUND,
-        Ok(()),
-        b"0\n2\n3\n",
-    )?;
-    check(&rt, rt.alloc(), SCRIPT, BYTE_BY_BYTE, Ok(()), b"0\n2\n3\n")
-}
-
-#[test]
-fn the_machine_is_what_the_lines_make_of_it(rt: HostRuntime) -> Result<(), Fail> {
-    let outcome = try_run(rt.alloc(), SCRIPT, SOUND)?;
-    outcome.result?;
-    assert_eq!(rt; outcome.last, 1);
+fn the_last_line_needs_no_line_feed(rt: HostRuntime) -> Result<(), AllocError> {
+    let ended: &[u8] = b"ab\n\n \t\r\nabc\nx\n";
+    for (input, trial) in [(SCRIPT, SOUND), (ended, SOUND), (SCRIPT, BYTE_BY_BYTE)] {
+        check(&rt, rt.alloc(), input, trial, Ok(()), ALL)?;
+    }
     Ok(())
 }
 
 #[test]
-fn each_read_fails_in_turn(rt: HostRuntime) -> Result<(), Fail> {
-    for failing_read in 1..15u64 {
+fn the_machine_is_what_the_lines_make_of_it(rt: HostRuntime) -> Result<(), AllocError> {
+    let outcome = try_run(rt.alloc(), SCRIPT, SOUND)?;
+    assert!(rt; is_passed(outcome.result)? && outcome.last == 1);
+    Ok(())
+}
+
+#[test]
+fn each_read_fails_in_turn(rt: HostRuntime) -> Result<(), AllocError> {
+    for failing_read in 1..16u64 {
         let trial = Trial {
             failing_read,
             ..BYTE_BY_BYTE
         };
-        let written: &[u8] = match failing_read {
-            1..=3 => b"",
-            4..=12 => b"0\n",
-            _ => b"0\n2\n",
+        let failed = Err(ScriptFault::Read);
+        let (result, written): (_, &[u8]) = match failing_read {
+            1..=3 => (failed, b""),
+            4..=12 => (failed, b"0\n"),
+            13..=14 => (failed, b"0\n2\n"),
+            _ => (Ok(()), ALL),
         };
-        check(
-            &rt,
-            rt.alloc(),
-            SCRIPT,
-            trial,
-            Err(ScriptFault::Read),
-            written,
-        )?;
+        check(&rt, rt.alloc(), SCRIPT, trial, result, written)?;
     }
-    let trial = Trial {
-        failing_read: 15,
-        ..BYTE_BY_BYTE
-    };
-    check(&rt, rt.alloc(), SCRIPT, trial, Ok(()), b"0\n2\n3\n")
+    Ok(())
 }
 
 #[test]
-fn each_write_fails_in_turn(rt: HostRuntime) -> Result<(), Fail> {
-    let all = b"0\n2\n3\n";
+fn each_write_fails_in_turn(rt: HostRuntime) -> Result<(), AllocError> {
     for bytes in 0..6usize {
         let number = bytes as u64 + 1;
         let failing = Trial {
             failing_write: number,
             ..BYTE_BY_BYTE
         };
-        check(
-            &rt,
-            rt.alloc(),
-            SCRIPT,
-            failing,
-            Err(ScriptFault::Write),
-            &all[..bytes],
-        )?;
         let idle = Trial {
             idle_write: number,
             ..BYTE_BY_BYTE
         };
-        check(
-            &rt,
-            rt.alloc(),
-            SCRIPT,
-            idle,
-            Err(ScriptFault::Write),
-            &all[..bytes],
-        )?;
+        for trial in [failing, idle] {
+            let failed = Err(ScriptFault::Write);
+            check(&rt, rt.alloc(), SCRIPT, trial, failed, &ALL[..bytes])?;
+        }
     }
     let trial = Trial {
         failing_write: 7,
         idle_write: 7,
         ..BYTE_BY_BYTE
     };
-    check(&rt, rt.alloc(), SCRIPT, trial, Ok(()), all)
+    check(&rt, rt.alloc(), SCRIPT, trial, Ok(()), ALL)
 }
 
 #[test]
-fn a_bound_of_reads_ends_the_run(rt: HostRuntime) -> Result<(), Fail> {
-    let bounds: [(u64, &[u8]); 5] = [
-        (0, b""),
-        (2, b""),
-        (3, b"0\n"),
-        (12, b"0\n2\n"),
-        (13, b"0\n2\n"),
+fn a_bound_of_reads_ends_the_run(rt: HostRuntime) -> Result<(), AllocError> {
+    let endless = Err(ScriptFault::Endless);
+    let bounds: [(u64, Result<(), ScriptFault>, &[u8]); 6] = [
+        (0, endless, b""),
+        (2, endless, b""),
+        (3, endless, b"0\n"),
+        (12, endless, b"0\n2\n"),
+        (13, endless, b"0\n2\n"),
+        (14, Ok(()), ALL),
     ];
-    for (reads, written) in bounds {
+    for (reads, result, written) in bounds {
         let trial = Trial {
             reads,
             ..BYTE_BY_BYTE
         };
-        check(
-            &rt,
-            rt.alloc(),
-            SCRIPT,
-            trial,
-            Err(ScriptFault::Endless),
-            written,
-        )?;
+        check(&rt, rt.alloc(), SCRIPT, trial, result, written)?;
     }
-    let trial = Trial {
-        reads: 14,
-        ..BYTE_BY_BYTE
-    };
-    check(&rt, rt.alloc(), SCRIPT, trial, Ok(()), b"0\n2\n3\n")
+    Ok(())
 }
 
-// Holds whichever growth is refused: the replies of the lines before the one that is named are written. Where it is refused in a sink, the write fails.
+// Whether the replies of the lines before the one that is named are written, whichever growth is refused. Where it is refused in a sink, the write fails.
+fn names_its_line(alloc: Global, trial: Trial) -> bool {
+    let Ok(outcome) = try_run(alloc, SCRIPT, trial) else {
+        return true;
+    };
+    let count = match outcome.result {
+        Err(ScriptFault::NoMemory(1)) => 0,
+        Err(ScriptFault::NoMemory(2..=4)) => 2,
+        Err(ScriptFault::NoMemory(5)) => 4,
+        Err(ScriptFault::Write) if trial.room == 0 => outcome.written.len().min(6),
+        _ => 6,
+    };
+    outcome.written.as_slice() == &ALL[..count]
+}
+
 #[test]
-fn a_refused_growth_names_its_line(rt: HostRuntime) -> Result<(), Fail> {
-    let all = b"0\n2\n3\n";
+fn a_refused_growth_names_its_line(rt: HostRuntime) {
     for in_piece in 1..16usize {
         let trial = Trial {
             in_piece,
             room: if in_piece % 2 == 0 { 0 } else { 100 },
             ..SOUND
         };
-        let Ok(outcome) = try_run(rt.alloc(), SCRIPT, trial) else {
-            return Ok(());
-        };
-        let count = match outcome.result {
-            Err(ScriptFault::NoMemory(1)) => 0,
-            Err(ScriptFault::NoMemory(2..=4)) => 2,
-            Err(ScriptFault::NoMemory(5)) => 4,
-            Err(ScriptFault::Write) if trial.room == 0 => outcome.written.len().min(6),
-            _ => 6,
-        };
-        assert!(rt;
-            outcome.written.as_slice() == &all[..count],
-            "{trial:?}: {outcome:?}"
-        );
+        assert!(rt; names_its_line(rt.alloc(), trial), "{trial:?}");
     }
-    Ok(())
 }
 
-#[test]
-fn many_long_replies_are_all_written(rt: HostRuntime) -> Result<(), Fail> {
-    let mut input = Vec::new(rt.alloc());
+// Lines of one byte.
+fn many_lines(alloc: Global) -> Result<Vec<u8>, AllocError> {
+    let mut input = Vec::new(alloc);
     for _ in 0..30u8 {
         input.extend_from_slice(b"x\n")?;
     }
+    Ok(input)
+}
+
+#[test]
+fn many_long_replies_are_all_written(rt: HostRuntime) -> Result<(), AllocError> {
     let trial = Trial {
         in_piece: 7,
         out_piece: 3,
         ..SOUND
     };
-    let outcome = try_run(rt.alloc(), input.as_slice(), trial)?;
-    outcome.result?;
-    assert_eq!(rt; outcome.written.len(), 60);
+    let outcome = try_run(rt.alloc(), &many_lines(rt.alloc())?, trial)?;
+    assert!(rt; is_passed(outcome.result)? && outcome.written.len() == 60);
     Ok(())
 }
 
@@ -319,17 +301,16 @@ fn copy_over<L: Ledger, K: Ledger>(
 }
 
 #[test]
-fn readers_and_writers_are_devices(rt: HostRuntime) -> Result<(), Fail> {
+fn readers_and_writers_are_devices(rt: HostRuntime) -> Result<(), AllocError> {
     let mut written = Vec::with_capacity(rt.alloc(), 6)?;
-    let reader = Cursor::new(SCRIPT);
-    copy_over::<Brand, Brand>(
+    let result = copy_over::<Brand, Brand>(
         rt.alloc(),
-        reader,
+        Cursor::new(SCRIPT),
         &mut written,
         Blank::new(3),
         Blank::new(1),
-    )?;
-    assert_eq!(rt; written.as_slice(), b"7\n2\n3\n".as_slice());
+    );
+    assert!(rt; is_passed(result)? && written.as_slice() == b"7\n2\n3\n".as_slice());
     Ok(())
 }
 
