@@ -1,34 +1,74 @@
-use crate::{Change, Put};
+use crate::{Change, Put, ReadyDeclare, ReadyPut};
 use oim_fact::{Allowed, DimSet, Fact, FactValue};
 use std::alloc::{AllocError, Global};
+use std::process::Abort;
 use std::sync::Arc;
-use std::test::Fail;
 
-/// A fact of one concept with this text.
-fn make_fact(alloc: Global, text: &str) -> Result<Arc<Fact>, Fail> {
+/// The dimensions of all facts.
+fn dims(rt: &impl Abort, alloc: Global) -> Result<DimSet, AllocError> {
     let mut pairs = Vec::new(alloc);
     let concept = String::from_str(alloc, "ex:Name")?;
     pairs.push((String::from_str(alloc, "concept")?, Some(concept)))?;
-    let value = FactValue::Text(String::from_str(alloc, text)?);
-    let fact = Fact {
-        dims: DimSet::of(pairs)?,
-        value,
-        links: None,
-    };
-    Ok(Arc::new(alloc, fact)?)
+    match DimSet::of(pairs) {
+        Ok(dims) => Ok(dims),
+        Err(_) => panic!(rt; "no dimension set"),
+    }
 }
 
-/// Puts a fact with this text.
-fn put(alloc: Global, change: &mut Change, report: &str, id: &str, text: &str) -> Result<(), Fail> {
-    let fact = make_fact(alloc, text)?;
-    change.put(report, String::from_str(alloc, id)?, Some(fact))?;
+/// A fact of one concept with this text.
+fn make_fact(rt: &impl Abort, alloc: Global, text: &str) -> Result<Arc<Fact>, AllocError> {
+    let dims = dims(rt, alloc)?;
+    let value = FactValue::Text(String::from_str(alloc, text)?);
+    let links = None;
+    Ok(Arc::new(alloc, Fact { dims, value, links })?)
+}
+
+/// A report, an identifier, and the text of the fact that is put there, or none where it is removed.
+type Row<'a> = (&'a str, &'a str, Option<&'a str>);
+
+/// Puts the fact of a row, or removes what stands there.
+fn put(
+    rt: &impl Abort,
+    alloc: Global,
+    change: &mut Change,
+    row: Row<'_>,
+) -> Result<(), AllocError> {
+    let (report, id, text) = row;
+    let fact = match text {
+        None => None,
+        Some(text) => Some(make_fact(rt, alloc, text)?),
+    };
+    change.put(report, String::from_str(alloc, id)?, fact)
+}
+
+/// Puts the facts of rows in turn.
+fn put_all(
+    rt: &impl Abort,
+    alloc: Global,
+    change: &mut Change,
+    rows: &[Row<'_>],
+) -> Result<(), AllocError> {
+    for row in rows {
+        put(rt, alloc, change, *row)?;
+    }
     Ok(())
 }
 
-/// Removes what stands at an identifier.
-fn remove(alloc: Global, change: &mut Change, report: &str, id: &str) -> Result<(), AllocError> {
-    change.put(report, String::from_str(alloc, id)?, None)
+/// A change of two reports, and a value declared for a third between them.
+fn some_change(rt: &impl Abort, alloc: Global) -> Result<Change, AllocError> {
+    let mut change = Change::new(alloc);
+    let rows = [
+        ("r3", "a", Some("one")),
+        ("r1", "b", Some("two")),
+        ("r1", "a", None),
+    ];
+    put_all(rt, alloc, &mut change, &rows)?;
+    change.declare("r2", Allowed::Complete)?;
+    Ok(change)
 }
+
+/// The puts of that change.
+const SOME: &str = "r1/a=- r1/b=two r3/a=one ";
 
 /// The text of a fact, or `-` where it is removed.
 fn text_of(fact: Option<&Arc<Fact>>) -> &str {
@@ -58,125 +98,161 @@ fn puts_text(alloc: Global, change: &Change) -> Result<String, AllocError> {
     Ok(texts)
 }
 
-/// A change of two reports, and a value declared for a third between them.
-fn some_change(alloc: Global) -> Result<Change, Fail> {
-    let mut change = Change::new(alloc);
-    put(alloc, &mut change, "r3", "a", "one")?;
-    put(alloc, &mut change, "r1", "b", "two")?;
-    remove(alloc, &mut change, "r1", "a")?;
-    change.declare("r2", Allowed::Complete)?;
-    Ok(change)
-}
-
-#[test]
-fn puts_come_in_byte_order(rt: HostRuntime) -> Result<(), Fail> {
-    let change = some_change(rt.alloc())?;
-    let texts = puts_text(rt.alloc(), &change)?;
-    assert_eq!(rt; texts.as_str(), "r1/a=- r1/b=two r3/a=one ");
+/// Compares the puts of a change with a text.
+fn compare(
+    rt: &impl Abort,
+    alloc: Global,
+    change: &Change,
+    expected: &str,
+) -> Result<(), AllocError> {
+    let texts = puts_text(alloc, change)?;
+    assert_eq!(rt; texts.as_str(), expected);
     Ok(())
 }
 
 #[test]
-fn a_later_put_takes_the_place_of_an_earlier_one(rt: HostRuntime) -> Result<(), Fail> {
-    let mut change = some_change(rt.alloc())?;
-    remove(rt.alloc(), &mut change, "r1", "b")?;
-    put(rt.alloc(), &mut change, "r1", "a", "three")?;
-    let texts = puts_text(rt.alloc(), &change)?;
-    assert_eq!(rt; texts.as_str(), "r1/a=three r1/b=- r3/a=one ");
-    Ok(())
+fn puts_come_in_byte_order(rt: HostRuntime) -> Result<(), AllocError> {
+    let change = some_change(&rt, rt.alloc())?;
+    compare(&rt, rt.alloc(), &change, SOME)
 }
 
 #[test]
-fn a_removal_is_staged_and_a_place_not_named_is_not(rt: HostRuntime) -> Result<(), Fail> {
-    let change = some_change(rt.alloc())?;
-    assert!(rt; matches!(change.staged("r1", "a"), Some(None)));
-    assert_eq!(rt; change.staged("r1", "b").map(text_of), Some("two"));
-    assert!(rt; change.staged("r1", "c").is_none());
-    assert!(rt; change.staged("r2", "a").is_none());
-    assert!(rt; change.staged("r4", "a").is_none());
-    Ok(())
+fn a_later_put_takes_the_place_of_an_earlier_one(rt: HostRuntime) -> Result<(), AllocError> {
+    let mut change = some_change(&rt, rt.alloc())?;
+    let rows = [("r1", "b", None), ("r1", "a", Some("three"))];
+    put_all(&rt, rt.alloc(), &mut change, &rows)?;
+    compare(&rt, rt.alloc(), &change, "r1/a=three r1/b=- r3/a=one ")
 }
 
 #[test]
-fn a_declared_value_and_puts_leave_one_another(rt: HostRuntime) -> Result<(), Fail> {
-    let mut change = some_change(rt.alloc())?;
+fn a_removal_is_staged_and_a_place_not_named_is_not(rt: HostRuntime) -> Result<(), AllocError> {
+    let change = some_change(&rt, rt.alloc())?;
+    let rows = [
+        ("r1", "a", Some("-")),
+        ("r1", "b", Some("two")),
+        ("r1", "c", None),
+        ("r2", "a", None),
+        ("r4", "a", None),
+    ];
+    for (report, id, text) in rows {
+        assert!(rt; change.staged(report, id).map(text_of) == text);
+    }
+    Ok(())
+}
+
+/// Compares a change after further declarations, and a put where one was declared.
+fn declare_again(rt: &impl Abort, alloc: Global, change: &mut Change) -> Result<(), AllocError> {
     change.declare("r1", Allowed::Never)?;
     change.declare("r2", Allowed::All)?;
-    put(rt.alloc(), &mut change, "r2", "a", "three")?;
-    assert_eq!(rt; change.declared("r1"), Some(Allowed::Never));
-    assert_eq!(rt; change.declared("r2"), Some(Allowed::All));
-    assert_eq!(rt; change.declared("r3"), None);
-    let texts = puts_text(rt.alloc(), &change)?;
-    assert_eq!(rt; texts.as_str(), "r1/a=- r1/b=two r2/a=three r3/a=one ");
-    Ok(())
+    put(rt, alloc, change, ("r2", "a", Some("three")))?;
+    assert!(rt; change.declared("r1") == Some(Allowed::Never));
+    assert!(rt; change.declared("r2") == Some(Allowed::All));
+    assert!(rt; change.declared("r3").is_none());
+    compare(rt, alloc, change, "r1/a=- r1/b=two r2/a=three r3/a=one ")
 }
 
 #[test]
-fn what_is_ready_changes_nothing_until_it_is_taken(rt: HostRuntime) -> Result<(), Fail> {
-    let mut change = some_change(rt.alloc())?;
-    let removal = change.ready("r3", String::from_str(rt.alloc(), "a")?, None)?;
-    let declaration = change.ready_declare("r3", Allowed::All)?;
-    assert_eq!(rt;
-        puts_text(rt.alloc(), &change)?.as_str(),
-        "r1/a=- r1/b=two r3/a=one "
-    );
-    assert_eq!(rt; change.declared("r3"), None);
-    change.take(removal);
-    assert_eq!(rt;
-        puts_text(rt.alloc(), &change)?.as_str(),
-        "r1/a=- r1/b=two r3/a=- "
-    );
-    change.take_declare(declaration);
-    assert_eq!(rt; change.declared("r3"), Some(Allowed::All));
-    assert_eq!(rt;
-        puts_text(rt.alloc(), &change)?.as_str(),
-        "r1/a=- r1/b=two r3/a=one "
-    );
-    Ok(())
+fn a_declared_value_and_puts_leave_one_another(rt: HostRuntime) -> Result<(), AllocError> {
+    let mut change = some_change(&rt, rt.alloc())?;
+    declare_again(&rt, rt.alloc(), &mut change)
 }
 
-/// Puts a fact, once more where want of memory refused it.
+/// A removal and a declaration of one report, ready to be taken.
+fn ready_both(alloc: Global, change: &Change) -> Result<(ReadyPut, ReadyDeclare), AllocError> {
+    let removal = change.ready("r3", String::from_str(alloc, "a")?, None)?;
+    Ok((removal, change.ready_declare("r3", Allowed::All)?))
+}
+
+/// Compares a change with each step of taking what was ready.
+fn take_both(rt: &impl Abort, alloc: Global, change: &mut Change) -> Result<(), AllocError> {
+    let (removal, declaration) = ready_both(alloc, change)?;
+    compare(rt, alloc, change, SOME)?;
+    assert!(rt; change.declared("r3").is_none());
+    change.take(removal);
+    compare(rt, alloc, change, "r1/a=- r1/b=two r3/a=- ")?;
+    change.take_declare(declaration);
+    assert!(rt; change.declared("r3") == Some(Allowed::All));
+    compare(rt, alloc, change, SOME)
+}
+
+#[test]
+fn what_is_ready_changes_nothing_until_it_is_taken(rt: HostRuntime) -> Result<(), AllocError> {
+    let mut change = some_change(&rt, rt.alloc())?;
+    take_both(&rt, rt.alloc(), &mut change)
+}
+
+/// Puts a fact that is there.
+fn put_fact(alloc: Global, change: &mut Change, fact: &Arc<Fact>) -> Result<(), AllocError> {
+    let id = String::from_str(alloc, "b")?;
+    change.put("r3", id, Some(fact.clone()?))
+}
+
+/// Puts a fact, once more where want of memory refused it and left the change.
 fn put_at_last(
+    rt: &impl Abort,
     alloc: Global,
     change: &mut Change,
     fact: &Arc<Fact>,
-    before: &str,
-) -> Result<bool, Fail> {
-    let id = String::from_str(alloc, "b")?;
-    let again = String::from_str(alloc, "b")?;
-    if change.put("r3", id, Some(fact.clone()?)).is_ok() {
-        return Ok(true);
+) -> Result<(), AllocError> {
+    if put_fact(alloc, change, fact).is_ok() {
+        return Ok(());
     }
-    let is_as_before = puts_text(alloc, change)?.as_str() == before;
-    change.put("r3", again, Some(fact.clone()?))?;
-    Ok(is_as_before)
+    compare(rt, alloc, change, SOME)?;
+    put_fact(alloc, change, fact)
 }
 
 #[test]
-fn a_refused_put_leaves_the_change(rt: HostRuntime) -> Result<(), Fail> {
-    let mut change = some_change(rt.alloc())?;
-    let before = puts_text(rt.alloc(), &change)?;
-    let fact = make_fact(rt.alloc(), "four")?;
-    assert!(rt; put_at_last(rt.alloc(), &mut change, &fact, &before)?);
-    let texts = puts_text(rt.alloc(), &change)?;
-    assert_eq!(rt; texts.as_str(), "r1/a=- r1/b=two r3/a=one r3/b=four ");
-    Ok(())
+fn a_refused_put_leaves_the_change(rt: HostRuntime) -> Result<(), AllocError> {
+    let mut change = some_change(&rt, rt.alloc())?;
+    let fact = make_fact(&rt, rt.alloc(), "four")?;
+    put_at_last(&rt, rt.alloc(), &mut change, &fact)?;
+    compare(
+        &rt,
+        rt.alloc(),
+        &change,
+        "r1/a=- r1/b=two r3/a=one r3/b=four ",
+    )
 }
 
-#[test]
-fn hundreds_of_puts_are_all_there(rt: HostRuntime) -> Result<(), Fail> {
-    let mut change = Change::new(rt.alloc());
-    for turn in 0..300u64 {
-        let id = format!(in rt.alloc(); "{:03}", turn.wrapping_mul(7) % 300)?;
-        put(rt.alloc(), &mut change, "r1", &id, &id)?;
-    }
+/// The identifier of a number below 300, as the numbers rise.
+fn identifier(alloc: Global, number: u64) -> Result<String, AllocError> {
+    format!(in alloc; "{number:03}")
+}
+
+/// Puts a fact under the identifier of a number, which is its text too.
+fn put_number(
+    rt: &impl Abort,
+    alloc: Global,
+    change: &mut Change,
+    number: u64,
+) -> Result<(), AllocError> {
+    let id = identifier(alloc, number)?;
+    put(rt, alloc, change, ("r1", &id, Some(&id)))
+}
+
+/// Whether a put is that of a number.
+fn is_number(alloc: Global, put: Put<'_>, number: u64) -> Result<bool, AllocError> {
+    let (_, id, fact) = put;
+    let expected = identifier(alloc, number)?;
+    Ok(expected.as_str() == id && expected.as_str() == text_of(fact))
+}
+
+/// Compares the puts of a change with the numbers up to 300.
+fn compare_numbers(rt: &impl Abort, alloc: Global, change: &Change) -> Result<(), AllocError> {
     let mut next = 0u64;
-    for (_, id, fact) in change.puts() {
-        let wanted = format!(in rt.alloc(); "{next:03}")?;
-        assert_eq!(rt; id, wanted.as_str());
-        assert_eq!(rt; text_of(fact), wanted.as_str());
+    for put in change.puts() {
+        assert!(rt; is_number(alloc, put, next)?);
         next = next.wrapping_add(1);
     }
-    assert_eq!(rt; next, 300);
+    assert!(rt; next == 300);
     Ok(())
+}
+
+#[test]
+fn hundreds_of_puts_are_all_there(rt: HostRuntime) -> Result<(), AllocError> {
+    let mut change = Change::new(rt.alloc());
+    for turn in 0..300u64 {
+        put_number(&rt, rt.alloc(), &mut change, turn.wrapping_mul(7) % 300)?;
+    }
+    compare_numbers(&rt, rt.alloc(), &change)
 }
