@@ -10,7 +10,7 @@ use named::Named;
 use sorted_pages::{Between, Change, Paged, are_rising, is_rising};
 use std::alloc::{AllocError, Global};
 use std::env;
-use std::rt::{Clock, Runtime};
+use std::rt::Runtime;
 use std::time::Instant;
 
 /// How often each is done.
@@ -23,12 +23,18 @@ fn next_number(state: u64) -> u64 {
         .wrapping_add(1_442_695_040_888_963_407)
 }
 
-/// A list of this many entries, at each second place of the order.
-fn filled(alloc: Global, count: u64) -> Result<Paged<Named>, AllocError> {
+/// This many entries, at each second place of the order.
+fn entries(alloc: Global, count: u64) -> Result<Vec<Named>, AllocError> {
     let mut entries = Vec::new(alloc);
     for place in 0..count {
         entries.push(Named::new(alloc, place.wrapping_mul(2), place)?)?;
     }
+    Ok(entries)
+}
+
+/// A list of this many entries.
+fn filled(alloc: Global, count: u64) -> Result<Paged<Named>, AllocError> {
+    let entries = entries(alloc, count)?;
     if is_rising(&entries) {
         Paged::of_sorted(alloc, entries)
     } else {
@@ -45,63 +51,111 @@ fn place_in(count: u64, quarter: u64, state: u64) -> u64 {
         .wrapping_mul(2)
 }
 
+/// The four quarters: whether an entry is put there or removed, and how far from a place of the list.
+const QUARTERS: [(u64, bool, u64); 4] = [(0, true, 0), (1, false, 0), (2, true, 1), (3, true, 0)];
+
+/// A change of one entry.
+fn one_change(
+    alloc: Global,
+    place: u64,
+    number: u64,
+    is_put: bool,
+) -> Result<Change<Named>, AllocError> {
+    let entry = Named::new(alloc, place, number)?;
+    Ok(if is_put {
+        Change::Put(entry)
+    } else {
+        Change::Remove(entry)
+    })
+}
+
 /// Four changes: two replacements, a removal and an addition, one in each quarter.
 fn four_changes(alloc: Global, count: u64, seed: u64) -> Result<Vec<Change<Named>>, AllocError> {
     let mut changes = Vec::with_capacity(alloc, 4)?;
-    let mut state = next_number(seed);
-    changes.push(Change::Put(Named::new(alloc, place_in(count, 0, state), seed)?))?;
-    state = next_number(state);
-    changes.push(Change::Remove(Named::new(alloc, place_in(count, 1, state), seed)?))?;
-    state = next_number(state);
-    let new_place = place_in(count, 2, state).wrapping_add(1);
-    changes.push(Change::Put(Named::new(alloc, new_place, seed)?))?;
-    state = next_number(state);
-    changes.push(Change::Put(Named::new(alloc, place_in(count, 3, state), seed)?))?;
+    let mut state = seed;
+    for (quarter, is_put, above) in QUARTERS {
+        state = next_number(state);
+        let place = place_in(count, quarter, state).wrapping_add(above);
+        changes.push(one_change(alloc, place, seed, is_put)?)?;
+    }
     Ok(changes)
 }
 
-/// The list after changes.
-fn changed(
-    alloc: Global,
-    list: &Paged<Named>,
-    changes: &[Change<Named>],
-) -> Result<Option<Paged<Named>>, AllocError> {
-    if are_rising(changes) {
-        Ok(Some(list.after(alloc, changes)?))
-    } else {
-        Ok(None)
+/// Four changes for each round.
+fn batches(alloc: Global, count: u64) -> Result<Vec<Vec<Change<Named>>>, AllocError> {
+    let mut batches = Vec::new(alloc);
+    for round in 0..ROUNDS {
+        batches.push(four_changes(alloc, count, round)?)?;
     }
+    Ok(batches)
 }
 
-/// The time of one round in nanoseconds.
-fn per_round(rt: &impl Clock, start: Instant, rounds: u64) -> Result<u128> {
-    let taken = start.elapsed(rt)?;
-    Ok(taken.as_nanos() / u128::from(rounds.max(1)))
+/// Changes a list, where the changes rise.
+fn change(
+    alloc: Global,
+    list: &mut Paged<Named>,
+    changes: &[Change<Named>],
+) -> Result<(), AllocError> {
+    if are_rising(changes) {
+        *list = list.after(alloc, changes)?;
+    }
+    Ok(())
+}
+
+/// Changes a list by one batch after another.
+fn change_all(
+    alloc: Global,
+    list: &mut Paged<Named>,
+    batches: &[Vec<Change<Named>>],
+) -> Result<(), AllocError> {
+    for batch in batches {
+        change(alloc, list, batch)?;
+    }
+    Ok(())
+}
+
+/// Says what one round took since a time, in nanoseconds.
+fn tell(rt: &impl Runtime, count: u64, what: &str, start: Instant, is_timed: bool) -> Result<()> {
+    let taken = start.elapsed(rt)?.as_nanos() / u128::from(ROUNDS);
+    if is_timed {
+        eprintln!(rt; "{count} entries, {what}: {taken} ns")?;
+    }
+    Ok(())
 }
 
 /// Changes of four entries, one after another.
-fn change(
+fn measure_changes(
     rt: &(impl Runtime + AllocGlobal),
     count: u64,
-    list: Paged<Named>,
+    list: &mut Paged<Named>,
     is_timed: bool,
-) -> Result<Paged<Named>> {
-    let mut list = list;
-    let mut batches = Vec::new(rt.alloc());
-    for round in 0..ROUNDS {
-        batches.push(four_changes(rt.alloc(), count, round)?)?;
-    }
+) -> Result<()> {
+    let batches = batches(rt.alloc(), count)?;
     let start = Instant::now(rt)?;
-    for batch in &batches {
-        if let Some(next) = changed(rt.alloc(), &list, batch)? {
-            list = next;
+    change_all(rt.alloc(), list, &batches)?;
+    tell(rt, count, "a change of four", start, is_timed)
+}
+
+/// Entries all over the list.
+fn probes(alloc: Global, count: u64) -> Result<Vec<Named>, AllocError> {
+    let mut probes = Vec::new(alloc);
+    for round in 0..ROUNDS {
+        let state = next_number(next_number(round));
+        let place = place_in(count, round % 4, state);
+        probes.push(Named::new(alloc, place, 0)?)?;
+    }
+    Ok(probes)
+}
+
+/// How many of some entries stand in a list.
+fn found_in(list: &Paged<Named>, probes: &[Named]) -> u64 {
+    let mut found = 0u64;
+    for probe in probes {
+        if list.get(probe).is_some() {
+            found = found.wrapping_add(1);
         }
     }
-    let taken = per_round(rt, start, ROUNDS)?;
-    if is_timed {
-        eprintln!(rt; "{count} entries, a change of four: {taken} ns")?;
-    }
-    Ok(list)
+    found
 }
 
 /// Look-ups of entries all over the list.
@@ -111,23 +165,37 @@ fn look_up(
     list: &Paged<Named>,
     is_timed: bool,
 ) -> Result<u64> {
-    let mut probes = Vec::new(rt.alloc());
-    for round in 0..ROUNDS {
-        let state = next_number(next_number(round));
-        probes.push(Named::new(rt.alloc(), place_in(count, round % 4, state), 0)?)?;
-    }
-    let mut found = 0u64;
+    let probes = probes(rt.alloc(), count)?;
     let start = Instant::now(rt)?;
-    for probe in &probes {
-        if list.get(probe).is_some() {
-            found = found.wrapping_add(1);
-        }
-    }
-    let taken = per_round(rt, start, ROUNDS)?;
-    if is_timed {
-        eprintln!(rt; "{count} entries, a look-up: {taken} ns")?;
-    }
+    let found = found_in(list, &probes);
+    tell(rt, count, "a look-up", start, is_timed)?;
     Ok(found)
+}
+
+/// The ends of the middle half, near enough.
+fn span(alloc: Global, count: u64, round: u64) -> Result<(Named, Named), AllocError> {
+    let state = next_number(round);
+    let from = Named::new(alloc, place_in(count, 0, state), 0)?;
+    let until = Named::new(alloc, place_in(count, 2, state), 0)?;
+    Ok((from, until))
+}
+
+/// The ends of a half for each round.
+fn spans(alloc: Global, count: u64) -> Result<Vec<(Named, Named)>, AllocError> {
+    let mut spans = Vec::new(alloc);
+    for round in 0..ROUNDS {
+        spans.push(span(alloc, count, round)?)?;
+    }
+    Ok(spans)
+}
+
+/// The greatest number in any of some spans.
+fn greatest_in(list: &Paged<Named>, spans: &[(Named, Named)]) -> u64 {
+    let mut most = 0u64;
+    for (from, until) in spans {
+        most = most.max(list.range(&Between { from, until }).greatest());
+    }
+    most
 }
 
 /// The greatest number over the middle half.
@@ -137,33 +205,38 @@ fn greatest(
     list: &Paged<Named>,
     is_timed: bool,
 ) -> Result<u64> {
-    let mut spans = Vec::new(rt.alloc());
-    for round in 0..ROUNDS {
-        let from = Named::new(rt.alloc(), place_in(count, 0, next_number(round)), 0)?;
-        let until = Named::new(rt.alloc(), place_in(count, 2, next_number(round)), 0)?;
-        spans.push((from, until))?;
-    }
-    let mut most = 0u64;
+    let spans = spans(rt.alloc(), count)?;
     let start = Instant::now(rt)?;
-    for (from, until) in &spans {
-        most = most.max(list.range(&Between { from, until }).greatest());
-    }
-    let taken = per_round(rt, start, ROUNDS)?;
-    if is_timed {
-        eprintln!(rt; "{count} entries, the greatest over half: {taken} ns")?;
-    }
+    let most = greatest_in(list, &spans);
+    tell(rt, count, "the greatest over half", start, is_timed)?;
     Ok(most)
+}
+
+/// How many pages a list has.
+fn pages_of(alloc: Global, list: &Paged<Named>) -> Result<usize, AllocError> {
+    let sizes = list.page_sizes(alloc)?;
+    Ok(sizes.len())
+}
+
+/// All of it over a list.
+fn measure_list(
+    rt: &(impl Runtime + AllocGlobal),
+    count: u64,
+    list: &mut Paged<Named>,
+    is_timed: bool,
+) -> Result<()> {
+    measure_changes(rt, count, list, is_timed)?;
+    let found = look_up(rt, count, list, is_timed)?;
+    let most = greatest(rt, count, list, is_timed)?;
+    let pages = pages_of(rt.alloc(), list)?;
+    println!(rt; "{count} entries: {pages} pages, {found} found, greatest {most}")?;
+    Ok(())
 }
 
 /// All of it over a list of one size.
 fn measure(rt: &(impl Runtime + AllocGlobal), count: u64, is_timed: bool) -> Result<()> {
-    let list = filled(rt.alloc(), count)?;
-    let list = change(rt, count, list, is_timed)?;
-    let found = look_up(rt, count, &list, is_timed)?;
-    let most = greatest(rt, count, &list, is_timed)?;
-    let pages = list.page_sizes(rt.alloc())?.len();
-    println!(rt; "{count} entries: {pages} pages, {found} found, greatest {most}")?;
-    Ok(())
+    let mut list = filled(rt.alloc(), count)?;
+    measure_list(rt, count, &mut list, is_timed)
 }
 
 fn main(rt: HostRuntime) -> Result<()> {
