@@ -16,13 +16,7 @@ mod moves;
 mod order;
 mod stamp;
 mod stamp_spans;
-#[cfg(test)]
-mod stamp_tests;
 mod stamps;
-#[cfg(test)]
-mod test_facts;
-#[cfg(test)]
-mod tests;
 mod wanted;
 
 pub use coded::Coded;
