@@ -11,7 +11,7 @@ use Rattle.filing_model.specs.Duplicates.{has_dims}
 use Rattle.filing_model.specs.Queries.{is_asked, answers_query}
 use Rattle.filing_model.proofs.DimensionSets.{dims_decides}
 use Rattle.filing_model.proofs.Texts.{text_same}
-use Rattle.filing_index.specs.Codes.{code_of_dims, code_of_period, code_of_concept, code_of_query, cell_code, query_code}
+use Rattle.filing_pages.specs.Codes.{code_of_dims, code_of_period, code_of_concept, code_of_query, cell_code, query_code}
 
 pub code_of_cell : (dims : Dims) (fact : Fact) → has_dims dims fact ≡ true → cell_code fact ≡ code_of_dims dims
 code_of_cell dims fact h = ap code_of_dims (sym ((dims_decides dims fact.dims).0 h))

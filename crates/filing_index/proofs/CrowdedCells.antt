@@ -24,7 +24,7 @@ use Rattle.filing_model.proofs.DimensionSets.{dims_same}
 use Rattle.filing_model.proofs.AllowedClasses.{empty_is_allowed, allows-class_by}
 use Rattle.filing_model.proofs.LeastDims.{same_least, any_kept}
 use Rattle.filing_index.specs.Index.{Coded, key_cmp, coded_cmp, IsIndex}
-use Rattle.filing_index.specs.Codes.{cell_code, code_of_dims}
+use Rattle.filing_pages.specs.Codes.{cell_code, code_of_dims}
 use Rattle.filing_index.specs.Found.{passing, side_of}
 use Rattle.filing_index.specs.Cells.{shares_code, first_of, crowded, are_these, least_among_facts}
 use Rattle.filing_index.proofs.AskedCodes.{code_of_cell}

@@ -51,7 +51,7 @@ group_cmp-Equal g h e =
     let two = both_are_equal (option_cmp text_cmp g.concept h.concept) _ one.1 in
     let dims = cells g.dims h.dims one.0 in
     let concept = nullable_Equal g.concept h.concept two.0 in
-    let period = nullable_Equal g.period h.period two.1 in
+    let period = periods g.period h.period two.1 in
     λ i. record { dims = dims i; concept = concept i; period = period i }
   where
     cells : (x y : Option Dims) → option_cmp dims_cmp x y ≡ Equal → x ≡ y
@@ -59,6 +59,12 @@ group_cmp-Equal g h e =
     cells None (Some y) e = absurd (true≢false (sym (ap is_eq e)))
     cells (Some x) None e = absurd (true≢false (sym (ap is_eq e)))
     cells (Some x) (Some y) e = ap Some (dims_cmp-Equal x y e)
+
+    periods : (x y : Option (Option Text)) → option_cmp (option_cmp text_cmp) x y ≡ Equal → x ≡ y
+    periods None None e = refl
+    periods None (Some y) e = absurd (true≢false (sym (ap is_eq e)))
+    periods (Some x) None e = absurd (true≢false (sym (ap is_eq e)))
+    periods (Some x) (Some y) e = ap Some (nullable_Equal x y e)
 
 -- groups that tie have one code, so the code decides nothing
 coded : (g h : Group) (r : Ordering)
@@ -108,11 +114,12 @@ cell_ties : (dims other : Dims) → is_eq (group_cmp (record no_group { dims = S
 cell_ties dims other =
     sym (tied_then (dims_cmp other dims) Equal) ∙ and_true (dims_eq other dims) ∙ (eq_by_cmp_equiv dims_cmp-total).symm other dims
 
-range_ties : (concept : Text) (c p q : Option Text)
+range_ties : (concept : Text) (c : Option Text) (p q : Option (Option Text))
     → is_eq (group_cmp (record no_group { concept = c; period = p }) (record no_group { concept = Some concept; period = q }))
-    ≡ (option_eq text_eq (Some concept) c && is_eq (option_cmp text_cmp p q))
+    ≡ (option_eq text_eq (Some concept) c && is_eq (option_cmp (option_cmp text_cmp) p q))
 range_ties concept c p q =
-    sym (tied_then (option_cmp text_cmp c (Some concept)) (option_cmp text_cmp p q)) ∙ ap (λ b. b && is_eq (option_cmp text_cmp p q)) (ties_with c concept)
+    sym (tied_then (option_cmp text_cmp c (Some concept)) (option_cmp (option_cmp text_cmp) p q))
+    ∙ ap (λ b. b && is_eq (option_cmp (option_cmp text_cmp) p q)) (ties_with c concept)
 
 fact_hits : (part : Part) (n : ℕ) (id : Text) (fact : Fact) → hits part (stamps_of n (id, fact)) ≡ stands_in part id fact
 fact_hits (Id x) n id fact = group_hits no_group no_group (text_cmp id x) true (text_eq id x) refl refl ∙ text_eq-sym id x
@@ -128,17 +135,18 @@ fact_hits (Range sought upto) n id fact = by sought.period
         (ids_side (Between sought.after upto) id) _ _ (range_ties sought.concept (concept_of fact.dims) None None) (within_ties sought.after upto id)
         ∙ and_turned _ (is_within sought.after upto id)
     by Without =
-        group_hits (record no_group { concept = concept_of fact.dims; period = period_of fact.dims }) (record no_group { concept = Some sought.concept })
+        group_hits (record no_group { concept = concept_of fact.dims; period = Some (period_of fact.dims) })
+        (record no_group { concept = Some sought.concept; period = Some None })
         (ids_side (Between sought.after upto) id) _ _
-        (range_ties sought.concept (concept_of fact.dims) (period_of fact.dims) None
+        (range_ties sought.concept (concept_of fact.dims) (Some (period_of fact.dims)) (Some None)
         ∙ ap (λ b. option_eq text_eq (Some sought.concept) (concept_of fact.dims) && b) (none_ties (period_of fact.dims)))
         (within_ties sought.after upto id)
         ∙ and_turned _ (is_within sought.after upto id)
     by (Exactly text) =
-        group_hits (record no_group { concept = concept_of fact.dims; period = period_of fact.dims })
-        (record no_group { concept = Some sought.concept; period = Some text })
+        group_hits (record no_group { concept = concept_of fact.dims; period = Some (period_of fact.dims) })
+        (record no_group { concept = Some sought.concept; period = Some (Some text) })
         (ids_side (Between sought.after upto) id) _ _
-        (range_ties sought.concept (concept_of fact.dims) (period_of fact.dims) (Some text)
+        (range_ties sought.concept (concept_of fact.dims) (Some (period_of fact.dims)) (Some (Some text))
         ∙ ap (λ b. option_eq text_eq (Some sought.concept) (concept_of fact.dims) && b) (ties_with (period_of fact.dims) text))
         (within_ties sought.after upto id)
         ∙ and_turned _ (is_within sought.after upto id)

@@ -2,7 +2,6 @@ pub mod Index
 pub mod KeyOrder
 pub mod Moves
 -- ---- indexes
-pub mod Codes
 pub mod Orders
 pub mod Moved
 pub mod Records

@@ -2,7 +2,7 @@
 use Rattle.std.specs.Prelude.{ℕ, List}
 use Rattle.filing_model.specs.Facts.{Fact}
 use Rattle.filing_model.specs.TextMap.{TextMap}
-use Rattle.filing_index.specs.Codes.{cell_code, period_code, concept_code}
+use Rattle.filing_pages.specs.Codes.{cell_code, period_code, concept_code}
 use Rattle.filing_index.specs.Index.{Coded, IsIndex}
 use Rattle.filing_index.specs.declared.order.Order.{Order}
 use Rattle.filing_index.specs.declared.order.Order.TheVariants.{Cell, Period, Concept}

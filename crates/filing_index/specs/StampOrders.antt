@@ -14,7 +14,7 @@ use Rattle.filing_index.specs.Lexicographic.{then_monotone}
 pub group_cmp-total : IsTotalOrder group_cmp
 group_cmp-total =
     then_total (on_total (λ g. g.dims) (options_total dims_cmp-total))
-    (then_total (on_total (λ g. g.concept) (options_total nat_list_cmp_total)) (on_total (λ g. g.period) (options_total nat_list_cmp_total)))
+    (then_total (on_total (λ g. g.concept) (options_total nat_list_cmp_total)) (on_total (λ g. g.period) (options_total (options_total nat_list_cmp_total))))
 
 pub stamp_cmp-total : IsTotalOrder stamp_cmp
 stamp_cmp-total =

@@ -1,9 +1,6 @@
 -- The stamps of one report: what touched facts leave behind, each with the number of the last touch. The project's own.
-use Rattle.std.specs.Prelude.{ℕ, Bool, true, cond, not, fold, List, [], ◌∷◌, ◌++◌, Option, Some, None}
+use Rattle.std.specs.Prelude.{ℕ, Bool, true, cond, not, List, [], ◌∷◌, ◌++◌, Option, Some, None}
 use Rattle.std.specs.BTreeSet.{insert_key}
-use Rattle.std.specs.Hash as fed
-use Rattle.std.specs.Hash.{HashWrites}
-use Rattle.std.specs.Hash.DefaultHasher as sip
 use Rattle.std.specs.List.{flat_map}
 use Rattle.std.specs.Option.{option_cmp, option_map, option_map_or}
 use Rattle.std.specs.Ordering.{on, then_cmp, ordering_then, nat_cmp, is_lt}
@@ -12,37 +9,39 @@ use Rattle.std.specs.declared.cmp.Ordering.TheVariants.{Less, Equal, Greater}
 use Rattle.sorted_pages.specs.Pages.{greatest}
 use Rattle.sorted_pages.specs.Ranges.{within}
 use Rattle.filing_model.specs.Text.{Text, text_cmp}
-use Rattle.filing_model.specs.Dimensions.{Dims, dims_cmp, dims_hash, concept_of, period_of}
+use Rattle.filing_model.specs.Dimensions.{Dims, dims_cmp, concept_of, period_of}
 use Rattle.filing_model.specs.Facts.{Fact}
 use Rattle.filing_model.specs.Queries.{is_after}
 use Rattle.filing_model.specs.Calls.{Asked, Any, Without, Exactly}
+use Rattle.filing_pages.specs.Codes.{code_of_dims, code_of_concept, code_of_period}
 use Rattle.filing_index.specs.Moves.{Move, Part, Id, Cell, Range}
 use Rattle.filing_index.specs.declared.stamp.StampKind.{StampKind}
 use Rattle.filing_index.specs.declared.stamp.StampKind.TheVariants as kind
 
 -- ---- stamps and their order
 
--- what a stamp looks at in the dimensions of a fact
+-- what a stamp looks at in the dimensions of a fact: nothing, all of them, a concept, or a concept with a period or none
 pub record Group : Type 0 where
   pub dims : Option Dims
   pub concept : Option Text
-  pub period : Option Text
+  pub period : Option (Option Text)
 
 abbrev pub no_group : Group
 no_group = record { dims = None; concept = None; period = None }
 
 abbrev pub group_cmp : Group → Group → Ordering
 group_cmp =
-    then_cmp (on (λ g. g.dims) (option_cmp dims_cmp)) (then_cmp (on (λ g. g.concept) (option_cmp text_cmp)) (on (λ g. g.period) (option_cmp text_cmp)))
+    then_cmp (on (λ g. g.dims) (option_cmp dims_cmp)) (then_cmp (on (λ g. g.concept) (option_cmp text_cmp)) (on (λ g. g.period) (option_cmp (option_cmp text_cmp))))
 
--- what a hasher is fed of a group
-abbrev pub group_hash : Group → HashWrites
-group_hash group =
-    fed.option dims_hash group.dims ++ (fed.option fed.str group.concept ++ fed.option fed.str group.period)
+-- the code of what is looked at
+abbrev pub code_of_parts : Option Dims → Option Text → Option (Option Text) → ℕ
+code_of_parts (Some dims) concept period = code_of_dims dims
+code_of_parts None (Some concept) None = code_of_concept concept
+code_of_parts None (Some concept) (Some period) = code_of_period concept period
+code_of_parts None None period = 0
 
--- the hash of a group, by std's hasher
-unfoldable pub group_code : Group → ℕ
-group_code group = sip.finish (fold sip.write sip.initial (group_hash group))
+abbrev pub group_code : Group → ℕ
+group_code group = code_of_parts group.dims group.concept group.period
 
 -- the rank of its kind, the code of its group, the group, an identifier or nothing, and the number of the last touch
 pub record Stamp : Type 0 where
@@ -70,7 +69,7 @@ abbrev pub group_of : StampKind → Dims → Group
 group_of kind.Identifier dims = no_group
 group_of kind.Cell dims = record no_group { dims = Some dims }
 group_of kind.AnyPeriod dims = record no_group { concept = concept_of dims }
-group_of kind.OnePeriod dims = record no_group { concept = concept_of dims; period = period_of dims }
+group_of kind.OnePeriod dims = record no_group { concept = concept_of dims; period = Some (period_of dims) }
 
 -- a cell has one stamp for all its identifiers
 abbrev pub id_of : StampKind → Text → Text
@@ -144,10 +143,10 @@ asked_kind Any = kind.AnyPeriod
 asked_kind Without = kind.OnePeriod
 asked_kind (Exactly text) = kind.OnePeriod
 
-abbrev pub asked_period : Asked → Option Text
+abbrev pub asked_period : Asked → Option (Option Text)
 asked_period Any = None
-asked_period Without = None
-asked_period (Exactly text) = Some text
+asked_period Without = Some None
+asked_period (Exactly text) = Some (Some text)
 
 -- those of a part
 abbrev pub part_among : Part → Among

@@ -5,7 +5,7 @@ use Rattle.filing_model.specs.Calls as call
 use Rattle.filing_model.specs.Calls.{Asked as PlainAsked}
 use Rattle.filing_model.specs.Duplicates.{has_dims}
 use Rattle.filing_model.specs.Queries.{answers_query}
-use Rattle.filing_index.specs.Codes.{code_of_dims, code_of_query, cell_code, query_code}
+use Rattle.filing_pages.specs.Codes.{code_of_dims, code_of_query, cell_code, query_code}
 use Rattle.filing_index.specs.declared.wanted.Asked.{Asked}
 use Rattle.filing_index.specs.declared.wanted.Asked.TheVariants as asked
 use Rattle.filing_index.specs.declared.wanted.Wanted.{Wanted}

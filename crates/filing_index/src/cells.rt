@@ -9,7 +9,7 @@ ghost use Rattle.filing_model.specs.TextMap.{TextMap};
 ghost use Rattle.filing_model.specs.Facts.{Fact as PlainFact};
 ghost use Rattle.filing_model.specs.Duplicates.{class_of, facts_of, is_disallowed, lesser_dims, least_disallowed};
 ghost use Rattle.filing_model.specs.Queries.{cell_facts};
-ghost use Rattle.filing_index.specs.Codes.{cell_code};
+ghost use Rattle.filing_pages.specs.Codes.{cell_code};
 ghost use Rattle.filing_index.specs.Index.{coded_cmp, IsIndex};
 ghost use Rattle.filing_index.specs.Cells.{shares_code, crowded, are_these, facts_given, least_among_facts};
 

@@ -31,7 +31,7 @@ impl Coded {
     pub fn of(order: Order, held: &Named<Held>) -> Result<Coded, AllocError>
         ensures { IfOk result (λ c. c ≡ ((code_in order held.now.1, held.now.0), held.now.1)) }
     {
-        let code = order.code(held.value().fact());
+        let code = order.code(held.value());
         let held = held.share()?;
         Ok(Coded { code, held })
     }

@@ -101,7 +101,7 @@ fn next_wanted<'a>(entries: &mut Range<'a, Coded>, wanted: Wanted<'_>) -> Option
 {
     while let Some(entry) = entries.next() {
         let held = entry.held();
-        if wanted.is_met(held.value().fact()) {
+        if wanted.is_met(held.value()) {
             return Some(held);
         }
     }

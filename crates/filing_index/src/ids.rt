@@ -4,7 +4,7 @@ ghost use Rattle.std.specs.Iterator.{YieldsFirstRef, item_count};
 ghost use Rattle.filing_model.specs.Facts.{Fact as PlainFact};
 ghost use Rattle.filing_model.specs.TextMap.{TextMap};
 ghost use Rattle.filing_model.specs.Queries.{cell_ids, ids_for};
-ghost use Rattle.filing_index.specs.Codes.{cell_code, query_code};
+ghost use Rattle.filing_pages.specs.Codes.{cell_code, query_code};
 ghost use Rattle.filing_index.specs.Index.{IsIndex};
 ghost use Rattle.filing_index.specs.Wanted.{asked_of};
 

@@ -19,10 +19,8 @@ mod stamp_spans;
 mod stamps;
 mod wanted;
 
-pub use coded::Coded;
 pub use facts::Facts;
 pub use ids::Ids;
 pub use moves::Move;
-pub use order::{Order, code_of_concept, code_of_dims, code_of_period};
 pub use stamps::Stamps;
 pub use wanted::Asked;

@@ -8,12 +8,11 @@ ghost use Rattle.filing_model.specs.Dimensions.{dims_cmp};
 ghost use Rattle.filing_index.specs.Stamps.{no_group, rank_of, group_of, id_of, group_cmp, group_code, coded_stamp, stamp_cmp};
 ghost use Rattle.filing_index.specs.StampOrders.{stamp_cmp-total};
 
-use filing_pages::{Held, Named};
-use oim_fact::{DimSet, Fact};
+use filing_pages::{Held, Named, code_of_concept, code_of_dims, code_of_period};
+use oim_fact::DimSet;
 use sorted_pages::{Entry, Peaked};
 use std::alloc::AllocError;
 use std::cmp::Ordering;
-use std::hash::{DefaultHasher, Hash, Hasher};
 use std::marker::Model;
 
 /// What a stamp stands for.
@@ -37,15 +36,27 @@ impl StampKind {
         self as u8
     }
 
-    /// What a stamp of this kind looks at in dimensions.
-    pub(crate) fn group(self, dims: &DimSet) -> Group<'_>
-        ensures { result ≡ group_of self dims.now }
+    /// What a stamp of this kind looks at in a fact.
+    pub(crate) fn group(self, held: &Held) -> Group<'_>
+        ensures { result ≡ group_of self held.now.dims }
     {
         match self {
             StampKind::Identifier => Group::none(),
-            StampKind::Cell => Group::of_cell(dims),
-            StampKind::AnyPeriod => Group::of_page(dims.concept(), None),
-            StampKind::OnePeriod => Group::of_page(dims.concept(), dims.period()),
+            StampKind::Cell => Group::of_cell(&held.fact().dims),
+            StampKind::AnyPeriod => Group::of_concept(held.concept()),
+            StampKind::OnePeriod => Group::of_period(held.concept(), held.period()),
+        }
+    }
+
+    /// The code of that.
+    fn code(self, held: &Held) -> u64
+        ensures { result ≡ group_code (group_of self held.now.dims) }
+    {
+        match self {
+            StampKind::Identifier => 0,
+            StampKind::Cell => held.cell_code(),
+            StampKind::AnyPeriod => held.concept_code(),
+            StampKind::OnePeriod => held.period_code(),
         }
     }
 }
@@ -64,12 +75,19 @@ fn order_dims(one: Option<&DimSet>, other: Option<&DimSet>) -> Ordering
     one.cmp(&other)
 }
 
-/// What a stamp looks at in the dimensions of a fact. Contracts see the parts.
+/// How periods stand to each other that are none, and that may not be looked at.
+fn order_periods(one: Option<Option<&str>>, other: Option<Option<&str>>) -> Ordering
+    ensures { result ≡ option_cmp (option_cmp text_cmp) (option_map (option_map (λ t. t.now)) one.entry) (option_map (option_map (λ t. t.now)) other.entry) }
+{
+    one.cmp(&other)
+}
+
+/// What a stamp looks at in the dimensions of a fact: all of them, or a concept, with a period or none or without. Contracts see the parts.
 #[derive(Drop)]
 pub(crate) struct Group<'a> {
     dims: Option<&'a DimSet>,
     concept: Option<&'a str>,
-    period: Option<&'a str>,
+    period: Option<Option<&'a str>>,
 }
 
 impl<'a> Model for Group<'a> {
@@ -82,7 +100,7 @@ impl<'a> Model for Group<'a> {
         record {
           dims = option_copied g.dims;
           concept = option_map (λ t. t.now) g.concept;
-          period = option_map (λ t. t.now) g.period;
+          period = option_map (option_map (λ t. t.now)) g.period;
         } };
 }
 
@@ -107,13 +125,24 @@ impl<'a> Group<'a> {
         }
     }
 
-    pub(crate) fn of_page(concept: &'a str, period: Option<&'a str>) -> Group<'a>
-        ensures { result ≡ record no_group { concept = Some concept.now; period = option_map (λ t. t.now) period.entry } }
+    pub(crate) fn of_concept(concept: &'a str) -> Group<'a>
+        ensures { result ≡ record no_group { concept = Some concept.now } }
     {
         Group {
             dims: None,
             concept: Some(concept),
-            period,
+            period: None,
+        }
+    }
+
+    pub(crate) fn of_period(concept: &'a str, period: Option<&'a str>) -> Group<'a>
+        ensures { result
+            ≡ record no_group { concept = Some concept.now; period = Some (option_map (λ t. t.now) period.entry) } }
+    {
+        Group {
+            dims: None,
+            concept: Some(concept),
+            period: Some(period),
         }
     }
 
@@ -122,28 +151,20 @@ impl<'a> Group<'a> {
     {
         order_dims(self.dims, other.dims)
             .then(order_texts(self.concept, other.concept))
-            .then(order_texts(self.period, other.period))
+            .then(order_periods(self.period, other.period))
     }
 
-    /// Its hash.
-    #[tactic(auto, unfolding(crate::specs::Stamps::group_code))]
+    /// The code of what is looked at.
     pub(crate) fn code(&self) -> u64
         ensures { result ≡ group_code self.now }
     {
-        let mut state = DefaultHasher::new();
-        self.dims.hash(&mut state);
-        self.concept.hash(&mut state);
-        self.period.hash(&mut state);
-        state.finish()
+        match (self.dims, self.concept, self.period) {
+            (Some(dims), _, _) => code_of_dims(dims),
+            (None, Some(concept), None) => code_of_concept(concept),
+            (None, Some(concept), Some(period)) => code_of_period(concept, period),
+            (None, None, _) => 0,
+        }
     }
-}
-
-/// The dimensions of a fact that is held.
-fn dims_of(held: &Named<Held>) -> &DimSet
-    ensures { result.now ≡ held.now.1.dims }
-{
-    let fact: &Fact = held.value().fact();
-    &fact.dims
 }
 
 /// The number of the last touch of what a fact stands in.
@@ -170,7 +191,7 @@ impl Stamp {
     pub(crate) fn of(kind: StampKind, held: &Named<Held>, number: u64) -> Result<Stamp, AllocError>
         ensures { IfOk result (λ s. s ≡ coded_stamp kind number held.now) }
     {
-        let code = kind.group(dims_of(held)).code();
+        let code = kind.code(held.value());
         let held = held.share()?;
         Ok(Stamp {
             kind,
@@ -195,7 +216,7 @@ impl Stamp {
     pub(crate) fn group(&self) -> Group<'_>
         ensures { result ≡ self.now.group }
     {
-        self.kind.group(dims_of(&self.held))
+        self.kind.group(self.held.value())
     }
 
     /// The identifier, or nothing where the stamp is for all of a cell.

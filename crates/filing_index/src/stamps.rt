@@ -151,12 +151,14 @@ impl Stamps {
             (record { concept = concept.now; period = asked_of period.entry; after = option_map (λ t. t.now) after.entry })
             (option_map (λ t. t.now) upto.entry)) }
     {
-        let (kind, period) = match period {
-            Asked::Any => (StampKind::AnyPeriod, None),
-            Asked::Without => (StampKind::OnePeriod, None),
-            Asked::Text(period) => (StampKind::OnePeriod, Some(period)),
+        let (kind, group) = match period {
+            Asked::Any => (StampKind::AnyPeriod, Group::of_concept(concept)),
+            Asked::Without => (StampKind::OnePeriod, Group::of_period(concept, None)),
+            Asked::Text(period) => (
+                StampKind::OnePeriod,
+                Group::of_period(concept, Some(period)),
+            ),
         };
-        let group = Group::of_page(concept, period);
         self.greatest(&Among::of(kind, group, IdRange::Between(after, upto)))
     }
 

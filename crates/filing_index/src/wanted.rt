@@ -2,13 +2,14 @@
 ghost use Rattle.std.specs.Prelude.{◌≡◌, option_map};
 ghost use Rattle.filing_model.specs.Queries.{is_asked};
 ghost use Rattle.filing_model.specs.Facts.{Fact as PlainFact};
-ghost use Rattle.filing_index.specs.Codes.{query_code};
+ghost use Rattle.filing_pages.specs.Codes.{query_code};
 ghost use Rattle.filing_index.specs.Orders.{code_in};
 ghost use Rattle.filing_index.specs.Wanted.{asked_of, is_wanted, code_of};
 
-use crate::order::{Order, code_of_concept, code_of_dims, code_of_period};
+use crate::order::Order;
 use filing_model::is_same_text;
-use oim_fact::{DimSet, Fact};
+use filing_pages::{Held, code_of_concept, code_of_dims, code_of_period};
+use oim_fact::DimSet;
 
 /// The period that is asked for.
 #[derive(Clone, Copy, Debug, PartialEq, Eq)]
@@ -55,13 +56,13 @@ pub(crate) enum Wanted<'a> {
 
 impl<'a> Wanted<'a> {
     /// Whether a fact is one that is looked for.
-    pub(crate) fn is_met(self, fact: &Fact) -> bool
-        ensures { result ≡ is_wanted self.entry fact.now }
+    pub(crate) fn is_met(self, held: &Held) -> bool
+        ensures { result ≡ is_wanted self.entry held.now }
     {
         match self {
-            Wanted::Cell(dims) => *dims == fact.dims,
+            Wanted::Cell(dims) => *dims == held.fact().dims,
             Wanted::Query { concept, period } => {
-                is_same_text(concept, fact.dims.concept()) && period.is_met(fact.dims.period())
+                is_same_text(concept, held.concept()) && period.is_met(held.period())
             }
         }
     }

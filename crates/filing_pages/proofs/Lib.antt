@@ -1,2 +1,3 @@
 pub mod NamedLists
 pub mod MapsOfChanges
+pub mod KeptTexts

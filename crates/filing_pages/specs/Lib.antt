@@ -1,2 +1,5 @@
 pub mod MapChanges
 pub mod Spans
+-- ---- facts as indexes hold them
+pub mod Codes
+pub mod Keys

@@ -33,6 +33,16 @@ pub(crate) fn fact_of(put: &Option<Held>) -> Option<&Arc<Fact>>
     put.as_ref().map(Held::fact)
 }
 
+/// A fact that is put, or none.
+fn held_of(alloc: Global, fact: Option<Arc<Fact>>) -> Result<Option<Held>, AllocError>
+    ensures { IfOk result (λ put. put ≡ option_map arc_value fact) }
+{
+    match fact {
+        None => Ok(None),
+        Some(fact) => Ok(Some(Held::of(alloc, fact)?)),
+    }
+}
+
 impl ChangedReport {
     /// Nothing. It takes no memory.
     pub(crate) fn new(alloc: Global) -> ChangedReport
@@ -66,7 +76,8 @@ impl ChangedReport {
         ensures { IfOk result (λ r. r ≡
             record self.now { facts = insert self.now.facts (string_bytes id) (option_map arc_value fact) }) }
     {
-        let facts = self.facts.with(alloc, id, fact.map(Held::of))?;
+        let put = held_of(alloc, fact)?;
+        let facts = self.facts.with(alloc, id, put)?;
         Ok(ChangedReport {
             declared: self.declared,
             facts,

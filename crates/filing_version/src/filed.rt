@@ -15,7 +15,7 @@ ghost use Rattle.filing_version.specs.Filed.{filed_of, newly_filed, changed_file
 
 use crate::changed_report::ChangedReport;
 use filing_index::{Facts, Stamps};
-use filing_pages::{Held, Named, TextPages};
+use filing_pages::{Held, Keyring, Named, TextPages};
 use oim_fact::{Allowed, DimSet, Fact, Names};
 use oim_report::{Report, ReportParts};
 use std::alloc::{AllocError, Global};
@@ -54,9 +54,11 @@ fn held_facts(
 ) -> Result<Vec<Named<Held>>, AllocError>
     ensures { IfOk result (λ v. v.items ≡ facts_view facts.items) }
 {
+    let mut keyring = Keyring::new(alloc);
     let mut held = Vec::with_capacity(alloc, facts.len())?;
     while let Some((id, fact)) = facts.pop() {
-        held.push(Named::new(alloc, id, Held::of(fact))?)?;
+        let fact = Held::among(alloc, &mut keyring, fact)?;
+        held.push(Named::new(alloc, id, fact)?)?;
     }
     held.as_mut_slice().reverse();
     Ok(held)

@@ -1,7 +1,7 @@
 use Rattle.std.proofs.Common.{option_map}
 use Rattle.filing_model.specs.TextMap.{TextMap}
 use Rattle.filing_model.specs.Facts.{Fact}
-use Rattle.filing_index.specs.Codes.{cell_code}
+use Rattle.filing_pages.specs.Codes.{cell_code}
 use Rattle.filing_index.specs.Index.{IsIndex}
 use Rattle.filing_index.specs.Cells.{facts_given}
 use Rattle.filing_index.proofs.CrowdedCells.{IsLeastSoFar}

@@ -7,7 +7,7 @@ use Rattle.filing_pages.specs.MapChanges.{map_with_changes}
 use Rattle.filing_model.specs.Text.{Text, text_cmp}
 use Rattle.filing_model.specs.TextMap.{TextMap}
 use Rattle.filing_model.specs.Facts.{Fact}
-use Rattle.filing_index.specs.Codes.{cell_code, period_code, concept_code}
+use Rattle.filing_pages.specs.Codes.{cell_code, period_code, concept_code}
 use Rattle.filing_index.specs.Index.{IsIndex}
 use Rattle.filing_index.specs.Moves.{with_changes}
 use Rattle.filing_index.specs.Moved.{id_changes, moves_in}
