@@ -71,6 +71,10 @@ impl Entry for Coded {
             .then_with(|| self.held.name().cmp(other.held.name()))
     }
 
+    fn owners(&self) -> usize {
+        self.held.owners()
+    }
+
     fn share(&self) -> Result<Coded, AllocError> {
         let held = self.held.share()?;
         Ok(Coded {

@@ -298,6 +298,10 @@ impl Entry for Stamp {
         self.cmp(other)
     }
 
+    fn owners(&self) -> usize {
+        self.held.owners()
+    }
+
     fn share(&self) -> Result<Stamp, AllocError> {
         let held = self.held.share()?;
         Ok(Stamp {

@@ -97,6 +97,10 @@ impl<V: Drop> Entry for Named<V> {
         self.name().cmp(other.name())
     }
 
+    fn owners(&self) -> usize {
+        Arc::strong_count(&self.pair)
+    }
+
     fn share(&self) -> Result<Named<V>, AllocError> {
         let pair = Arc::try_clone(&self.pair)?;
         Ok(Named { pair })

@@ -64,6 +64,10 @@ impl Entry for Named {
         self.held.name.as_slice().cmp(other.held.name.as_slice())
     }
 
+    fn owners(&self) -> usize {
+        Arc::strong_count(&self.held)
+    }
+
     fn share(&self) -> Result<Named, AllocError> {
         let held = Arc::try_clone(&self.held)?;
         Ok(Named { held })

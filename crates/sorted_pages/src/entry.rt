@@ -23,6 +23,9 @@ pub trait Entry: Peaked + Drop {
     fn order(&self, other: &Self) -> Ordering
         ensures { result ≡ order self.now other.now };
 
+    /// How many pages hold what it shares. The number decides nothing: it is read of many entries before they are shared, so that the processor fetches them side by side.
+    fn owners(&self) -> usize;
+
     /// The same entry for one more page. It is to take no memory of its own, as an `Arc` does.
     fn share(&self) -> Result<Self, AllocError>
         ensures { IfOk result (λ e. e ≡ self.now) };

@@ -37,13 +37,25 @@ pub(crate) trait Changing<E: Entry>: Level<E> {
             ≡ U.all grown ++ with_changes E.order changes.now (flat_map Self.entries items.now)) };
 }
 
-/// Appends the same items.
+/// The most owners that one of these items has.
+fn most_owners<E: Entry, T: Level<E>>(items: &[T]) -> usize {
+    let mut most = 0usize;
+    for item in items {
+        most = most.max(item.owners());
+    }
+    most
+}
+
+/// Appends the same items. All are read before the first is written: what is shared lies far apart, and reads overlap where counting up does not.
 fn share_all<E: Entry, T: Level<E>, U: Growing<E, T>>(
     items: &[T],
     grown: &mut U,
 ) -> Result<(), AllocError>
     ensures { OnOk result (U.all grown.new ≡ U.all grown.old ++ flat_map T.entries items.now) }
 {
+    if most_owners(items) == usize::MAX {
+        return Err(AllocError);
+    }
     for item in items {
         grown.put(item.share()?)?;
     }

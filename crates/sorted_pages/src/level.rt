@@ -23,6 +23,9 @@ pub(crate) trait Level<E: Entry>: Peaked + Drop {
     fn last(&self) -> &E
         ensures { IsLast result.now (entries self.now) };
 
+    /// How many blocks hold what it shares.
+    fn owners(&self) -> usize;
+
     /// The same for one more block.
     fn share(&self) -> Result<Self, AllocError>
         ensures { IfOk result (λ item. entries item ≡ entries self.now) };
@@ -77,6 +80,10 @@ impl<E: Entry> Level<E> for Leaf<E> {
         &self.entry
     }
 
+    fn owners(&self) -> usize {
+        self.entry.owners()
+    }
+
     fn share(&self) -> Result<Leaf<E>, AllocError> {
         let entry = self.entry.share()?;
         Ok(Leaf { entry })
@@ -98,6 +105,10 @@ impl<E: Entry, T: Level<E>> Level<E> for Arc<Block<T>> {
     fn last(&self) -> &E {
         let block: &Block<T> = self;
         block.last().last()
+    }
+
+    fn owners(&self) -> usize {
+        Arc::strong_count(self)
     }
 
     fn share(&self) -> Result<Arc<Block<T>>, AllocError> {

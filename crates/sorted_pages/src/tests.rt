@@ -30,6 +30,10 @@ impl Entry for Item {
         self.key.cmp(&other.key)
     }
 
+    fn owners(&self) -> usize {
+        1
+    }
+
     fn share(&self) -> Result<Item, AllocError> {
         Ok(*self)
     }
