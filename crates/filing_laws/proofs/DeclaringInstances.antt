@@ -1,19 +1,18 @@
 -- The laws on what a session reads, on updates and on stamps, at worked histories of ranges and declared values: each premise is met there, and what the law says of them computes.
-use Rattle.std.proofs.Common.{◌≡◌, ◌∙◌, sym, refl, List, [], ◌∷◌, Option, Some, None, take, true}
+use Rattle.std.proofs.Common.{◌≡◌, ◌∙◌, sym, refl, [], ◌∷◌, Some, None, take}
 use Rattle.std.specs.Prelude.{codes}
 use Rattle.filing_model.specs.TextMap.{empty, insert}
-use Rattle.filing_model.specs.Repository.{Repository, nothing}
+use Rattle.filing_model.specs.Repository.{nothing}
 use Rattle.filing_model.specs.Calls.{Without}
-use Rattle.filing_model.specs.Replies.{Reply, Committed}
-use Rattle.filing_model.specs.Things.{Thing, Range, Policy}
-use Rattle.filing_model.specs.Sessions.{repository_obeys}
+use Rattle.filing_model.specs.Replies.{Committed}
+use Rattle.filing_model.specs.Things.{Range, Policy}
 use Rattle.filing_model.specs.History.{Commit, Entry, History, Live, status_of, calls_of, base_of, repository}
 use Rattle.filing_model.specs.Touches.{things_read, last_touch}
 use Rattle.filing_model.specs.declared.kind.Kind.TheVariants.{Amend}
 use Rattle.filing_model.specs.declared.duplicates.Allowed.TheVariants as allowed
 use Rattle.filing_model.proofs.Examples.Setting.{played, sought}
 use Rattle.filing_model.proofs.Examples.Histories.{r1}
-use Rattle.filing_model.proofs.Examples.Ranges.{four, behind_the_cut_lines}
+use Rattle.filing_model.proofs.Examples.Ranges.{behind_the_cut_lines}
 use Rattle.filing_model.proofs.Examples.DeclaringSessions.{declared_value_lines, last_value_lines}
 use Rattle.filing_model.proofs.Examples.Histories.{blank}
 use Rattle.filing_laws.specs.Numbers.{greatest_touch}

@@ -52,3 +52,5 @@ pub mod WholeRunInstances
 pub mod NetChangeInstances
 pub mod DeclaringInstances
 pub mod ReadingOrderInstances
+pub mod StampedVersions
+pub mod StampedVersionInstances

@@ -158,6 +158,12 @@ module _ (h : History) (s : ℕ) (amendment : IsUntouchedAmendment h s) where
   staged = subst (λ rs. Each (λ (p : Text × Text). Agree (thing.Id p.0 p.1) opening now) (staged_places calls rs)) (sym (own_replies h s Amend amendment.lawful amendment.live))
       (staged_were_read (λ t. Agree t opening now) Amend calls opening agree)
 
+  pub staged_agrees : (m q : Text) → list_any (is_place m q) places ≡ true → Agree (thing.Id m q) opening now
+  staged_agrees m q placed = each_placed (λ p. Agree (thing.Id p.0 p.1) opening now) m q places staged placed
+
+  pub staged_ends : (m q : Text) → list_any (is_place m q) places ≡ true → fact_at copy m q ≡ fact_at (copy_now h s) m q
+  staged_ends m q placed = agree_fact m q copy (copy_now h s) (run.kept (thing.Id m q) (staged_agrees m q placed))
+
   staged_fact : (m q : Text) → Agree (thing.Id m q) opening now → (b : Bool) → is_kept opening copy m q ≡ b
       → unwrap_or (cond b (Some (fact_at copy m q)) None) (fact_at now m q) ≡ fact_at (solo_copy Amend now calls) m q
   staged_fact m q same true kept = agree_fact m q copy (solo_copy Amend now calls) (run.kept (thing.Id m q) same)
@@ -177,7 +183,7 @@ module _ (h : History) (s : ℕ) (amendment : IsUntouchedAmendment h s) where
       by : (b : Bool) → list_any (is_place m q) places ≡ b
           → unwrap_or (cond (b && is_kept opening copy m q) (Some (fact_at copy m q)) None) (fact_at now m q) ≡ fact_at (solo_copy Amend now calls) m q
       by false never = sym (run_leaves_facts Amend calls now m q (subst (λ rs. IsNever (is_place m q) (staged_places calls rs)) told_now never))
-      by true placed = staged_fact m q (each_placed (λ p. Agree (thing.Id p.0 p.1) opening now) m q places staged placed) (is_kept opening copy m q) refl
+      by true placed = staged_fact m q (staged_agrees m q placed) (is_kept opening copy m q) refl
 
   -- the copy declares the last value that was staged
   value_of_copy : (m : Text) → declared_in net m ≡ last_value m (staged_values calls (solo_replies Amend now calls))

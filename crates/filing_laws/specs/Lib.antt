@@ -10,3 +10,4 @@ pub mod NetChange
 pub mod Updates
 pub mod SameReplies
 pub mod ReadingOrder
+pub mod StampedVersions

@@ -11,6 +11,7 @@
 //! - `versions`: each version of a lawful history obeys, and the versions are a chain.
 //! - `whole_runs`: a committed session ran whole at its commit, every other replied as at its opening, and nothing else changed the repository.
 //! - `net_change`: the net change of an untouched amendment makes its copy, and its new facts and declared values alone decide whether it is refused.
+//! - `stamped_versions`: the stamps that a version carries are the numbers of last touches, whatever entries made it, and tell each conflict.
 //! - `updates`: the repository is the empty one with each accepted load and each committed net change laid over it.
 //! - `reading_order`: a history may be read from its first entry on, and the entry at which it departs is determined.
 #![tactic(auto)]
@@ -22,6 +23,7 @@ mod numbers;
 mod obeying;
 mod played;
 mod reading_order;
+mod stamped_versions;
 mod untouched;
 mod updates;
 mod versions;
@@ -48,6 +50,9 @@ pub use played::played_histories_are_the_lawful_ones;
 pub use reading_order::{
     each_departure_is_determined, each_next_entry_is_decided, each_repository_is_read_in_order,
     lawful_in_order_is_lawful,
+};
+pub use stamped_versions::{
+    each_conflict_is_stamped, each_entry_makes_its_version, each_staged_change_makes_the_copy,
 };
 pub use untouched::{
     each_session_replies_as_at_its_opening, each_untouched_session_reads_as_now,
