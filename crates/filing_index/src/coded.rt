@@ -68,7 +68,7 @@ impl Entry for Coded {
     fn order(&self, other: &Self) -> Ordering {
         self.code
             .cmp(&other.code)
-            .then_with(|| self.held.name().cmp(other.held.name()))
+            .then_with(|| self.held.order(&other.held))
     }
 
     fn owners(&self) -> usize {

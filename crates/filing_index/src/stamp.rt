@@ -229,12 +229,22 @@ impl Stamp {
         }
     }
 
+    /// How its identifier stands to that of another stamp.
+    fn order_ids(&self, other: &Stamp) -> Ordering
+        ensures { result ≡ text_cmp self.now.id other.now.id }
+    {
+        match (self.kind, other.kind) {
+            (StampKind::Cell, _) | (_, StampKind::Cell) => self.id().cmp(other.id()),
+            _ => self.held.order(&other.held),
+        }
+    }
+
     /// How it stands to another stamp with the same rank and code.
     fn order_alike(&self, other: &Stamp) -> Ordering
         ensures { result ≡ ordering_then (group_cmp self.now.group other.now.group) (text_cmp self.now.id other.now.id) }
     {
         match self.group().order(&other.group()) {
-            Ordering::Equal => self.id().cmp(other.id()),
+            Ordering::Equal => self.order_ids(other),
             order => order,
         }
     }

@@ -1,5 +1,5 @@
 -- Keys whose texts are those of dimensions are theirs.
-use Rattle.std.proofs.Common.{◌≡◌, ◌∙◌, ap, sym, refl, true, false, Option, Some, None, true≢false}
+use Rattle.std.proofs.Common.{◌≡◌, ap, sym, refl, true, Option, Some, None, true≢false}
 use Rattle.std.specs.Option.{option_eq}
 use Rattle.filing_model.specs.Text.{Text, text_eq}
 use Rattle.filing_model.proofs.Texts.{text_same}

@@ -1,3 +1,4 @@
 pub mod NamedLists
 pub mod MapsOfChanges
 pub mod KeptTexts
+pub mod ComparedHeads

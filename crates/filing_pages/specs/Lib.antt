@@ -3,3 +3,4 @@ pub mod Spans
 -- ---- facts as indexes hold them
 pub mod Codes
 pub mod Keys
+pub mod Heads

@@ -1,5 +1,7 @@
 //! A value under a name.
-ghost use Rattle.std.specs.Prelude.{◌≡◌, string_bytes, IfOk};
+ghost use Rattle.std.specs.Prelude.{◌≡◌, get_or, string_bytes, IfOk};
+ghost use Rattle.filing_model.specs.Text.{text_cmp};
+ghost use Rattle.filing_pages.specs.Heads.{head_of};
 
 use sorted_pages::{Entry, Peaked};
 use std::alloc::{AllocError, Global};
@@ -7,23 +9,97 @@ use std::cmp::Ordering;
 use std::marker::Model;
 use std::sync::Arc;
 
-/// A name and a value.
+/// How many bytes of a name stand beside it.
+const HEAD: usize = 16;
+
+/// The byte at a place, or 0 behind the last.
+fn byte_at(bytes: &[u8], place: usize) -> u8
+    ensures { result ≡ get_or bytes.now place 0 }
+{
+    bytes.get(place).copied().unwrap_or(0)
+}
+
+/// The first bytes of a name, and 0 behind the last.
+fn head_of(name: &str) -> [u8; HEAD]
+    ensures { result ≡ head_of name.now }
+{
+    let bytes = name.as_bytes();
+    [
+        byte_at(bytes, 0),
+        byte_at(bytes, 1),
+        byte_at(bytes, 2),
+        byte_at(bytes, 3),
+        byte_at(bytes, 4),
+        byte_at(bytes, 5),
+        byte_at(bytes, 6),
+        byte_at(bytes, 7),
+        byte_at(bytes, 8),
+        byte_at(bytes, 9),
+        byte_at(bytes, 10),
+        byte_at(bytes, 11),
+        byte_at(bytes, 12),
+        byte_at(bytes, 13),
+        byte_at(bytes, 14),
+        byte_at(bytes, 15),
+    ]
+}
+
+/// A name that is looked for, with its head. Contracts see the name.
+#[derive(Drop)]
+pub(crate) struct Sought<'a> {
+    head: [u8; HEAD],
+    name: &'a str,
+}
+
+impl<'a> Model for Sought<'a> {
+    ghost use Rattle.std.specs.Prelude.{◌≡◌};
+    ghost use Rattle.filing_model.specs.Text.{Text};
+    ghost use Rattle.filing_pages.specs.Heads.{head_of};
+
+    ghost Value = { Text };
+
+    ghost view = { λ s. s.name.now };
+
+    ghost invariant = { λ s. s.head ≡ head_of s.name.now };
+}
+
+impl<'a> Sought<'a> {
+    pub(crate) fn of(name: &'a str) -> Sought<'a>
+        ensures { result ≡ name.now }
+    {
+        let head = head_of(name);
+        Sought { head, name }
+    }
+}
+
+/// A name and a value. The head of the name stands in place, so that most comparisons follow no pointer from here.
 #[derive(Drop)]
 struct Pair<V: Drop> {
+    head: [u8; HEAD],
     name: String,
     value: V,
 }
 
 impl<V: Drop> Model for Pair<V> {
-    ghost use Rattle.std.specs.Prelude.{string_bytes};
+    ghost use Rattle.std.specs.Prelude.{◌≡◌, string_bytes};
     ghost use Rattle.filing_model.specs.Text.{Text};
+    ghost use Rattle.filing_pages.specs.Heads.{head_of};
 
     ghost Value = { Text × V };
 
     ghost view = { λ p. (string_bytes p.name, p.value) };
+
+    ghost invariant = { λ p. p.head ≡ head_of (string_bytes p.name) };
 }
 
 impl<V: Drop> Pair<V> {
+    fn of(name: String, value: V) -> Pair<V>
+        ensures { result ≡ (string_bytes name, value) }
+    {
+        let head = head_of(&name);
+        Pair { head, name, value }
+    }
+
     fn name(&self) -> &str
         ensures { result.now ≡ self.now.0 }
     {
@@ -34,6 +110,28 @@ impl<V: Drop> Pair<V> {
         ensures { result.now ≡ self.now.1 }
     {
         &self.value
+    }
+
+    /// How the name stands to another one.
+    fn order(&self, other: &Pair<V>) -> Ordering
+        ensures { result ≡ text_cmp self.now.0 other.now.0 }
+    {
+        match self.head.as_slice().cmp(other.head.as_slice()) {
+            Ordering::Less => Ordering::Less,
+            Ordering::Equal => self.name().cmp(other.name()),
+            Ordering::Greater => Ordering::Greater,
+        }
+    }
+
+    /// How the name stands to one that is looked for.
+    fn order_sought(&self, sought: &Sought<'_>) -> Ordering
+        ensures { result ≡ text_cmp self.now.0 sought.now }
+    {
+        match self.head.as_slice().cmp(sought.head.as_slice()) {
+            Ordering::Less => Ordering::Less,
+            Ordering::Equal => self.name().cmp(sought.name),
+            Ordering::Greater => Ordering::Greater,
+        }
     }
 }
 
@@ -58,7 +156,7 @@ impl<V: Drop> Named<V> {
     pub fn new(alloc: Global, name: String, value: V) -> Result<Named<V>, AllocError>
         ensures { IfOk result (λ n. n ≡ (string_bytes name, value)) }
     {
-        let pair = Arc::new(alloc, Pair { name, value })?;
+        let pair = Arc::new(alloc, Pair::of(name, value))?;
         Ok(Named { pair })
     }
 
@@ -72,6 +170,13 @@ impl<V: Drop> Named<V> {
         ensures { result.now ≡ self.now.1 }
     {
         self.pair.value()
+    }
+
+    /// How the name stands to one that is looked for.
+    pub(crate) fn order_sought(&self, sought: &Sought<'_>) -> Ordering
+        ensures { result ≡ text_cmp self.now.0 sought.now }
+    {
+        self.pair.order_sought(sought)
     }
 }
 
@@ -94,7 +199,7 @@ impl<V: Drop> Entry for Named<V> {
     ghost is_total = { on_total (λ n. n.0) nat_list_cmp_total };
 
     fn order(&self, other: &Self) -> Ordering {
-        self.name().cmp(other.name())
+        self.pair.order(&other.pair)
     }
 
     fn owners(&self) -> usize {

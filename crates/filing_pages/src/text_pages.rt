@@ -6,7 +6,7 @@ ghost use Rattle.filing_model.specs.Text.{text_cmp};
 ghost use Rattle.filing_model.specs.TextMap.{empty, get, insert};
 ghost use Rattle.filing_pages.specs.MapChanges.{map_with_changes};
 
-use crate::named::Named;
+use crate::named::{Named, Sought};
 use sorted_pages::{Change, Paged, Range, Span};
 use std::alloc::{AllocError, Global};
 use std::cmp::Ordering;
@@ -35,18 +35,18 @@ impl<V: Drop> Model for TextPages<V> {
 
 /// The range of one name.
 #[derive(Drop)]
-struct At<'a>(&'a str);
+struct At<'a>(Sought<'a>);
 
 impl<'a, V: Drop> Span<Named<V>> for At<'a> {
     ghost use Rattle.filing_model.specs.Text.{text_cmp};
     ghost use Rattle.filing_pages.specs.Spans.{name_is_monotone};
 
-    ghost side = { λ a n. text_cmp n.0 a.0.now };
+    ghost side = { λ a n. text_cmp n.0 a.0 };
 
-    ghost is_monotone = { λ a. name_is_monotone a.0.now };
+    ghost is_monotone = { λ a. name_is_monotone a.0 };
 
     fn side(&self, entry: &Named<V>) -> Ordering {
-        entry.name().cmp(self.0)
+        entry.order_sought(&self.0)
     }
 }
 
@@ -90,7 +90,7 @@ impl<V: Drop> TextPages<V> {
     pub fn get_named(&self, name: &str) -> Option<&Named<V>>
         ensures { option_copied result ≡ option_map (λ v. (name.now, v)) (get self.now name.now) }
     {
-        self.pages.first_in(&At(name))
+        self.pages.first_in(&At(Sought::of(name)))
     }
 
     /// The value of a name. It takes no memory.

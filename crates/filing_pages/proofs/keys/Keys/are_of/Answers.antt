@@ -1,4 +1,4 @@
-use Rattle.std.proofs.Common.{◌≡◌, ◌∙◌, ap, sym, Some}
+use Rattle.std.proofs.Common.{◌∙◌, ap, sym, Some}
 use Rattle.filing_model.proofs.Texts.{text_same}
 use Rattle.filing_pages.proofs.KeptTexts.{same_texts}
 use Rattle.filing_pages.proofs.keys.Keys.are_of.Goals as goal
