@@ -9,8 +9,6 @@ mod codes;
 mod held;
 mod keys;
 mod named;
-#[cfg(test)]
-mod tests;
 mod text_pages;
 
 pub use codes::{code_of_concept, code_of_dims, code_of_period};

@@ -21,8 +21,6 @@ mod paged;
 mod range;
 mod rising;
 mod spans;
-#[cfg(test)]
-mod tests;
 
 pub use change::Change;
 pub use entry::{Entry, Peaked, Span};
