@@ -1,11 +1,11 @@
 /* Loaded before the C library, it refuses growths of a program: calls of malloc and realloc.
 
    REFUSED_FROM and REFUSED_TO are the numbers, from 1, of the first and the last growth that is refused; none is where
-   they are absent. With REFUSED_EACH, a descriptor of a file, the program itself is refused nothing: at each growth a
-   copy of it is made, which is refused this one alone, and goes on with that file as its standard output and error. What
-   became of a copy goes to the descriptor REFUSED_TELL: the number of the growth, the status, how many bytes it wrote,
-   and these. When the program ends, one line goes there: how many growths there were, and how many line feeds had been
-   read from standard input when the first was refused. */
+   they are absent. With REFUSED_EACH, a descriptor of a file, the program itself is refused nothing: at each growth, up
+   to REFUSED_TO where that is given, a copy of it is made, which is refused this one alone, and goes on with that file as
+   its standard output and error. What became of a copy goes to the descriptor REFUSED_TELL: the number of the growth, the
+   status, how many bytes it wrote, and these. When the program ends, one line goes there: how many growths there were,
+   and how many line feeds had been read from standard input when the first was refused. */
 #include <stdio.h>
 #include <stdlib.h>
 #include <sys/syscall.h>
@@ -56,6 +56,7 @@ static int is_refused_copy(void)
         dup2(each, 1);
         dup2(each, 2);
         tell = each = -1;
+        to = 0;
         return 1;
     }
     if (waitpid(copy, &status, 0) != copy)
@@ -73,7 +74,7 @@ static int is_refused(void)
 {
     growths++;
     if (each >= 0)
-        return is_refused_copy();
+        return (to == 0 || growths <= to) && is_refused_copy();
     if (growths == from)
         feeds_then = feeds;
     return from <= growths && growths <= to;

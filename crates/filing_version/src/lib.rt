@@ -11,8 +11,6 @@ mod entries;
 mod filed;
 mod got;
 mod puts;
-#[cfg(test)]
-mod tests;
 mod version;
 
 pub use change::{Change, ReadyDeclare, ReadyPut};
