@@ -1,3 +1,4 @@
--- What the types of steps and replies are seen as, and which sessions may overlap.
+-- What the types of steps, calls and replies are seen as, and which sessions may overlap.
+pub mod Asked
 pub mod Steps
 pub mod Overlap

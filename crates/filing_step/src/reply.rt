@@ -2,7 +2,8 @@
 
 ghost use Rattle.std.specs.Prelude.{◌≡◌, map, string_bytes, IfOk};
 
-use oim_fact::{Class, Fact, FactFault};
+use crate::thing::Thing;
+use oim_fact::{Allowed, Class, Fact, FactFault};
 use std::alloc::AllocError;
 use std::sync::Arc;
 
@@ -12,9 +13,17 @@ pub enum Reply {
     NoReport,
     Absent,
     Found(Arc<Fact>),
+    /// The class of a cell, and the identifiers of its facts, in byte order.
+    Cell(Class, Vec<String>),
+    /// The identifiers of a page, in byte order, and whether its limit cuts more.
+    Page(Vec<String>, bool),
+    /// A review may not change anything.
+    ReadOnly,
     Taken,
     BadFact(FactFault),
     Staged,
+    /// The allowed duplicates that a report declares.
+    Declared(Allowed),
     /// The number of the version that the load made.
     Loaded(u64),
     NameTaken,
@@ -24,6 +33,8 @@ pub enum Reply {
     Closed,
     /// The number of the version that the commit made.
     Committed(u64),
+    /// The number of the load or commit that last touched the thing, and the first thing that was read and touched since.
+    Conflict(u64, Thing),
 }
 
 /// The clones of some texts.
@@ -48,9 +59,13 @@ impl Clone for Reply {
             Reply::NoReport => Ok(Reply::NoReport),
             Reply::Absent => Ok(Reply::Absent),
             Reply::Found(fact) => Ok(Reply::Found(fact.clone()?)),
+            Reply::Cell(class, ids) => Ok(Reply::Cell(*class, clone_texts(ids)?)),
+            Reply::Page(ids, more) => Ok(Reply::Page(clone_texts(ids)?, *more)),
+            Reply::ReadOnly => Ok(Reply::ReadOnly),
             Reply::Taken => Ok(Reply::Taken),
             Reply::BadFact(fault) => Ok(Reply::BadFact(*fault)),
             Reply::Staged => Ok(Reply::Staged),
+            Reply::Declared(allowed) => Ok(Reply::Declared(*allowed)),
             Reply::Loaded(number) => Ok(Reply::Loaded(*number)),
             Reply::NameTaken => Ok(Reply::NameTaken),
             Reply::Disallowed(report, class, ids) => {
@@ -59,6 +74,7 @@ impl Clone for Reply {
             Reply::Opened => Ok(Reply::Opened),
             Reply::Closed => Ok(Reply::Closed),
             Reply::Committed(number) => Ok(Reply::Committed(*number)),
+            Reply::Conflict(number, thing) => Ok(Reply::Conflict(*number, thing.clone()?)),
         }
     }
 }

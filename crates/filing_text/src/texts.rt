@@ -3,6 +3,7 @@
 mod lines;
 mod refusals;
 mod replies;
+mod things;
 mod words;
 
 pub use lines::{bad_line_reply, name_in_use_reply, no_session_reply};

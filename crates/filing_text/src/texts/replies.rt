@@ -5,15 +5,17 @@ ghost use Rattle.std.specs.Iterator.{IsFinite};
 ghost use Rattle.json.specs.Print.{quoted};
 ghost use Rattle.filing_model.specs.Reports.{Report as PlainReport};
 ghost use Rattle.oim_report.specs.Entries.{IsReportOf};
-ghost use Rattle.filing_step.specs.Steps.{reply_of};
+ghost use Rattle.filing_step.specs.Steps.{reply_of, thing_of};
+ghost use Rattle.filing_model.specs.Replies as reply;
 ghost use Rattle.filing_model.specs.Replies.{Disallowed};
 ghost use Rattle.filing_model.specs.Writing.{fact_text, listed};
 ghost use Rattle.filing_text.specs.ReplyText.{class_word, exported_text, reply_text, texts_text, word_text};
 
 use super::refusals::{push_bad_fact, push_word};
-use super::words::class_word;
-use filing_model::{Class, Trouble};
-use filing_step::Reply;
+use super::things::push_thing;
+use super::words::{allowed_word, class_word};
+use filing_model::{Allowed, Class, Trouble};
+use filing_step::{Reply, Thing};
 use oim_fact::Fact;
 use oim_report::{Report, push_comma, push_fact, push_quoted, push_report_of};
 use std::alloc::{AllocError, Global};
@@ -87,6 +89,48 @@ fn push_disallowed(
     push_classed(out, class, ids)
 }
 
+/// Appends the array of a cell.
+fn push_cell(out: &mut String, class: Class, ids: &[String]) -> Result<(), AllocError>
+    ensures { OnOk result (string_bytes out.new ≡ string_bytes out.old
+        ++ reply_text (reply.Cell class (map string_bytes ids.now))) }
+{
+    out.push_str("[\"cell\",")?;
+    push_classed(out, class, ids)
+}
+
+/// Appends the array of a page.
+fn push_page(out: &mut String, ids: &[String], more: bool) -> Result<(), AllocError>
+    ensures { OnOk result (string_bytes out.new ≡ string_bytes out.old
+        ++ reply_text (reply.Page (map string_bytes ids.now) more)) }
+{
+    out.push_str("[\"page\",")?;
+    push_texts(out, ids)?;
+    out.push_str(",")?;
+    out.push_str(if more { "true" } else { "false" })?;
+    out.push_str("]")
+}
+
+/// Appends the array of a declared value.
+fn push_declared(out: &mut String, allowed: Allowed) -> Result<(), AllocError>
+    ensures { OnOk result (string_bytes out.new ≡ string_bytes out.old ++ reply_text (reply.Declared allowed)) }
+{
+    out.push_str("[\"declared\",")?;
+    push_word(out, allowed_word(allowed))?;
+    out.push_str("]")
+}
+
+/// Appends the array of a conflict.
+fn push_conflict(out: &mut String, number: u64, thing: &Thing) -> Result<(), AllocError>
+    ensures { OnOk result (string_bytes out.new ≡ string_bytes out.old
+        ++ reply_text (reply.Conflict number (thing_of thing.now))) }
+{
+    out.push_str("[\"conflict\",")?;
+    push_number(out, number)?;
+    out.push_str(",")?;
+    push_thing(out, thing)?;
+    out.push_str("]")
+}
+
 /// Appends the line of a reply.
 pub(crate) fn push_reply(out: &mut String, reply: &Reply) -> Result<(), AllocError>
     ensures { OnOk result (string_bytes out.new ≡ string_bytes out.old ++ reply_text (reply_of reply.now)) }
@@ -95,15 +139,20 @@ pub(crate) fn push_reply(out: &mut String, reply: &Reply) -> Result<(), AllocErr
         Reply::NoReport => out.push_str("[\"no-report\"]"),
         Reply::Absent => out.push_str("[\"none\"]"),
         Reply::Found(fact) => push_found(out, fact),
+        Reply::Cell(class, ids) => push_cell(out, *class, ids),
+        Reply::Page(ids, more) => push_page(out, ids, *more),
+        Reply::ReadOnly => out.push_str("[\"read-only\"]"),
         Reply::Taken => out.push_str("[\"taken\"]"),
         Reply::BadFact(fault) => push_bad_fact(out, Trouble::Fit(*fault)),
         Reply::Staged => out.push_str("[\"staged\"]"),
+        Reply::Declared(allowed) => push_declared(out, *allowed),
         Reply::Loaded(number) => push_numbered(out, "[\"loaded\",", *number),
         Reply::NameTaken => out.push_str("[\"name-taken\"]"),
         Reply::Disallowed(name, class, ids) => push_disallowed(out, name, *class, ids),
         Reply::Opened => out.push_str("[\"opened\"]"),
         Reply::Closed => out.push_str("[\"closed\"]"),
         Reply::Committed(number) => push_numbered(out, "[\"committed\",", *number),
+        Reply::Conflict(number, thing) => push_conflict(out, *number, thing),
     }
 }
 

@@ -1,0 +1,194 @@
+//! Things are equal and hash as their plain values do.
+
+ghost use Rattle.std.specs.Prelude.{◌≡◌};
+ghost use Rattle.std.specs.List.{fold};
+ghost use Rattle.std.specs.Bool.{Decides};
+ghost use Rattle.std.specs.Cmp.{eq_by_cmp_equiv, partial_equiv_from_equiv, on_total};
+ghost use Rattle.filing_model.specs.Things as thing;
+ghost use Rattle.filing_model.specs.Things.{thing_cmp, thing_eq, asked_hash, sought_hash, thing_hash};
+ghost use Rattle.filing_model.proofs.Things.{thing_cmp-total, things_are_keys};
+ghost use Rattle.oim_fact.specs.Texts.{text_view};
+ghost use Rattle.filing_step.specs.Asked.{asked_of};
+ghost use Rattle.filing_step.specs.Steps.{thing_of};
+
+use crate::asked::{Asked, Sought};
+use crate::thing::Thing;
+use filing_model::is_same_text;
+use oim_fact::DimSet;
+use std::hash::{Hash, Hasher};
+
+fn is_text(a: &str, b: &str) -> bool
+    ensures { Decides result (a.now ≡ b.now) }
+{
+    is_same_text(a, b)
+}
+
+fn is_nullable(a: &Option<String>, b: &Option<String>) -> bool
+    ensures { Decides result (text_view a.now ≡ text_view b.now) }
+{
+    match a {
+        None => b.is_none(),
+        Some(a) => match b {
+            None => false,
+            Some(b) => is_text(a, b),
+        },
+    }
+}
+
+fn is_asked(a: &Asked, b: &Asked) -> bool
+    ensures { Decides result (asked_of a.now ≡ asked_of b.now) }
+{
+    match a {
+        Asked::Any => matches!(b, Asked::Any),
+        Asked::Without => matches!(b, Asked::Without),
+        Asked::Text(a) => match b {
+            Asked::Text(b) => is_text(a, b),
+            Asked::Any | Asked::Without => false,
+        },
+    }
+}
+
+fn is_sought(a: &Sought, b: &Sought) -> bool
+    ensures { Decides result (a.now ≡ b.now) }
+{
+    is_text(&a.concept, &b.concept)
+        && is_asked(&a.period, &b.period)
+        && is_nullable(&a.after, &b.after)
+}
+
+fn is_dims(a: &DimSet, b: &DimSet) -> bool
+    ensures { Decides result (a.now ≡ b.now) }
+{
+    a == b
+}
+
+fn is_report(report: &str, other: &Thing) -> bool
+    ensures { Decides result (thing.Report report.now ≡ thing_of other.now) }
+{
+    match other {
+        Thing::Report(name) => is_text(report, name),
+        Thing::Id(..) | Thing::Cell(..) | Thing::Range(..) | Thing::Policy(..) => false,
+    }
+}
+
+fn is_id(report: &str, id: &str, other: &Thing) -> bool
+    ensures { Decides result (thing.Id report.now id.now ≡ thing_of other.now) }
+{
+    match other {
+        Thing::Id(name, other_id) => is_text(report, name) && is_text(id, other_id),
+        Thing::Report(..) | Thing::Cell(..) | Thing::Range(..) | Thing::Policy(..) => false,
+    }
+}
+
+fn is_cell(report: &str, dims: &DimSet, other: &Thing) -> bool
+    ensures { Decides result (thing.Cell report.now dims.now ≡ thing_of other.now) }
+{
+    match other {
+        Thing::Cell(name, other_dims) => is_text(report, name) && is_dims(dims, other_dims),
+        Thing::Report(..) | Thing::Id(..) | Thing::Range(..) | Thing::Policy(..) => false,
+    }
+}
+
+fn is_range(report: &str, sought: &Sought, upto: &Option<String>, other: &Thing) -> bool
+    ensures { Decides result (thing.Range report.now sought.now (text_view upto.now) ≡ thing_of other.now) }
+{
+    match other {
+        Thing::Range(name, other_sought, other_upto) => {
+            is_text(report, name)
+                && is_sought(sought, other_sought)
+                && is_nullable(upto, other_upto)
+        }
+        Thing::Report(..) | Thing::Id(..) | Thing::Cell(..) | Thing::Policy(..) => false,
+    }
+}
+
+fn is_policy(report: &str, other: &Thing) -> bool
+    ensures { Decides result (thing.Policy report.now ≡ thing_of other.now) }
+{
+    match other {
+        Thing::Policy(name) => is_text(report, name),
+        Thing::Report(..) | Thing::Id(..) | Thing::Cell(..) | Thing::Range(..) => false,
+    }
+}
+
+fn is_thing(a: &Thing, b: &Thing) -> bool
+    ensures { Decides result (thing_of a.now ≡ thing_of b.now) }
+{
+    match a {
+        Thing::Report(report) => is_report(report, b),
+        Thing::Id(report, id) => is_id(report, id, b),
+        Thing::Cell(report, dims) => is_cell(report, dims, b),
+        Thing::Range(report, sought, upto) => is_range(report, sought, upto, b),
+        Thing::Policy(report) => is_policy(report, b),
+    }
+}
+
+impl PartialEq for Thing {
+    ghost eq = { λ a b. thing_eq (thing_of a) (thing_of b) };
+
+    ghost laws = { partial_equiv_from_equiv (eq_by_cmp_equiv (on_total thing_of thing_cmp-total)) };
+
+    fn eq(&self, other: &Thing) -> bool {
+        is_thing(self, other)
+    }
+}
+
+impl Eq for Thing {
+    ghost laws = { eq_by_cmp_equiv (on_total thing_of thing_cmp-total) };
+}
+
+fn hash_asked<H: Hasher>(asked: &Asked, state: &mut H)
+    ensures { state.new ≡ fold H.write state.old (asked_hash (asked_of asked.now)) }
+{
+    match asked {
+        Asked::Any => 0u8.hash(state),
+        Asked::Without => 1u8.hash(state),
+        Asked::Text(period) => {
+            2u8.hash(state);
+            period.hash(state);
+        }
+    }
+}
+
+fn hash_sought<H: Hasher>(sought: &Sought, state: &mut H)
+    ensures { state.new ≡ fold H.write state.old (sought_hash sought.now) }
+{
+    sought.concept.hash(state);
+    hash_asked(&sought.period, state);
+    sought.after.hash(state);
+}
+
+impl Hash for Thing {
+    ghost hash_input = { λ t. thing_hash (thing_of t) };
+
+    ghost respects_eq = { λ a b. things_are_keys.fed_alike.fed (thing_of a) (thing_of b) };
+
+    fn hash<H: Hasher>(&self, state: &mut H) {
+        match self {
+            Thing::Report(report) => {
+                0u8.hash(state);
+                report.hash(state);
+            }
+            Thing::Id(report, id) => {
+                1u8.hash(state);
+                report.hash(state);
+                id.hash(state);
+            }
+            Thing::Cell(report, dims) => {
+                2u8.hash(state);
+                report.hash(state);
+                dims.hash(state);
+            }
+            Thing::Range(report, sought, upto) => {
+                3u8.hash(state);
+                report.hash(state);
+                hash_sought(sought, state);
+                upto.hash(state);
+            }
+            Thing::Policy(report) => {
+                4u8.hash(state);
+                report.hash(state);
+            }
+        }
+    }
+}

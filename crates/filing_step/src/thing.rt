@@ -1,0 +1,41 @@
+//! `Thing`: what a session reads, and a load or a commit touches.
+
+use crate::asked::{Sought, clone_text};
+use oim_fact::DimSet;
+use std::alloc::AllocError;
+
+/// What can be read and touched. Each thing names its report first.
+#[derive(Drop)]
+pub enum Thing {
+    /// A report that is not there.
+    Report(String),
+    /// An identifier.
+    Id(String, String),
+    /// A cell.
+    Cell(String, DimSet),
+    /// What is sought, up to an identifier where one is given.
+    Range(String, Sought, Option<String>),
+    /// The allowed duplicates that the report declares.
+    Policy(String),
+}
+
+impl Clone for Thing {
+    ghost use Rattle.std.specs.Prelude.{◌≡◌};
+    ghost use Rattle.filing_step.specs.Steps.{thing_of};
+
+    ghost is_clone = { λ old new. thing_of new ≡ thing_of old };
+
+    fn clone(&self) -> Result<Thing, AllocError> {
+        match self {
+            Thing::Report(report) => Ok(Thing::Report(report.clone()?)),
+            Thing::Id(report, id) => Ok(Thing::Id(report.clone()?, id.clone()?)),
+            Thing::Cell(report, dims) => Ok(Thing::Cell(report.clone()?, dims.clone()?)),
+            Thing::Range(report, sought, upto) => Ok(Thing::Range(
+                report.clone()?,
+                sought.clone()?,
+                clone_text(upto)?,
+            )),
+            Thing::Policy(report) => Ok(Thing::Policy(report.clone()?)),
+        }
+    }
+}
