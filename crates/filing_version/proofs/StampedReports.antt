@@ -6,7 +6,8 @@ use Rattle.std.proofs.lemmas.Bool.{and_parts}
 use Rattle.filing_model.specs.Text.{Text, text_eq}
 use Rattle.filing_model.specs.TextMap.{TextMap, get, insert}
 use Rattle.filing_model.specs.Reports.{Report}
-use Rattle.filing_model.specs.Repository.{Repository, report_at, with_fact}
+use Rattle.filing_model.specs.Repository.{Repository, report_at, with_fact, with_report_at, with_fact_at, declaring_at}
+use Rattle.filing_model.specs.DeclaredValue.{report_declaring}
 use Rattle.filing_model.specs.Dimensions.{Dims}
 use Rattle.filing_model.specs.Facts.{Fact}
 use Rattle.filing_model.specs.Changes.{ReportChange, Change, with_facts, declaring_if, changed, least_changed, find_map, first_disallowed, after_change}
@@ -24,7 +25,7 @@ use Rattle.filing_model.proofs.Texts.{text_same}
 use Rattle.filing_index.specs.Moves.{Part, Id, Cell, Range, Move, moves_of, passes, is_moved_in, is_moved, stamped_by, with_changes}
 use Rattle.filing_index.specs.Moved.{moves_in}
 use Rattle.filing_index.specs.Stamps.{stamp_in as part_stamp}
-use Rattle.filing_version.specs.Filed.{Filed, mapped, stamp_in, stamp_at, changed_filed, filed_after, StampedReport, filed_of, StampedReports, repository_in}
+use Rattle.filing_version.specs.Filed.{Filed, mapped, stamp_in, stamp_at, changed_filed, filed_after, StampedReport, filed_of, StampedReports, KeepsItsStamps, IsStampedUpTo, version_of, version_in, repository_in}
 use Rattle.filing_version.proofs.FiledReports.{get-mapped, report_at-version_of}
 
 -- ---- look-ups
@@ -235,3 +236,82 @@ changed_front change front facts =
     same_front change.declared front facts (with_changes change.facts.entries facts)
     ∙ ap (λ m. record (declaring_if change.declared (record front { facts = facts })) { facts = with_changes change.facts.entries m }) (sym (declared_facts change.declared (record front { facts = facts })))
     ∙ sym (with_facts-report change.facts.entries (declaring_if change.declared (record front { facts = facts })))
+
+-- ---- another report of the same stamps
+
+mapped_put : {X Y : Type 0} (f : X → Y) (m : TextMap X) (name : Text) (x : X) → mapped f (insert m name x) ≡ insert (mapped f m) name (f x)
+mapped_put f m name x = same_map _ _ (λ q.
+    get-mapped f (insert m name x) q
+    ∙ ap (option_map f) (get-insert m name x q)
+    ∙ by q (text_eq q name)
+    ∙ ap (λ o. cond (text_eq q name) (Some (f x)) o) (sym (get-mapped f m q))
+    ∙ sym (get-insert (mapped f m) name (f x) q))
+  where
+    by : (q : Text) (b : Bool) → option_map f (cond b (Some x) (get m q)) ≡ cond b (Some (f x)) (option_map f (get m q))
+    by q true = refl
+    by q false = refl
+
+-- a stamp is not the report's
+stamp_of_another : (t : Thing) (f : Filed) (r : Report) → stamp_in t (record f { report = r }) ≡ stamp_in t f
+stamp_of_another (thing.Report name) f r = refl
+stamp_of_another (thing.Id name id) f r = refl
+stamp_of_another (thing.Cell name dims) f r = refl
+stamp_of_another (thing.Range name sought upto) f r = refl
+stamp_of_another (thing.Policy name) f r = refl
+
+module _ (v : StampedReports) (name : Text) (old new : StampedReport) (keeps : KeepsItsStamps v.reports name old new) where
+  abbrev filed : TextMap Filed
+  filed = mapped filed_of v.reports
+
+  held : get filed name ≡ Some (filed_of old)
+  held = get-mapped filed_of v.reports name ∙ ap (option_map filed_of) keeps.held
+
+  stamps_stay : (t : Thing) → stamp_at (insert filed name (filed_of new)) t ≡ stamp_at filed t
+  stamps_stay t = ap (λ o. option_map_or (stamp_in t) o 0) (get-insert filed name (filed_of new) (report_of t)) ∙ by (text_eq (report_of t) name) refl
+    where
+      by : (b : Bool) → text_eq (report_of t) name ≡ b → option_map_or (stamp_in t) (cond b (Some (filed_of new)) (get filed (report_of t))) 0 ≡ stamp_at filed t
+      by true same =
+          ap (stamp_in t) keeps.stamps
+          ∙ stamp_of_another t (filed_of old) new.report
+          ∙ sym (ap (λ o. option_map_or (stamp_in t) o 0) (ap (get filed) (text_same (report_of t) name same) ∙ held))
+      by false other = refl
+
+  put_there : mapped filed_of (insert v.reports name new) ≡ insert filed name (filed_of new)
+  put_there = mapped-insert v.reports name new
+
+  pub another_stamp : (t : Thing) → stamp_at (mapped filed_of (insert v.reports name new)) t ≡ stamp_at filed t
+  another_stamp t = ap (λ m. stamp_at m t) put_there ∙ stamps_stay t
+
+  pub another_report : version_of v.number (mapped filed_of (insert v.reports name new)) ≡ record (version_in v) { repository = with_report_at (repository_in v) name new.report }
+  another_report = λ i. record {
+    repository = record { count = v.number; reports = (ap (mapped (λ (f : Filed). f.report)) put_there ∙ mapped_put (λ (f : Filed). f.report) filed name (filed_of new)) i };
+    stamp = λ t. another_stamp t i;
+  }
+
+  pub another_up_to : IsStampedUpTo v.number filed → IsStampedUpTo v.number (mapped filed_of (insert v.reports name new))
+  another_up_to h = record { up_to = λ t. subst (λ n. n ≤ v.number) (sym (another_stamp t)) (h.up_to t) }
+
+-- one that is made so keeps its stamps
+pub keeps_its_stamps : (reports : TextMap StampedReport) (name : Text) (old new : StampedReport) (r : Report)
+    → get reports name ≡ Some old → filed_of new ≡ record (filed_of old) { report = r } → KeepsItsStamps reports name old new
+keeps_its_stamps reports name old new r held made = record {
+  held = held;
+  stamps = made ∙ ap (λ x. record (filed_of old) { report = x }) (sym (ap (λ (f : Filed). f.report) made));
+}
+
+-- what is made of the report that is held is made of the repository
+module _ (v : StampedReports) (name : Text) (old new : StampedReport) (held : get v.reports name ≡ Some old) where
+  found : report_at (repository_in v) name ≡ Some old.report
+  found = reported v name ∙ ap (option_map (λ (r : StampedReport). r.report)) held
+
+  pub with_fact_there : (id : Text) (fact : Option Fact) → filed_of new ≡ record (filed_of old) { report = with_fact old.report id fact }
+      → with_report_at (repository_in v) name new.report ≡ with_fact_at (repository_in v) name id fact
+  with_fact_there id fact made =
+      ap (λ (f : Filed). with_report_at (repository_in v) name f.report) made
+      ∙ sym (ap (λ o. option_map_or (λ r. with_report_at (repository_in v) name (with_fact r id fact)) o (repository_in v)) found)
+
+  pub declaring_there : (value : Allowed) → filed_of new ≡ record (filed_of old) { report = report_declaring old.report value }
+      → with_report_at (repository_in v) name new.report ≡ declaring_at (repository_in v) name value
+  declaring_there value made =
+      ap (λ (f : Filed). with_report_at (repository_in v) name f.report) made
+      ∙ sym (ap (λ o. option_map_or (λ r. with_report_at (repository_in v) name (report_declaring r value)) o (repository_in v)) found)

@@ -1,5 +1,5 @@
 -- The reports of a version, each with the stamps of its parts. The project's own.
-use Rattle.std.specs.Prelude.{◌≡◌, ℕ, ◌≤◌, cond, List, [], ◌∷◌, map, None, is_some}
+use Rattle.std.specs.Prelude.{◌≡◌, ℕ, ◌≤◌, cond, List, [], ◌∷◌, map, None, Some, is_some}
 use Rattle.std.specs.Option.{option_map_or}
 use Rattle.filing_model.specs.Text.{Text}
 use Rattle.filing_model.specs.TextMap.{TextMap, get, insert, from_entries}
@@ -94,3 +94,10 @@ version_in v = version_of v.number (mapped filed_of v.reports)
 
 abbrev pub repository_in : StampedReports → Repository
 repository_in v = (version_in v).repository
+
+-- ---- another report of the same stamps
+
+-- the reports have the old one under the name, and only its report is another in the new one
+pub record KeepsItsStamps (reports : TextMap StampedReport) (name : Text) (old new : StampedReport) : Type 0 where
+  pub held : get reports name ≡ Some old
+  pub stamps : filed_of new ≡ record (filed_of old) { report = new.report }

@@ -1,11 +1,12 @@
 //! One report of a version, with the stamps of its parts.
-ghost use Rattle.std.specs.Prelude.{◌≡◌, ◌≤◌, cond, is_some, map, option_map, string_bytes, T as Holds, IfOk};
+ghost use Rattle.std.specs.Prelude.{◌≡◌, ◌≤◌, [], ◌∷◌, cond, is_some, map, option_map, string_bytes, T as Holds, IfOk};
 ghost use Rattle.std.specs.Arc.{arc_value};
 ghost use Rattle.std.specs.FinMap.Entries.{is_sorted};
 ghost use Rattle.filing_model.specs.Text.{text_cmp};
 ghost use Rattle.std.specs.List.{filter_map};
 ghost use Rattle.filing_model.specs.TextMap.{empty};
 ghost use Rattle.filing_model.specs.DeclaredValue.{report_declaring};
+ghost use Rattle.filing_model.specs.Repository.{with_fact};
 ghost use Rattle.filing_model.specs.Changes.{declaring_if, least_among, least_changed};
 ghost use Rattle.filing_model.specs.Duplicates.{least_disallowed};
 ghost use Rattle.oim_report.specs.Parts.{facts_view, IsInfo};
@@ -178,6 +179,85 @@ impl FiledReport {
             facts,
             loaded: self.loaded,
             declared,
+            stamps,
+        })
+    }
+
+    /// The facts with one put, or removed, at an identifier.
+    fn facts_with(
+        &self,
+        alloc: Global,
+        id: String,
+        fact: Option<Arc<Fact>>,
+    ) -> Result<Facts, AllocError>
+        ensures { IfOk result (λ facts. facts
+            ≡ with_changes ((string_bytes id, option_map arc_value fact) ∷ []) self.now.report.facts) }
+    {
+        let nothing: TextPages<Option<Held>> = TextPages::new(alloc);
+        let put = nothing.with(alloc, id, fact.map(Held::of))?;
+        let moves = self.facts.moves(alloc, &put)?;
+        self.facts.after(alloc, &moves)
+    }
+
+    /// The same facts once more, which share their indexes.
+    fn facts_again(&self, alloc: Global) -> Result<Facts, AllocError>
+        ensures { IfOk result (λ facts. facts ≡ self.now.report.facts) }
+    {
+        self.facts.after(alloc, &[])
+    }
+
+    /// The same stamps once more, which share all that they hold.
+    fn stamps_again(&self, alloc: Global, number: u64) -> Result<Stamps, AllocError>
+        requires { (part : Part) → stamp_in self.now.stamps part ≤ number }
+        ensures { IfOk result (λ stamps. stamp_in stamps ≡ stamp_in self.now.stamps) }
+    {
+        self.stamps.after(alloc, &[], number)
+    }
+
+    /// The report with a fact put, or removed, at an identifier. No stamp is greater than the number, and all stay.
+    pub(crate) fn with_fact(
+        &self,
+        alloc: Global,
+        id: String,
+        fact: Option<Arc<Fact>>,
+        number: u64,
+    ) -> Result<FiledReport, AllocError>
+        requires { (part : Part) → stamp_in self.now.stamps part ≤ number }
+        ensures { IfOk result (λ f. filed_of f ≡ record (filed_of self.now) {
+          report = with_fact self.now.report (string_bytes id) (option_map arc_value fact);
+        }) }
+    {
+        let front = Arc::try_clone(&self.front)?;
+        let facts = self.facts_with(alloc, id, fact)?;
+        let stamps = self.stamps_again(alloc, number)?;
+        Ok(FiledReport {
+            front,
+            facts,
+            loaded: self.loaded,
+            declared: self.declared,
+            stamps,
+        })
+    }
+
+    /// The report that declares this value. No stamp is greater than the number, and all stay.
+    pub(crate) fn with_declared(
+        &self,
+        alloc: Global,
+        allowed: Allowed,
+        number: u64,
+    ) -> Result<FiledReport, AllocError>
+        requires { (part : Part) → stamp_in self.now.stamps part ≤ number }
+        ensures { IfOk result (λ f. filed_of f
+            ≡ record (filed_of self.now) { report = report_declaring self.now.report allowed }) }
+    {
+        let front = declaring(alloc, &self.front, Some(allowed))?;
+        let facts = self.facts_again(alloc)?;
+        let stamps = self.stamps_again(alloc, number)?;
+        Ok(FiledReport {
+            front,
+            facts,
+            loaded: self.loaded,
+            declared: self.declared,
             stamps,
         })
     }

@@ -3,7 +3,7 @@ ghost use Rattle.std.specs.Prelude.{◌≡◌, ◌+◌, ◌<◌, ◌^◌, None, 
 ghost use Rattle.std.specs.Arc.{arc_value};
 ghost use Rattle.filing_model.specs.Text.{Text};
 ghost use Rattle.filing_model.specs.TextMap.{get as value_at};
-ghost use Rattle.filing_model.specs.Repository.{Repository, report_at, fact_in};
+ghost use Rattle.filing_model.specs.Repository.{Repository, report_at, fact_in, with_report_at, with_fact_at, declaring_at};
 ghost use Rattle.filing_model.specs.Things as thing;
 ghost use Rattle.filing_model.specs.Stamps.{first_version, version_after, version_with};
 ghost use Rattle.filing_model.specs.Changes.{after_change, first_disallowed};
@@ -13,7 +13,7 @@ ghost use Rattle.filing_model.specs.Sessions.{repository_obeys, refusal_of};
 ghost use Rattle.filing_laws.specs.NetChange.{refusal_at};
 ghost use Rattle.filing_index.specs.Wanted.{asked_of};
 ghost use Rattle.filing_version.specs.Found.{got_of};
-ghost use Rattle.filing_version.specs.Filed.{version_in, repository_in};
+ghost use Rattle.filing_version.specs.Filed.{StampedReport, KeepsItsStamps, version_in, repository_in};
 
 use crate::change::Change;
 use crate::entries::Entries;
@@ -21,10 +21,11 @@ use crate::filed::FiledReport;
 use crate::got::Got;
 use filing_index::{Asked, Ids};
 use filing_pages::TextPages;
-use oim_fact::{Allowed, Class, DimSet, Names};
+use oim_fact::{Allowed, Class, DimSet, Fact, Names};
 use oim_report::Report;
 use std::alloc::{AllocError, Global};
 use std::marker::Model;
+use std::sync::Arc;
 
 /// One state of the repository, which never changes: its reports, and the stamp of each thing, the number of the last load or commit that touched it. Reports and facts are shared with other versions. Contracts see the plain repository with its stamps, by `version_in`.
 #[derive(Drop)]
@@ -155,6 +156,74 @@ impl RepoVersion {
         let filed = FiledReport::new(alloc, report, number)?;
         let reports = self.reports.with(alloc, name, filed)?;
         Ok(RepoVersion { number, reports })
+    }
+
+    /// The version once more, which shares its reports.
+    fn again(&self, alloc: Global) -> Result<RepoVersion, AllocError>
+        ensures { IfOk result (λ v. version_in v ≡ version_in self.now) }
+    {
+        let reports = self.reports.share(alloc)?;
+        Ok(RepoVersion {
+            number: self.number,
+            reports,
+        })
+    }
+
+    /// The version with another report of a name that it has, whose stamps are as they were.
+    fn with_filed(
+        &self,
+        alloc: Global,
+        name: &str,
+        filed: FiledReport,
+    ) -> Result<RepoVersion, AllocError>
+        requires { (old : StampedReport) × KeepsItsStamps self.now.reports name.now old filed }
+        ensures { IfOk result (λ v. version_in v ≡ record (version_in self.now) {
+          repository = with_report_at (repository_in self.now) name.now filed.report;
+        }) }
+    {
+        let name = String::from_str(alloc, name)?;
+        let reports = self.reports.with(alloc, name, filed)?;
+        Ok(RepoVersion {
+            number: self.number,
+            reports,
+        })
+    }
+
+    /// The version with a fact put, or removed, at an identifier of a report; the same where the report is not there. Its number and its stamps stay: it is what a session makes of the version of its opening, and no version that was accepted.
+    pub fn with_fact_at(
+        &self,
+        alloc: Global,
+        report: &str,
+        id: String,
+        fact: Option<Arc<Fact>>,
+    ) -> Result<RepoVersion, AllocError>
+        ensures { IfOk result (λ v. version_in v ≡ record (version_in self.now) {
+          repository = with_fact_at (repository_in self.now) report.now (string_bytes id) (option_map arc_value fact);
+        }) }
+    {
+        let Some(filed) = self.reports.get(report) else {
+            return self.again(alloc);
+        };
+        let changed = filed.with_fact(alloc, id, fact, self.number)?;
+        self.with_filed(alloc, report, changed)
+    }
+
+    /// The version in whose report a value is declared; the same where the report is not there. Its number and its stamps stay.
+    pub fn declaring_at(
+        &self,
+        alloc: Global,
+        report: &str,
+        allowed: Allowed,
+    ) -> Result<RepoVersion, AllocError>
+        ensures { IfOk result (λ v. version_in v ≡ record (version_in self.now) {
+          repository = declaring_at (repository_in self.now) report.now allowed;
+        }) }
+    {
+        let Some(filed) = self.reports.get(report) else {
+            return self.again(alloc);
+        };
+        let changed = filed.with_declared(alloc, allowed, self.number)?;
+        self.with_filed(alloc, report, changed)
     }
 
     /// The report of this name. Its facts are shared.
