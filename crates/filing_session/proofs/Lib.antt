@@ -1,0 +1,11 @@
+-- ---- one call
+pub mod CallEffects
+pub mod PagesSoFar
+pub mod PutsStaged
+pub mod ThingsEntered
+-- ---- whole runs
+pub mod RunStates
+pub mod StagedChanges
+pub mod PrunedChanges
+-- ---- examples that compute
+pub mod Examples

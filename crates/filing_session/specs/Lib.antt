@@ -1,0 +1,5 @@
+pub mod States
+pub mod Effects
+pub mod Runs
+pub mod Held
+pub mod Nexts

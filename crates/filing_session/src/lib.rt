@@ -1,0 +1,22 @@
+//! Sessions: each reads and stages over a version that does not change.
+//!
+//! `session` is `Session`, and `ready` what is made ready of a call before anything changes. `looks` answers the calls that only look, `pages` those for pages, and `stages` those that stage. `runs` has the laws: what a session is after any calls.
+//!
+//! A session has a copy of its version of its own, in which what it staged stands, so each reply is a look-up there; the copy shares all else with the version. The crate knows nothing of histories, of other sessions, or of how a commit is decided.
+#![tactic(auto)]
+
+mod looks;
+mod pages;
+mod ready;
+mod runs;
+mod session;
+mod stages;
+
+pub use filing_model::Kind;
+pub use filing_step::{Asked, Call, Limit, Reply, Sought, Thing};
+pub use ready::Ready;
+pub use runs::{
+    each_amendment_stages_its_net_change, each_effect_is_its_call, each_review_stages_nothing,
+    each_session_runs_alone,
+};
+pub use session::Session;

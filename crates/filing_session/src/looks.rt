@@ -1,0 +1,62 @@
+//! The calls that look at an identifier, a cell or a declared value.
+ghost use Rattle.std.specs.Prelude.{◌≡◌, map, string_bytes, IfOk};
+ghost use Rattle.filing_model.specs.Calls as call;
+ghost use Rattle.filing_model.specs.Changes.{Change};
+ghost use Rattle.filing_model.specs.Repository.{report_at};
+ghost use Rattle.filing_version.specs.Filed.{repository_in};
+ghost use Rattle.filing_session.specs.Effects.{effect_in};
+
+use crate::ready::Ready;
+use filing_step::{Reply, Thing};
+use filing_version::{Got, Ids, RepoVersion};
+use oim_fact::DimSet;
+use std::alloc::{AllocError, Global};
+
+pub(crate) fn get(copy: &RepoVersion, report: String, id: String) -> Result<Ready, AllocError>
+    ensures { (change : Change) → IfOk result (λ r. r ≡ effect_in (call.Get (string_bytes report) (string_bytes id))
+        (repository_in copy.now) change (report_at (repository_in copy.now) (string_bytes report))) }
+{
+    let reply = match copy.get(&report, &id) {
+        Got::NoReport => return Ok(Ready::nowhere(report)),
+        Got::Absent => Reply::Absent,
+        Got::Found(fact) => Reply::Found(fact.clone()?),
+    };
+    Ok(Ready::read(reply, Thing::Id(report, id)))
+}
+
+/// The identifiers as texts of their own.
+fn texts_of(alloc: Global, ids: Ids<'_>) -> Result<Vec<String>, AllocError>
+    ensures { IfOk result (λ v. map string_bytes v.items ≡ ids.entry) }
+{
+    let mut texts = Vec::new(alloc);
+    for id in ids {
+        texts.push(String::from_str(alloc, id)?)?;
+    }
+    Ok(texts)
+}
+
+pub(crate) fn cell(
+    alloc: Global,
+    copy: &RepoVersion,
+    report: String,
+    dims: DimSet,
+) -> Result<Ready, AllocError>
+    ensures { (change : Change) → IfOk result (λ r. r ≡ effect_in (call.Cell (string_bytes report) dims)
+        (repository_in copy.now) change (report_at (repository_in copy.now) (string_bytes report))) }
+{
+    let reply = match copy.cell(&report, &dims) {
+        None => return Ok(Ready::nowhere(report)),
+        Some((class, ids)) => Reply::Cell(class, texts_of(alloc, ids)?),
+    };
+    Ok(Ready::read(reply, Thing::Cell(report, dims)))
+}
+
+pub(crate) fn declared(copy: &RepoVersion, report: String) -> Ready
+    ensures { (change : Change) → result ≡ effect_in (call.Declared (string_bytes report))
+        (repository_in copy.now) change (report_at (repository_in copy.now) (string_bytes report)) }
+{
+    match copy.allowed(&report) {
+        None => Ready::nowhere(report),
+        Some(allowed) => Ready::read(Reply::Declared(allowed), Thing::Policy(report)),
+    }
+}

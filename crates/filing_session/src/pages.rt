@@ -1,0 +1,68 @@
+//! Pages: the first identifiers of what is sought.
+ghost use Rattle.std.specs.Prelude.{◌≡◌, map, string_bytes, IfOk};
+ghost use Rattle.filing_model.specs.Calls as call;
+ghost use Rattle.filing_model.specs.Changes.{Change};
+ghost use Rattle.filing_model.specs.Queries.{page_ids, first_cut};
+ghost use Rattle.filing_model.specs.Repository.{report_at};
+ghost use Rattle.oim_fact.specs.Texts.{text_view};
+ghost use Rattle.filing_index.specs.Wanted as borrowed;
+ghost use Rattle.filing_step.specs.Asked.{asked_of};
+ghost use Rattle.filing_version.specs.Filed.{repository_in};
+ghost use Rattle.filing_session.specs.Effects.{effect_in};
+
+use crate::ready::Ready;
+use filing_step::{Asked, Limit, Reply, Sought, Thing};
+use filing_version::{Asked as Period, Ids, RepoVersion};
+use std::alloc::{AllocError, Global};
+
+/// The period that is asked for, without its text.
+fn period_of(asked: &Asked) -> Period<'_>
+    ensures { borrowed.asked_of result ≡ asked_of asked.now }
+{
+    match asked {
+        Asked::Any => Period::Any,
+        Asked::Without => Period::Without,
+        Asked::Text(period) => Period::Text(period),
+    }
+}
+
+/// The first identifiers, as many as the limit, and the first one that it cuts.
+fn page_of(
+    alloc: Global,
+    ids: Ids<'_>,
+    limit: u64,
+) -> Result<(Vec<String>, Option<String>), AllocError>
+    ensures ids { IfOk result (λ page. map string_bytes page.0.items ≡ page_ids limit ids.entry) }
+    ensures cut { IfOk result (λ page. text_view page.1 ≡ first_cut limit ids.entry) }
+{
+    let mut texts = Vec::new(alloc);
+    let mut left = limit;
+    for id in ids {
+        if left == 0 {
+            let cut = String::from_str(alloc, id)?;
+            return Ok((texts, Some(cut)));
+        }
+        texts.push(String::from_str(alloc, id)?)?;
+        left -= 1;
+    }
+    Ok((texts, None))
+}
+
+pub(crate) fn page(
+    alloc: Global,
+    copy: &RepoVersion,
+    report: String,
+    sought: Sought,
+    limit: Limit,
+) -> Result<Ready, AllocError>
+    ensures { (change : Change) → IfOk result (λ r. r ≡ effect_in (call.Page (string_bytes report) sought limit)
+        (repository_in copy.now) change (report_at (repository_in copy.now) (string_bytes report))) }
+{
+    let period = period_of(&sought.period);
+    let (ids, cut) = match copy.query(&report, &sought.concept, period, sought.after.as_deref()) {
+        None => return Ok(Ready::nowhere(report)),
+        Some(ids) => page_of(alloc, ids, limit.number())?,
+    };
+    let reply = Reply::Page(ids, cut.is_some());
+    Ok(Ready::read(reply, Thing::Range(report, sought, cut)))
+}

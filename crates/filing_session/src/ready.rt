@@ -1,0 +1,99 @@
+//! `Ready`: what a call is answered and what it leaves, before anything changes.
+ghost use Rattle.std.specs.Prelude.{◌≡◌, Some, None, string_bytes};
+ghost use Rattle.filing_model.specs.Replies as reply;
+ghost use Rattle.filing_model.specs.Things as thing;
+ghost use Rattle.filing_step.specs.Steps.{reply_of, thing_of};
+ghost use Rattle.filing_session.specs.Effects.{no_effect};
+
+use filing_step::{Reply, Thing};
+use filing_version::{ReadyDeclare, ReadyPut, RepoVersion};
+use std::marker::Model;
+use std::sync::Arc;
+
+/// The change with what is staged, which takes the place of the session's.
+#[derive(Drop)]
+pub(crate) enum Next {
+    Put(ReadyPut),
+    Declare(ReadyDeclare),
+}
+
+/// The copy and the change that take the place of the session's.
+#[derive(Drop)]
+pub(crate) struct Staged {
+    pub(crate) copy: Arc<RepoVersion>,
+    pub(crate) next: Next,
+}
+
+impl Model for Staged {
+    ghost use Rattle.filing_model.specs.Repository.{Repository};
+    ghost use Rattle.filing_model.specs.Changes.{Change};
+
+    ghost Value = { Repository × Change };
+
+    ghost use Rattle.std.specs.Arc.{arc_value};
+    ghost use Rattle.filing_version.specs.Filed.{repository_in};
+    ghost use Rattle.filing_session.specs.Nexts.{next_of};
+
+    ghost view = { λ s. (repository_in (arc_value s.copy), next_of s.next) };
+}
+
+/// A call for which all growths are made. Contracts see its effect.
+#[derive(Drop)]
+pub struct Ready {
+    pub(crate) reply: Reply,
+    pub(crate) thing: Option<Thing>,
+    pub(crate) staged: Option<Staged>,
+}
+
+impl Model for Ready {
+    ghost use Rattle.filing_session.specs.Effects.{Effect};
+
+    ghost Value = { Effect };
+
+    ghost use Rattle.std.specs.Prelude.{option_map};
+    ghost use Rattle.filing_step.specs.Steps.{reply_of, thing_of};
+
+    ghost view = { λ r. record { reply = reply_of r.reply; thing = option_map thing_of r.thing; staged = r.staged } };
+}
+
+impl Ready {
+    /// What a review is answered that would change something. Nothing is read.
+    pub(crate) fn read_only() -> Ready
+        ensures { result ≡ no_effect }
+    {
+        Ready {
+            reply: Reply::ReadOnly,
+            thing: None,
+            staged: None,
+        }
+    }
+
+    /// The report is not there, which is read.
+    pub(crate) fn nowhere(report: String) -> Ready
+        ensures { result ≡ record { reply = reply.NoReport; thing = Some (thing.Report (string_bytes report)); staged = None } }
+    {
+        Ready {
+            reply: Reply::NoReport,
+            thing: Some(Thing::Report(report)),
+            staged: None,
+        }
+    }
+
+    /// The thing is read, and nothing is staged.
+    pub(crate) fn read(reply: Reply, thing: Thing) -> Ready
+        ensures { result ≡ record { reply = reply_of reply; thing = Some (thing_of thing); staged = None } }
+    {
+        Ready {
+            reply,
+            thing: Some(thing),
+            staged: None,
+        }
+    }
+
+    /// What the call is answered.
+    pub fn reply(&self) -> &Reply
+        ensures { reply_of result.now ≡ self.now.reply }
+    {
+        &self.reply
+    }
+}

@@ -1,0 +1,282 @@
+//! `Session`: what it reads and stages over the version of its opening.
+ghost use Rattle.std.specs.Prelude.{◌≡◌, ◌<◌, map, true, option_map, string_bytes, IfOk, OnOk};
+ghost use Rattle.std.specs.Arc.{arc_value};
+ghost use Rattle.indexmap.specs.IndexSet.{spare};
+ghost use Rattle.std.specs.Option.{option_map_or};
+ghost use Rattle.filing_model.specs.Calls as call;
+ghost use Rattle.filing_model.specs.Calls.{report_of_call};
+ghost use Rattle.filing_model.specs.Repository.{report_at};
+ghost use Rattle.oim_fact.specs.Texts.{text_view};
+ghost use Rattle.filing_step.specs.Asked.{asked_of};
+ghost use Rattle.filing_step.specs.Steps.{call_of, reply_of, thing_of};
+ghost use Rattle.filing_version.specs.Filed.{repository_in};
+ghost use Rattle.filing_session.specs.States.{opened, with_thing};
+ghost use Rattle.filing_session.specs.Effects.{effect_in, effect_on, effect_of, with_effect};
+ghost use Rattle.filing_session.specs.Held.{Answers};
+ghost use Rattle.filing_model.specs.Sessions.{may_make};
+
+use crate::ready::{Next, Ready, Staged};
+use crate::{looks, pages, stages};
+use filing_model::Kind;
+use filing_step::{Asked, Call, Limit, Reply, Sought, Thing};
+use filing_version::{Change, RepoVersion};
+use indexmap::IndexSet;
+use oim_fact::{Allowed, DimSet, RawFact};
+use std::alloc::{AllocError, Global};
+use std::marker::Model;
+use std::sync::Arc;
+
+/// An open session. Contracts see its state as its calls leave it, and whether there is room for one more thing read.
+#[derive(Drop)]
+pub struct Session {
+    alloc: Global,
+    kind: Kind,
+    base: Arc<RepoVersion>,
+    /// The base with what is staged in it.
+    copy: Arc<RepoVersion>,
+    change: Change,
+    reads: IndexSet<Thing>,
+}
+
+impl Model for Session {
+    ghost use Rattle.filing_session.specs.Held.{OpenSession};
+
+    ghost Value = { OpenSession };
+
+    ghost use Rattle.std.specs.Prelude.{map, nat_lt};
+    ghost use Rattle.std.specs.Arc.{arc_value};
+    ghost use Rattle.indexmap.specs.IndexSet.{spare};
+    ghost use Rattle.filing_step.specs.Steps.{thing_of};
+    ghost use Rattle.filing_version.specs.Filed.{repository_in};
+
+    ghost view = { λ s. record {
+      state = record {
+        kind = s.kind;
+        base = repository_in (arc_value s.base);
+        copy = repository_in (arc_value s.copy);
+        change = s.change;
+        reads = map thing_of s.reads.keys;
+      };
+      has_room = nat_lt 0 (spare s.reads);
+    } };
+}
+
+/// Whether a session of this kind may make a call: a review may not change anything.
+fn may_make(kind: Kind, call: &Call) -> bool
+    ensures { result ≡ may_make kind (call_of call.now) }
+{
+    match kind {
+        Kind::Amend => true,
+        Kind::Review => match call {
+            Call::Get(..) | Call::Cell(..) | Call::Page(..) | Call::Declared(..) => true,
+            Call::Add(..) | Call::Remove(..) | Call::Declare(..) => false,
+        },
+    }
+}
+
+/// Makes the growths of a call that may be made.
+fn made(alloc: Global, copy: &RepoVersion, change: &Change, call: Call) -> Result<Ready, AllocError>
+    ensures { IfOk result (λ r. r ≡ effect_in (call_of call) (repository_in copy.now) change.now
+        (report_at (repository_in copy.now) (report_of_call (call_of call)))) }
+{
+    match call {
+        Call::Get(report, id) => looks::get(copy, report, id),
+        Call::Cell(report, dims) => looks::cell(alloc, copy, report, dims),
+        Call::Page(report, sought, limit) => pages::page(alloc, copy, report, sought, limit),
+        Call::Add(report, id, fact) => stages::add(alloc, copy, change, report, id, fact),
+        Call::Remove(report, id) => stages::remove(alloc, copy, change, report, id),
+        Call::Declared(report) => Ok(looks::declared(copy, report)),
+        Call::Declare(report, allowed) => stages::declare(alloc, copy, change, report, allowed),
+    }
+}
+
+/// Makes the growths of a call.
+fn effect(
+    alloc: Global,
+    kind: Kind,
+    copy: &RepoVersion,
+    change: &Change,
+    call: Call,
+) -> Result<Ready, AllocError>
+    ensures { IfOk result (λ r. r ≡ effect_of kind (call_of call) (repository_in copy.now) change.now) }
+{
+    if may_make(kind, &call) {
+        made(alloc, copy, change, call)
+    } else {
+        Ok(Ready::read_only())
+    }
+}
+
+/// Enters a thing that was read behind the others, unless it is among them. There is room for it.
+fn enter(reads: &mut IndexSet<Thing>, thing: Option<Thing>)
+    requires { 0 < spare reads.old }
+    ensures { map thing_of reads.new.keys ≡ with_thing (map thing_of reads.old.keys) (option_map thing_of thing) }
+{
+    if let Some(thing) = thing {
+        match reads.insert(thing) {
+            Ok(_) => {}
+            Err(_) => unreachable!(),
+        }
+    }
+}
+
+/// The copy and the change with what is staged take the place of those of the session.
+fn put_in_place(copy: &mut Arc<RepoVersion>, change: &mut Change, staged: Option<Staged>)
+    ensures copied { repository_in (arc_value copy.new) ≡ option_map_or (λ s. s.0) staged (repository_in (arc_value copy.old)) }
+    ensures changed { change.new ≡ option_map_or (λ s. s.1) staged change.old }
+{
+    if let Some(staged) = staged {
+        let Staged {
+            copy: changed,
+            next,
+        } = staged;
+        *copy = changed;
+        match next {
+            Next::Put(ready) => change.take(ready),
+            Next::Declare(ready) => change.take_declare(ready),
+        }
+    }
+}
+
+impl Session {
+    /// A session at this version.
+    pub fn open(alloc: Global, kind: Kind, base: Arc<RepoVersion>) -> Result<Session, AllocError>
+        ensures { IfOk result (λ s. s.state ≡ opened kind (repository_in (arc_value base))) }
+    {
+        let copy = Arc::try_clone(&base)?;
+        Ok(Session {
+            alloc,
+            kind,
+            base,
+            copy,
+            change: Change::new(alloc),
+            reads: IndexSet::new(alloc),
+        })
+    }
+
+    pub fn kind(&self) -> Kind
+        ensures { result ≡ self.now.state.kind }
+    {
+        self.kind
+    }
+
+    /// The version of its opening.
+    pub fn base(&self) -> &Arc<RepoVersion>
+        ensures { repository_in (arc_value result.now) ≡ self.now.state.base }
+    {
+        &self.base
+    }
+
+    /// The things that it has read, in the order in which it first read each.
+    pub fn reads(&self) -> &IndexSet<Thing>
+        ensures { map thing_of result.now.keys ≡ self.now.state.reads }
+    {
+        &self.reads
+    }
+
+    /// What it has staged.
+    pub fn change(&self) -> &Change
+        ensures { result.now ≡ self.now.state.change }
+    {
+        &self.change
+    }
+
+    /// Makes all growths of a call. No reply changes, and nothing is read or staged.
+    pub fn ready(&mut self, call: Call) -> Result<Ready, AllocError>
+        ensures effect { IfOk result (λ r. r ≡ effect_on (call_of call) self.old.state) }
+        ensures room { OnOk result (self.new.has_room ≡ true) }
+        ensures state { self.new.state ≡ self.old.state }
+    {
+        self.reads.reserve(1)?;
+        effect(self.alloc, self.kind, &self.copy, &self.change, call)
+    }
+
+    /// Does what is ready. It takes no memory. Where nothing but readers was called since it was made ready, this is the call (`each_effect_is_its_call`).
+    pub fn take(&mut self, ready: Ready) -> Reply
+        requires { self.old.has_room ≡ true }
+        ensures reply { reply_of result ≡ ready.reply }
+        ensures state { self.new.state ≡ with_effect ready self.old.state }
+    {
+        let Ready {
+            reply,
+            thing,
+            staged,
+        } = ready;
+        enter(&mut self.reads, thing);
+        put_in_place(&mut self.copy, &mut self.change, staged);
+        reply
+    }
+
+    /// Makes a call.
+    pub fn call(&mut self, call: Call) -> Result<Reply, AllocError>
+        ensures { Answers (call_of call) self.old.state self.new.state result }
+    {
+        let ready = self.ready(call)?;
+        Ok(self.take(ready))
+    }
+
+    /// The fact of an identifier.
+    pub fn get(&mut self, report: String, id: String) -> Result<Reply, AllocError>
+        ensures { Answers (call.Get (string_bytes report) (string_bytes id)) self.old.state self.new.state result }
+    {
+        self.call(Call::Get(report, id))
+    }
+
+    /// The class of a cell, and the identifiers of its facts.
+    pub fn cell(&mut self, report: String, dims: DimSet) -> Result<Reply, AllocError>
+        ensures { Answers (call.Cell (string_bytes report) dims) self.old.state self.new.state result }
+    {
+        self.call(Call::Cell(report, dims))
+    }
+
+    /// The first identifiers, as many as the limit, of the facts with a concept and a period that is asked for; those that are greater than one, where one is given.
+    pub fn page(
+        &mut self,
+        report: String,
+        concept: String,
+        period: Asked,
+        after: Option<String>,
+        limit: Limit,
+    ) -> Result<Reply, AllocError>
+        ensures { Answers (call.Page (string_bytes report) (record {
+          concept = string_bytes concept;
+          period = asked_of period;
+          after = text_view after;
+        }) limit) self.old.state self.new.state result }
+    {
+        let sought = Sought {
+            concept,
+            period,
+            after,
+        };
+        self.call(Call::Page(report, sought, limit))
+    }
+
+    /// A fact goes under an identifier that is not there.
+    pub fn add(&mut self, report: String, id: String, fact: RawFact) -> Result<Reply, AllocError>
+        ensures { Answers (call.Add (string_bytes report) (string_bytes id) fact) self.old.state self.new.state result }
+    {
+        self.call(Call::Add(report, id, fact))
+    }
+
+    /// The fact of an identifier goes away.
+    pub fn remove(&mut self, report: String, id: String) -> Result<Reply, AllocError>
+        ensures { Answers (call.Remove (string_bytes report) (string_bytes id)) self.old.state self.new.state result }
+    {
+        self.call(Call::Remove(report, id))
+    }
+
+    /// The allowed duplicates that a report declares.
+    pub fn declared(&mut self, report: String) -> Result<Reply, AllocError>
+        ensures { Answers (call.Declared (string_bytes report)) self.old.state self.new.state result }
+    {
+        self.call(Call::Declared(report))
+    }
+
+    /// A report declares these allowed duplicates from now on.
+    pub fn declare(&mut self, report: String, allowed: Allowed) -> Result<Reply, AllocError>
+        ensures { Answers (call.Declare (string_bytes report) allowed) self.old.state self.new.state result }
+    {
+        self.call(Call::Declare(report, allowed))
+    }
+}
