@@ -5,7 +5,7 @@ use crate::steps::take;
 use anyhow::Result;
 use filing_cli::reply_text;
 use filing_core::{Core, CoreFault, Reply, Step};
-use filing_model::{class_by_pairs, least_disallowed_by_pairs};
+use filing_model::{Class, class_by_pairs, least_disallowed_by_pairs};
 use oim_fact::{DimSet, Fact, NumericTable};
 use oim_report::{Report, push_comma, read_report};
 use std::alloc::{AllocError, Global};
@@ -71,20 +71,56 @@ fn all_held(alloc: Global, facts: &[(String, Arc<Fact>)]) -> Result<Vec<Held>, A
     Ok(all)
 }
 
-/// The refusal for the cell of some facts with these dimensions.
-fn refusal(alloc: Global, dims: &DimSet, facts: &[(String, Arc<Fact>)]) -> Result<Reply> {
-    let mut ids = Vec::new(alloc);
+/// The facts with these dimensions.
+fn held_in(
+    alloc: Global,
+    dims: &DimSet,
+    facts: &[(String, Arc<Fact>)],
+) -> Result<Vec<Held>, AllocError> {
     let mut cell = Vec::new(alloc);
-    for (id, fact) in facts {
+    for (_, fact) in facts {
         if fact.dims == *dims {
-            ids.push(id.clone()?)?;
             cell.push(Held {
                 fact: fact.clone()?,
             })?;
         }
     }
+    Ok(cell)
+}
+
+/// Their class.
+fn class_in(
+    alloc: Global,
+    dims: &DimSet,
+    facts: &[(String, Arc<Fact>)],
+) -> Result<Class, AllocError> {
+    Ok(class_by_pairs(&held_in(alloc, dims, facts)?))
+}
+
+/// Their identifiers.
+fn ids_in(
+    alloc: Global,
+    dims: &DimSet,
+    facts: &[(String, Arc<Fact>)],
+) -> Result<Vec<String>, AllocError> {
+    let mut ids = Vec::new(alloc);
+    for (id, fact) in facts {
+        if fact.dims == *dims {
+            ids.push(id.clone()?)?;
+        }
+    }
+    Ok(ids)
+}
+
+/// The refusal for the cell of some facts with these dimensions.
+fn refusal(
+    alloc: Global,
+    dims: &DimSet,
+    facts: &[(String, Arc<Fact>)],
+) -> Result<Reply, AllocError> {
+    let class = class_in(alloc, dims, facts)?;
     let name = String::from_str(alloc, "r1")?;
-    Ok(Reply::Disallowed(name, class_by_pairs(&cell), ids))
+    Ok(Reply::Disallowed(name, class, ids_in(alloc, dims, facts)?))
 }
 
 /// The place of the first fact of the least cell that a report does not allow, by all pairs.
@@ -94,7 +130,7 @@ fn least_place(alloc: Global, report: &Report) -> Result<Option<usize>, AllocErr
 }
 
 /// The reply to a first load of a report, by all pairs of its facts.
-fn reply_by_pairs(alloc: Global, report: &Report) -> Result<Reply> {
+fn reply_by_pairs(alloc: Global, report: &Report) -> Result<Reply, AllocError> {
     let Some(place) = least_place(alloc, report)? else {
         return Ok(Reply::Loaded(1));
     };
@@ -111,36 +147,83 @@ fn load(alloc: Global, report: Report) -> Result<Reply, CoreFault> {
     take(alloc, &mut core, None, Step::Load(name, report))
 }
 
-/// Whether the report of a text is loaded, where both replies are the same.
-fn is_loaded(alloc: Global, table: &Arc<NumericTable>, text: &str) -> Result<Option<bool>> {
-    let report = read_report(alloc, text.as_bytes(), table)?;
-    let expected = reply_by_pairs(alloc, &report)?;
-    let reply = load(alloc, report)?;
-    let same = is_same_line(alloc, &expected, &reply)?;
-    Ok(same.then_some(matches!(reply, Reply::Loaded(_))))
-}
-
 fn is_same_line(alloc: Global, one: &Reply, other: &Reply) -> Result<bool, AllocError> {
     let line = reply_text(alloc, one)?;
     Ok(line.as_str() == reply_text(alloc, other)?.as_str())
 }
 
-/// How many of some drawn reports have another refusal by all pairs, and which declared words were obeyed and which were not.
-pub(crate) fn drawn_loads(alloc: Global, table: &Arc<NumericTable>) -> Result<String> {
+/// What is seen of a load.
+#[derive(Clone, Copy)]
+enum Seen {
+    Loaded,
+    Refused,
+    Differing,
+}
+
+/// What is seen of the load of a report, where this is the reply by all pairs.
+fn seen_of(alloc: Global, report: Report, expected: &Reply) -> Result<Seen> {
+    let reply = load(alloc, report)?;
+    Ok(match (is_same_line(alloc, expected, &reply)?, reply) {
+        (false, _) => Seen::Differing,
+        (true, Reply::Loaded(_)) => Seen::Loaded,
+        (true, _) => Seen::Refused,
+    })
+}
+
+/// What is seen of the load of the report of a text.
+fn seen_of_text(alloc: Global, table: &Arc<NumericTable>, text: &str) -> Result<Seen> {
+    let report = read_report(alloc, text.as_bytes(), table)?;
+    let expected = reply_by_pairs(alloc, &report)?;
+    seen_of(alloc, report, &expected)
+}
+
+/// What is seen of the load of a drawn report that declares a word.
+fn seen_of_drawn(alloc: Global, table: &Arc<NumericTable>, word: &str, seed: u64) -> Result<Seen> {
+    let text = drawn_text(alloc, word, seed)?;
+    seen_of_text(alloc, table, &text)
+}
+
+/// What was seen of all loads, by the word that was declared.
+#[derive(Clone, Copy)]
+struct Tally {
+    differing: u64,
+    refused: [bool; 4],
+    loaded: [bool; 4],
+}
+
+impl Tally {
+    fn count(&mut self, kind: usize, seen: Seen) {
+        match seen {
+            Seen::Loaded => self.loaded[kind % 4] = true,
+            Seen::Refused => self.refused[kind % 4] = true,
+            Seen::Differing => self.differing = self.differing.saturating_add(1),
+        }
+    }
+}
+
+/// What is seen of 600 drawn reports.
+fn tally_of_loads(alloc: Global, table: &Arc<NumericTable>) -> Result<Tally> {
+    let mut tally = Tally {
+        differing: 0,
+        refused: [false; 4],
+        loaded: [false; 4],
+    };
     let mut seed = 20_260_301;
-    let mut differing = 0u64;
-    let mut refused = [false; 4];
-    let mut loaded = [false; 4];
     for _ in 0..600 {
         seed = next(seed);
         let kind = (seed >> 56) as usize % 4;
-        let text = drawn_text(alloc, ALLOWED[kind], seed)?;
-        match is_loaded(alloc, table, &text)? {
-            Some(true) => loaded[kind] = true,
-            Some(false) => refused[kind] = true,
-            None => differing = differing.saturating_add(1),
-        }
+        tally.count(kind, seen_of_drawn(alloc, table, ALLOWED[kind], seed)?);
     }
+    Ok(tally)
+}
+
+/// How many of some drawn reports have another refusal by all pairs, and which declared words were obeyed and which were not.
+pub(crate) fn drawn_loads(alloc: Global, table: &Arc<NumericTable>) -> Result<String> {
+    let Tally {
+        differing,
+        refused,
+        loaded,
+    } = tally_of_loads(alloc, table)?;
     Ok(format!(in alloc;
         "600 drawn reports, {differing} differ, refused: {refused:?}, loaded: {loaded:?}"
     )?)
