@@ -34,7 +34,7 @@ pub(crate) fn fact_of(put: &Option<Held>) -> Option<&Arc<Fact>>
 }
 
 /// A fact that is put, or none.
-fn held_of(alloc: Global, fact: Option<Arc<Fact>>) -> Result<Option<Held>, AllocError>
+pub(crate) fn held_of(alloc: Global, fact: Option<Arc<Fact>>) -> Result<Option<Held>, AllocError>
     ensures { IfOk result (λ put. put ≡ option_map arc_value fact) }
 {
     match fact {

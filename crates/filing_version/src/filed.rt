@@ -14,7 +14,7 @@ ghost use Rattle.filing_index.specs.Moves.{Part, moves_of, stamped_by, with_chan
 ghost use Rattle.filing_index.specs.Stamps.{stamp_in};
 ghost use Rattle.filing_version.specs.Filed.{filed_of, newly_filed, changed_filed};
 
-use crate::changed_report::ChangedReport;
+use crate::changed_report::{ChangedReport, held_of};
 use filing_index::{Facts, Stamps};
 use filing_pages::{Held, Keyring, Named, TextPages};
 use oim_fact::{Allowed, DimSet, Fact, Names};
@@ -194,7 +194,7 @@ impl FiledReport {
             ≡ with_changes ((string_bytes id, option_map arc_value fact) ∷ []) self.now.report.facts) }
     {
         let nothing: TextPages<Option<Held>> = TextPages::new(alloc);
-        let put = nothing.with(alloc, id, fact.map(Held::of))?;
+        let put = nothing.with(alloc, id, held_of(alloc, fact)?)?;
         let moves = self.facts.moves(alloc, &put)?;
         self.facts.after(alloc, &moves)
     }
