@@ -2,3 +2,4 @@
 pub mod Asked
 pub mod Steps
 pub mod Overlap
+pub mod Ordered
