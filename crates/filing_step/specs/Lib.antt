@@ -1,5 +1,4 @@
--- What the types of steps, calls and replies are seen as, and which sessions may overlap.
+-- What the types of steps, calls and replies are seen as.
 pub mod Asked
 pub mod Steps
-pub mod Overlap
 pub mod Ordered

@@ -1,6 +1,6 @@
 //! The steps of a repository and what they are answered: the words in which a core, its history and the lines of a script speak of it.
 //!
-//! `kind` is what a session may do, `step` a step, `reply` what it is answered, and `entry` a step that was taken, with its session and its reply. `call` is what a session may be asked, with what a page looks for in `asked` and how much of it in `limit`; `thing` is what a session reads and a commit touches, `compared_things` tells whether two are equal and hashes one, and `ordered_things` how two stand.
+//! `step` is a step, `reply` what it is answered, and `entry` a step that was taken, with its session and its reply. `call` is what a session may be asked, with what a page looks for in `asked` and how much of it in `limit`; `thing` is what a session reads and a commit touches, `compared_things` tells whether two are equal and hashes one, and `ordered_things` how two stand.
 //!
 //! The crate knows nothing of how a step is answered: nothing of versions, of open sessions or of a core. Nor does it know JSON.
 #![tactic(auto)]
@@ -9,7 +9,6 @@ mod asked;
 mod call;
 mod compared_things;
 mod entry;
-mod kind;
 mod limit;
 mod ordered_things;
 mod reply;
@@ -19,7 +18,7 @@ mod thing;
 pub use asked::{Asked, Sought};
 pub use call::Call;
 pub use entry::Entry;
-pub use kind::Kind;
+pub use filing_model::Kind;
 pub use limit::Limit;
 pub use reply::Reply;
 pub use step::Step;

@@ -6,7 +6,7 @@ ghost use Rattle.filing_model.specs.Calls.{is_limit, limit_of};
 use std::marker::Model;
 
 /// A number from 1 to 1,000.
-#[derive(Drop)]
+#[derive(Drop, Clone, Copy)]
 pub struct Limit {
     number: u64,
     ghost within: { T (is_limit number) },
@@ -18,6 +18,8 @@ impl Model for Limit {
     ghost Value = { PlainLimit };
 
     ghost view = { λ l. record { number = l.number; within = l.within } };
+
+    ghost inverse = { λ n. record { number = n.number; within = n.within } };
 }
 
 impl Limit {
