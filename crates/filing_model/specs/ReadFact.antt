@@ -6,10 +6,11 @@ use Rattle.serde_json.specs.Written.{has_float, compact_text}
 use Rattle.filing_model.specs.Text.{Text}
 use Rattle.filing_model.specs.Try.{◌>>=◌, each, map_err}
 use Rattle.filing_model.specs.JsonText.{pairs, as_nullable}
-use Rattle.filing_model.specs.Dimensions.{dims_of}
+use Rattle.filing_model.specs.Dimensions.{Dims, dims_of}
 use Rattle.filing_model.specs.Facts.{RawFact}
 use Rattle.filing_model.specs.declared.faults.Trouble.{Trouble}
-use Rattle.filing_model.specs.declared.faults.Trouble.TheVariants.{WrongShape, NotWhole, Dims}
+use Rattle.filing_model.specs.declared.faults.Trouble.TheVariants as trouble
+use Rattle.filing_model.specs.declared.faults.Trouble.TheVariants.{WrongShape, NotWhole}
 
 -- a dimension's name with its value, a text or null
 abbrev pub dim_of : Text × Data → Result (Text × Option Text) Trouble
@@ -22,6 +23,13 @@ abbrev pub named_dims : Data → Result (List (Text × Option Text)) Trouble
 named_dims d = do
   members ← ok_or (option_and_then as_object (get (codes "dimensions") d)) WrongShape
   each dim_of (pairs members)
+
+-- dimensions that stand alone, or the first fault
+abbrev pub dims_read : Data → Result Dims Trouble
+dims_read d = do
+  members ← ok_or (as_object d) WrongShape
+  named ← each dim_of (pairs members)
+  map_err trouble.Dims (dims_of named)
 
 -- null decimals are the same as none
 abbrev pub decimals_of : Option Data → Result (Option ℤ) Trouble
@@ -45,5 +53,5 @@ raw_fact_of d = do
   value ← ok_or (option_and_then as_nullable (get (codes "value") d)) WrongShape
   decimals ← decimals_of (get (codes "decimals") d)
   links ← links_of (get (codes "links") d)
-  dims ← map_err Dims (dims_of named)
+  dims ← map_err trouble.Dims (dims_of named)
   Ok (record { dims = dims; value = value; decimals = decimals; links = links })

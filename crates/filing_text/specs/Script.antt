@@ -1,28 +1,29 @@
 -- The output of a script by a numeric table: a reply to each line that is not blank, with the history so far and the names in use carried from line to line. All of it is the project's own.
-use Rattle.std.specs.Prelude.{ℕ, ◌+◌, Bool, true, false, if◌then◌else◌, List, [], Option, Some, None, is_some, option_and_then, Result, Ok, Err}
-use Rattle.std.specs.List.{list_any}
+use Rattle.std.specs.Prelude.{ℕ, ◌+◌, if◌then◌else◌, List, [], Option, Some, None, is_some, option_and_then, Result, Ok, Err, result_map}
 use Rattle.std.specs.Option.{option_map_or}
 use Rattle.serde_json.specs.Data.{Data, string}
 use Rattle.filing_model.specs.TextMap.{TextMap, empty, get, insert, remove}
 use Rattle.filing_model.specs.JsonText.{json_of}
-use Rattle.filing_model.specs.Facts.{RawFact, Table}
+use Rattle.filing_model.specs.Facts.{Table}
 use Rattle.filing_model.specs.Reports.{Report}
 use Rattle.filing_model.specs.Repository.{report_at}
 use Rattle.filing_model.specs.Replies.{NoReport}
-use Rattle.filing_model.specs.ReadFact.{raw_fact_of}
+use Rattle.filing_model.specs.Try.{map_err}
+use Rattle.filing_model.specs.ReadFact.{raw_fact_of, dims_read}
 use Rattle.filing_model.specs.ReadReport.{ReportFault, report_of, read_report_of}
 use Rattle.filing_model.specs.Calls as call
 use Rattle.filing_model.specs.Calls.{Call}
 use Rattle.filing_model.specs.History as step
-use Rattle.filing_model.specs.History.{Step, History, Status, Unknown, Live, Ended, repository, status_of}
+use Rattle.filing_model.specs.History.{Step, History, repository}
 use Rattle.filing_model.specs.Lawful.{openings, next_reply, after_step}
-use Rattle.filing_model.specs.declared.kind.Kind.TheVariants.{Amend}
+use Rattle.filing_model.specs.declared.kind.Kind.{Kind}
 use Rattle.filing_model.specs.declared.faults.Trouble.{Trouble}
+use Rattle.filing_model.specs.declared.faults.Trouble.TheVariants as trouble
 use Rattle.filing_model.specs.Text.{Text}
 use Rattle.line_run.specs.Lines.{lines_of, spoken, lines_text}
 use Rattle.line_run.specs.Run.{replies_by, state_after}
 use Rattle.filing_text.specs.ReplyText.{reply_text, bad_line_text, name_in_use_text, no_session_text, bad_report_text, bad_fact_text, exported_text}
-use Rattle.filing_text.specs.ScriptLines.{Line, Load, Open, Get, Add, Commit, Close, Export, line_of}
+use Rattle.filing_text.specs.ScriptLines.{Asking, Get, Cell, Page, Add, Remove, Declared, Declare, Line, Load, Open, Ask, Commit, Close, Export, line_of}
 
 -- the numeric table that reports are read by, the history so far, newest entry first, and the names in use with the numbers of their sessions
 pub record State : Type 0 where
@@ -41,40 +42,39 @@ pub data Ruling : Type 0 where
   Told : Text → Ruling
   Due : Option ℕ → Step → TextMap ℕ → Ruling
 
-abbrev pub is_live : Status → Bool
-is_live Unknown = false
-is_live (Live kind) = true
-is_live Ended = false
-
--- whether a session is open: one of those that the entries are of
-abbrev pub some_open : History → List step.Entry → Bool
-some_open h entries = list_any (λ e. option_map_or (λ s. is_live (status_of s h)) e.session false) entries
-
-abbrev pub is_busy : History → Bool
-is_busy h = some_open h h
-
--- while sessions may not overlap, a load or an opening has no place where a session is open
-abbrev pub judged_alone : State → Ruling → Ruling
-judged_alone state ruling = if is_busy state.history then Told bad_line_text else ruling
-
 abbrev pub judged_load : State → Text → Result Report ReportFault → Ruling
 judged_load state name (Err fault) = Told (bad_report_text fault)
-judged_load state name (Ok r) = judged_alone state (Due None (step.Load name r) state.names)
+judged_load state name (Ok r) = Due None (step.Load name r) state.names
 
 -- the name will be that of the next session
-abbrev pub judged_open : State → Text → Ruling
-judged_open state session =
+abbrev pub judged_open : State → Text → Kind → Ruling
+judged_open state session kind =
     if is_some (get state.names session) then Told name_in_use_text
-    else judged_alone state (Due None (step.Open Amend) (insert state.names session (openings state.history + 1)))
+    else Due None (step.Open kind) (insert state.names session (openings state.history + 1))
 
 -- a call of the session that has the name
 abbrev pub judged_call : State → Text → Call → Ruling
 judged_call state session c = option_map_or (λ number. Due (Some number) (step.Ask c) state.names)
     (get state.names session) (Told no_session_text)
 
-abbrev pub judged_add : State → Text → Text → Text → Result RawFact Trouble → Ruling
-judged_add state session name id (Err fault) = Told (bad_fact_text fault)
-judged_add state session name id (Ok raw) = judged_call state session (call.Add name id raw)
+-- how dimensions are refused in reading. A line whose dimensions are not texts and nulls is none of the kinds
+abbrev pub bad_dims_text : Trouble → Text
+bad_dims_text trouble.WrongShape = bad_line_text
+bad_dims_text fault = bad_fact_text fault
+
+-- the call that is asked for, or how its parts are refused in reading
+abbrev pub call_read : Asking → Result Call Text
+call_read (Get name id) = Ok (call.Get name id)
+call_read (Cell name d) = map_err bad_dims_text (result_map (call.Cell name) (dims_read d))
+call_read (Page name sought limit) = Ok (call.Page name sought limit)
+call_read (Add name id d) = map_err bad_fact_text (result_map (call.Add name id) (raw_fact_of d))
+call_read (Remove name id) = Ok (call.Remove name id)
+call_read (Declared name) = Ok (call.Declared name)
+call_read (Declare name allowed) = Ok (call.Declare name allowed)
+
+abbrev pub judged_asking : State → Text → Result Call Text → Ruling
+judged_asking state session (Err text) = Told text
+judged_asking state session (Ok c) = judged_call state session c
 
 -- a step that ends the session and frees its name
 abbrev pub judged_end : State → Text → Step → Ruling
@@ -94,9 +94,8 @@ judged_export state name =
 
 abbrev pub judged_line : State → Line → Ruling
 judged_line state (Load name r) = judged_load state name (report_in state.table r)
-judged_line state (Open session) = judged_open state session
-judged_line state (Get session name id) = judged_call state session (call.Get name id)
-judged_line state (Add session name id fact) = judged_add state session name id (raw_fact_of fact)
+judged_line state (Open session kind) = judged_open state session kind
+judged_line state (Ask session asking) = judged_asking state session (call_read asking)
 judged_line state (Commit session) = judged_end state session step.Commit
 judged_line state (Close session) = judged_end state session step.Close
 judged_line state (Export name) = judged_export state name

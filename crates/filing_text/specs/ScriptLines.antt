@@ -1,16 +1,31 @@
--- The lines of a script that are taken today. All of it is the project's own.
-use Rattle.std.specs.Prelude.{ℕ, if◌then◌else◌, ◌||◌, codes, Option, Some, None, is_some, option_and_then}
-use Rattle.serde_json.specs.Data.{Data}
-use Rattle.serde_json.specs.Find.{at, as_str, as_object}
+-- The lines of a script. All of it is the project's own.
+use Rattle.std.specs.Prelude.{ℕ, ◌+◌, true, false, if◌then◌else◌, ◌||◌, codes, Option, Some, None, is_some, option_and_then}
+use Rattle.serde_json.specs.Data.{Data, null, boolean, string}
+use Rattle.serde_json.specs.Find.{at, as_str, as_number, as_u64, as_object}
 use Rattle.filing_model.specs.Text.{text_eq}
 use Rattle.filing_model.specs.Text.{Text}
+use Rattle.filing_model.specs.JsonText.{as_nullable}
+use Rattle.filing_model.specs.ReadReport.{allowed_of_word}
+use Rattle.filing_model.specs.Calls.{Asked, Any, Without, Exactly, Sought, Limit, limit_of}
+use Rattle.filing_model.specs.declared.duplicates.Allowed.{Allowed}
+use Rattle.filing_model.specs.declared.kind.Kind.{Kind}
+use Rattle.filing_model.specs.declared.kind.Kind.TheVariants.{Review, Amend}
 
--- a line by its kind, with its parts. Each session is named as the script names it; the report of a load and the fact of an addition are not read yet
+-- what a line asks of a session, with its parts. The dimensions of a cell and the fact of an addition are not read yet
+pub data Asking : Type 0 where
+  Get : Text → Text → Asking
+  Cell : Text → Data → Asking
+  Page : Text → Sought → Limit → Asking
+  Add : Text → Text → Data → Asking
+  Remove : Text → Text → Asking
+  Declared : Text → Asking
+  Declare : Text → Allowed → Asking
+
+-- a line by its kind, with its parts. Each session is named as the script names it; the report of a load is not read yet
 pub data Line : Type 0 where
   Load : Text → Data → Line
-  Open : Text → Line
-  Get : Text → Text → Text → Line
-  Add : Text → Text → Text → Data → Line
+  Open : Text → Kind → Line
+  Ask : Text → Asking → Line
   Commit : Text → Line
   Close : Text → Line
   Export : Text → Line
@@ -46,19 +61,72 @@ load_of d = do
   report ← report_part_at 2 d
   ended_at 3 d (Load name report)
 
--- a session may be opened to amend
+-- ---- what a session is opened for
+
+abbrev pub kind_of_word : Text → Option Kind
+kind_of_word word =
+    if text_eq word (codes "review") then Some Review
+    else if text_eq word (codes "amend") then Some Amend
+    else None
+
 abbrev pub open_of : Data → Option Line
 open_of d = do
   session ← text_at 1 d
-  kind ← text_at 2 d
-  if text_eq kind (codes "amend") then ended_at 3 d (Open session) else None
+  kind ← option_and_then kind_of_word (text_at 2 d)
+  ended_at 3 d (Open session kind)
+
+-- ---- what is asked of a session
+
+-- a text or null
+abbrev pub nullable_at : ℕ → Data → Option (Option Text)
+nullable_at place d = option_and_then as_nullable (at place d)
+
+-- true for any period, null for none, or a text
+abbrev pub as_asked : Data → Option Asked
+as_asked (boolean true) = Some Any
+as_asked (boolean false) = None
+as_asked null = Some Without
+as_asked (string period) = Some (Exactly period)
+as_asked d = None
+
+abbrev pub asked_at : ℕ → Data → Option Asked
+asked_at place d = option_and_then as_asked (at place d)
+
+-- a whole number from 1 to 1,000
+abbrev pub limit_at : ℕ → Data → Option Limit
+limit_at place d = do
+  number ← option_and_then as_number (at place d)
+  whole ← as_u64 number
+  limit_of whole
 
 abbrev pub get_of : Data → Option Line
 get_of d = do
   session ← text_at 1 d
   report ← text_at 2 d
   id ← text_at 3 d
-  ended_at 4 d (Get session report id)
+  ended_at 4 d (Ask session (Get report id))
+
+abbrev pub cell_of : Data → Option Line
+cell_of d = do
+  session ← text_at 1 d
+  report ← text_at 2 d
+  dims ← object_at 3 d
+  ended_at 4 d (Ask session (Cell report dims))
+
+abbrev pub sought_at : ℕ → Data → Option Sought
+sought_at place d = do
+  concept ← text_at place d
+  period ← asked_at (place + 1) d
+  after ← nullable_at (place + 2) d
+  Some (record { concept = concept; period = period; after = after })
+
+abbrev pub page_of : Data → Option Line
+page_of d = do
+  session ← text_at 1 d
+  report ← text_at 2 d
+  sought ← sought_at 3 d
+  limit ← limit_at 6 d
+  ended_at 7 d (Ask session (Page report sought limit))
 
 abbrev pub add_of : Data → Option Line
 add_of d = do
@@ -66,7 +134,29 @@ add_of d = do
   report ← text_at 2 d
   id ← text_at 3 d
   fact ← object_at 4 d
-  ended_at 5 d (Add session report id fact)
+  ended_at 5 d (Ask session (Add report id fact))
+
+abbrev pub remove_of : Data → Option Line
+remove_of d = do
+  session ← text_at 1 d
+  report ← text_at 2 d
+  id ← text_at 3 d
+  ended_at 4 d (Ask session (Remove report id))
+
+abbrev pub declared_of : Data → Option Line
+declared_of d = do
+  session ← text_at 1 d
+  report ← text_at 2 d
+  ended_at 3 d (Ask session (Declared report))
+
+abbrev pub declare_of : Data → Option Line
+declare_of d = do
+  session ← text_at 1 d
+  report ← text_at 2 d
+  allowed ← option_and_then allowed_of_word (text_at 3 d)
+  ended_at 4 d (Ask session (Declare report allowed))
+
+-- ---- the end of a session, and what is exported
 
 abbrev pub commit_of : Data → Option Line
 commit_of d = do
@@ -83,17 +173,29 @@ export_of d = do
   name ← text_at 1 d
   ended_at 2 d (Export name)
 
--- by the first text
+-- ---- by the first text
+
+-- a line that asks something of a session
+abbrev pub asking_of_word : Text → Data → Option Line
+asking_of_word word d =
+    if text_eq word (codes "get") then get_of d
+    else if text_eq word (codes "cell") then cell_of d
+    else if text_eq word (codes "page") then page_of d
+    else if text_eq word (codes "add") then add_of d
+    else if text_eq word (codes "remove") then remove_of d
+    else if text_eq word (codes "declared") then declared_of d
+    else if text_eq word (codes "declare") then declare_of d
+    else None
+
+-- any line
 abbrev pub line_of_word : Text → Data → Option Line
 line_of_word word d =
     if text_eq word (codes "load") then load_of d
     else if text_eq word (codes "open") then open_of d
-    else if text_eq word (codes "get") then get_of d
-    else if text_eq word (codes "add") then add_of d
     else if text_eq word (codes "commit") then commit_of d
     else if text_eq word (codes "close") then close_of d
     else if text_eq word (codes "export") then export_of d
-    else None
+    else asking_of_word word d
 
 -- the line that a JSON value is, where it is one of these by its length, its first text and the kinds of its parts
 unfoldable pub line_of : Data → Option Line

@@ -8,7 +8,7 @@
 mod line;
 mod texts;
 
-pub use line::{Line, line_of, taken_at};
+pub use line::{Asking, Line, Period, line_of, taken_at};
 pub use texts::{
     bad_fact_reply, bad_line_reply, bad_report_reply, exported_reply, exported_reply_of,
     name_in_use_reply, no_session_reply, reply_text,

@@ -1,15 +1,65 @@
 //! `Line`: a line of a script by its kind, read from JSON without a copy of its parts.
 
-ghost use Rattle.std.specs.Prelude.{◌≡◌, codes, is_some, IsSome, Some, option_map, option_copied};
+ghost use Rattle.std.specs.Prelude.{◌≡◌, codes, is_some, IsSome, Some, option_map, option_copied, option_and_then};
 ghost use Rattle.serde_json.specs.Find.{at};
 ghost use Rattle.serde_json.specs.View.{view};
 ghost use Rattle.filing_text.specs.ScriptLines as model;
-ghost use Rattle.filing_text.specs.LineView.{line_view};
+ghost use Rattle.filing_model.specs.ReadReport.{allowed_of_word};
+ghost use Rattle.filing_text.specs.LineView.{line_view, period_view};
 
-use filing_model::is_same_text;
+use filing_model::{Allowed, Kind, is_same_text};
+use filing_step::Limit;
+use oim_report::allowed_of_word;
 use serde_json::Value;
 
-/// A line of a script, with its parts in the JSON value that was read. A report or a fact is not read yet.
+/// The period that a page asks for, as `Asked`, without a text of its own.
+#[derive(Clone, Copy)]
+pub enum Period<'a> {
+    /// Any period, or none.
+    Any,
+    /// No period.
+    Without,
+    /// This period.
+    Text(&'a str),
+}
+
+/// What a line asks of a session, with its parts in the JSON value that was read. The dimensions of a cell and the fact of an addition are not read yet.
+#[derive(Clone, Copy)]
+pub enum Asking<'a> {
+    Get {
+        report: &'a str,
+        id: &'a str,
+    },
+    Cell {
+        report: &'a str,
+        dims: &'a Value,
+    },
+    Page {
+        report: &'a str,
+        concept: &'a str,
+        period: Period<'a>,
+        after: Option<&'a str>,
+        limit: Limit,
+    },
+    Add {
+        report: &'a str,
+        id: &'a str,
+        fact: &'a Value,
+    },
+    Remove {
+        report: &'a str,
+        id: &'a str,
+    },
+    Declared {
+        report: &'a str,
+    },
+    Declare {
+        report: &'a str,
+        allowed: Allowed,
+    },
+}
+
+/// A line of a script, with its parts in the JSON value that was read. The report of a load is not read yet.
 #[derive(Clone, Copy)]
 pub enum Line<'a> {
     Load {
@@ -18,17 +68,11 @@ pub enum Line<'a> {
     },
     Open {
         session: &'a str,
+        kind: Kind,
     },
-    Get {
+    Ask {
         session: &'a str,
-        report: &'a str,
-        id: &'a str,
-    },
-    Add {
-        session: &'a str,
-        report: &'a str,
-        id: &'a str,
-        fact: &'a Value,
+        asking: Asking<'a>,
     },
     Commit {
         session: &'a str,
@@ -98,16 +142,62 @@ fn load_of(value: &Value) -> Option<Line<'_>>
     ended_at(value, 3, Line::Load { name, report })
 }
 
+/// What a word says that a session is opened for.
+fn kind_of_word(word: &str) -> Option<Kind>
+    ensures { result ≡ model.kind_of_word word.now }
+{
+    if is_same_text(word, "review") {
+        Some(Kind::Review)
+    } else if is_same_text(word, "amend") {
+        Some(Kind::Amend)
+    } else {
+        None
+    }
+}
+
 fn open_of(value: &Value) -> Option<Line<'_>>
     ensures { option_map line_view result ≡ model.open_of (view value.now) }
 {
     let session = text_at(value, 1)?;
-    let kind = text_at(value, 2)?;
-    if is_same_text(kind, "amend") {
-        ended_at(value, 3, Line::Open { session })
-    } else {
-        None
+    let kind = kind_of_word(text_at(value, 2)?)?;
+    ended_at(value, 3, Line::Open { session, kind })
+}
+
+/// The text or null at a place of an array.
+fn nullable_at(value: &Value, place: usize) -> Option<Option<&str>>
+    ensures { option_map (option_map (λ t. t.now)) result ≡ model.nullable_at place (view value.now) }
+{
+    match value.get(place)? {
+        Value::Null => Some(None),
+        Value::String(text) => Some(Some(text)),
+        _ => None,
     }
+}
+
+/// The period that is asked for at a place of an array.
+fn asked_at(value: &Value, place: usize) -> Option<Period<'_>>
+    ensures { option_map period_view result ≡ model.asked_at place (view value.now) }
+{
+    match value.get(place)? {
+        Value::Bool(true) => Some(Period::Any),
+        Value::Null => Some(Period::Without),
+        Value::String(period) => Some(Period::Text(period)),
+        _ => None,
+    }
+}
+
+/// The limit at a place of an array.
+fn limit_at(value: &Value, place: usize) -> Option<Limit>
+    ensures { result ≡ model.limit_at place (view value.now) }
+{
+    Limit::of(value.get(place)?.as_u64()?)
+}
+
+/// The allowed duplicates that a word says, at a place of an array.
+fn allowed_at(value: &Value, place: usize) -> Option<Allowed>
+    ensures { result ≡ option_and_then allowed_of_word (model.text_at place (view value.now)) }
+{
+    allowed_of_word(text_at(value, place)?)
 }
 
 fn get_of(value: &Value) -> Option<Line<'_>>
@@ -116,15 +206,37 @@ fn get_of(value: &Value) -> Option<Line<'_>>
     let session = text_at(value, 1)?;
     let report = text_at(value, 2)?;
     let id = text_at(value, 3)?;
-    ended_at(
-        value,
-        4,
-        Line::Get {
-            session,
-            report,
-            id,
-        },
-    )
+    let asking = Asking::Get { report, id };
+    ended_at(value, 4, Line::Ask { session, asking })
+}
+
+fn cell_of(value: &Value) -> Option<Line<'_>>
+    ensures { option_map line_view result ≡ model.cell_of (view value.now) }
+{
+    let session = text_at(value, 1)?;
+    let report = text_at(value, 2)?;
+    let dims = object_at(value, 3)?;
+    let asking = Asking::Cell { report, dims };
+    ended_at(value, 4, Line::Ask { session, asking })
+}
+
+fn page_of(value: &Value) -> Option<Line<'_>>
+    ensures { option_map line_view result ≡ model.page_of (view value.now) }
+{
+    let session = text_at(value, 1)?;
+    let report = text_at(value, 2)?;
+    let concept = text_at(value, 3)?;
+    let period = asked_at(value, 4)?;
+    let after = nullable_at(value, 5)?;
+    let limit = limit_at(value, 6)?;
+    let asking = Asking::Page {
+        report,
+        concept,
+        period,
+        after,
+        limit,
+    };
+    ended_at(value, 7, Line::Ask { session, asking })
 }
 
 fn add_of(value: &Value) -> Option<Line<'_>>
@@ -134,16 +246,37 @@ fn add_of(value: &Value) -> Option<Line<'_>>
     let report = text_at(value, 2)?;
     let id = text_at(value, 3)?;
     let fact = object_at(value, 4)?;
-    ended_at(
-        value,
-        5,
-        Line::Add {
-            session,
-            report,
-            id,
-            fact,
-        },
-    )
+    let asking = Asking::Add { report, id, fact };
+    ended_at(value, 5, Line::Ask { session, asking })
+}
+
+fn remove_of(value: &Value) -> Option<Line<'_>>
+    ensures { option_map line_view result ≡ model.remove_of (view value.now) }
+{
+    let session = text_at(value, 1)?;
+    let report = text_at(value, 2)?;
+    let id = text_at(value, 3)?;
+    let asking = Asking::Remove { report, id };
+    ended_at(value, 4, Line::Ask { session, asking })
+}
+
+fn declared_of(value: &Value) -> Option<Line<'_>>
+    ensures { option_map line_view result ≡ model.declared_of (view value.now) }
+{
+    let session = text_at(value, 1)?;
+    let report = text_at(value, 2)?;
+    let asking = Asking::Declared { report };
+    ended_at(value, 3, Line::Ask { session, asking })
+}
+
+fn declare_of(value: &Value) -> Option<Line<'_>>
+    ensures { option_map line_view result ≡ model.declare_of (view value.now) }
+{
+    let session = text_at(value, 1)?;
+    let report = text_at(value, 2)?;
+    let allowed = allowed_at(value, 3)?;
+    let asking = Asking::Declare { report, allowed };
+    ended_at(value, 4, Line::Ask { session, asking })
 }
 
 fn commit_of(value: &Value) -> Option<Line<'_>>
@@ -167,6 +300,29 @@ fn export_of(value: &Value) -> Option<Line<'_>>
     ended_at(value, 2, Line::Export { name })
 }
 
+/// A line that asks something of a session, by its word.
+fn asking_of_word<'a>(word: &str, value: &'a Value) -> Option<Line<'a>>
+    ensures { option_map line_view result ≡ model.asking_of_word word.now (view value.now) }
+{
+    if is_same_text(word, "get") {
+        get_of(value)
+    } else if is_same_text(word, "cell") {
+        cell_of(value)
+    } else if is_same_text(word, "page") {
+        page_of(value)
+    } else if is_same_text(word, "add") {
+        add_of(value)
+    } else if is_same_text(word, "remove") {
+        remove_of(value)
+    } else if is_same_text(word, "declared") {
+        declared_of(value)
+    } else if is_same_text(word, "declare") {
+        declare_of(value)
+    } else {
+        None
+    }
+}
+
 /// The line that a JSON value is, where it is one by its length, its first text and the kinds of its parts.
 #[tactic(auto, unfolding(crate::specs::ScriptLines::line_of))]
 pub fn line_of(value: &Value) -> Option<Line<'_>>
@@ -177,10 +333,6 @@ pub fn line_of(value: &Value) -> Option<Line<'_>>
         load_of(value)
     } else if is_same_text(word, "open") {
         open_of(value)
-    } else if is_same_text(word, "get") {
-        get_of(value)
-    } else if is_same_text(word, "add") {
-        add_of(value)
     } else if is_same_text(word, "commit") {
         commit_of(value)
     } else if is_same_text(word, "close") {
@@ -188,6 +340,6 @@ pub fn line_of(value: &Value) -> Option<Line<'_>>
     } else if is_same_text(word, "export") {
         export_of(value)
     } else {
-        None
+        asking_of_word(word, value)
     }
 }
