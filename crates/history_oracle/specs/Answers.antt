@@ -1,0 +1,10 @@
+-- Words of answers to calls.
+use Rattle.std.specs.Option.{option_map_or}
+use Rattle.filing_model.specs.Repository.{Repository, report_at}
+use Rattle.filing_model.specs.Calls.{Call, report_of_call}
+use Rattle.filing_model.specs.Replies as reply
+use Rattle.filing_model.specs.Sessions.{Answer, answer_in}
+
+-- of a call that may be made
+abbrev pub made : Call → Repository → Answer
+made call c = option_map_or (answer_in c call) (report_at c (report_of_call call)) (reply.NoReport, c)
