@@ -52,10 +52,13 @@ judged_open state session kind =
     if is_some (get state.names session) then Told name_in_use_text
     else Due None (step.Open kind) (insert state.names session (openings state.history + 1))
 
--- a call of the session that has the name
-abbrev pub judged_call : State → Text → Call → Ruling
-judged_call state session c = option_map_or (λ number. Due (Some number) (step.Ask c) state.names)
+-- a step of the session that has the name, which keeps it
+abbrev pub judged_step : State → Text → Step → Ruling
+judged_step state session s = option_map_or (λ number. Due (Some number) s state.names)
     (get state.names session) (Told no_session_text)
+
+abbrev pub judged_call : State → Text → Call → Ruling
+judged_call state session c = judged_step state session (step.Ask c)
 
 -- how dimensions are refused in reading. A line whose dimensions are not texts and nulls is none of the kinds
 abbrev pub bad_dims_text : Trouble → Text
