@@ -1,5 +1,5 @@
 -- Where the report of a load stands in its line.
-use Rattle.std.proofs.Common.{◌≡◌, ◌∙◌, ap, sym, subst, refl, ℕ, Bool, true, false, cond, codes, Option, Some, None, is_some, unwrap_or, ◌||◌, Result, Ok, Err, IfOk, String, string_bytes}
+use Rattle.std.proofs.Common.{◌≡◌, ◌∙◌, ap, sym, subst, refl, Bool, true, false, cond, codes, Option, Some, None, is_some, unwrap_or, option_and_then, ◌||◌, Result, Ok, Err, IfOk, String, string_bytes}
 use Rattle.std.specs.declared.alloc.Global.{Global}
 use Rattle.std.specs.declared.alloc.AllocError.{AllocError}
 use Rattle.serde_json.specs.Data.{Data}
@@ -7,17 +7,17 @@ use Rattle.serde_json.specs.Find.{at, as_str, as_object}
 use Rattle.filing_model.specs.Text.{text_eq}
 use Rattle.std.specs.Option.{option_map_or}
 use Rattle.filing_model.specs.Text.{Text}
+use Rattle.filing_model.specs.ReadReport.{allowed_of_word}
 use Rattle.filing_text.specs.ReplyText.{bad_line_text}
 use Rattle.filing_text.specs.Script.{State, Told, report_in, judged_load, judged_line, answered, value_answer}
-use Rattle.filing_text.specs.ScriptLines.{◌>>=◌, Line, Load, Open, Get, Add, Commit, Close, Export, text_at, object_at, ended_at, load_of, open_of, get_of, add_of, commit_of, close_of, export_of, line_of_word, line_of}
+use Rattle.filing_text.specs.ScriptLines.{◌>>=◌, Line, Load, Open, Ask, Commit, Close, Export, kind_of_word, text_at, object_at, sought_at, limit_at, ends_at, load_of, open_of, get_of, cell_of, page_of, add_of, remove_of, declared_of, declare_of, commit_of, close_of, export_of, asking_of_word, line_of_word, line_of}
 
 -- a load has its report as the third part of the value
 abbrev pub HasReport : Data → Option Line → Type 0
 HasReport d None = Unit {0}
 HasReport d (Some (Load name r)) = at 2 d ≡ Some r
-HasReport d (Some (Open session)) = Unit {0}
-HasReport d (Some (Get session report id)) = Unit {0}
-HasReport d (Some (Add session report id fact)) = Unit {0}
+HasReport d (Some (Open session kind)) = Unit {0}
+HasReport d (Some (Ask session asking)) = Unit {0}
 HasReport d (Some (Commit session)) = Unit {0}
 HasReport d (Some (Close session)) = Unit {0}
 HasReport d (Some (Export name)) = Unit {0}
@@ -30,51 +30,73 @@ either : (d : Data) (b : Bool) (one other : Option Line) → HasReport d one →
 either d true one other p q = p
 either d false one other p q = q
 
-ended : (d : Data) (place : ℕ) (line : Line) → HasReport d (Some line) → HasReport d (ended_at place d line)
-ended d place line h = either d (is_some (at place d)) None (Some line) tt h
-
 of_load : (d : Data) → HasReport d (load_of d)
 of_load d =
     then d (text_at 1 d) _ (λ name.
     elim (at 2 d) as (λ o. at 2 d ≡ o → HasReport d
-    ((o >>= λ part. cond (is_some (as_object part) || is_some (as_str part)) (Some part) None) >>= λ report. ended_at 3 d
-    (Load name report))) [
+    ((o >>= λ part. cond (is_some (as_object part) || is_some (as_str part)) (Some part) None)
+    >>= λ report. ends_at 3 d >>= λ ended. Some (Load name report))) [
       | None ↦ λ _. tt
       | Some part ↦ λ there. elim (is_some (as_object part) || is_some (as_str part)) as
-          (λ b. HasReport d (cond b (Some part) None >>= λ report. ended_at 3 d (Load name report))) [
-            | true ↦ ended d 3 (Load name part) there
+          (λ b. HasReport d (cond b (Some part) None >>= λ report. ends_at 3 d >>= λ ended. Some (Load name report))) [
+            | true ↦ then d (ends_at 3 d) _ (λ ended. there)
             | false ↦ tt
           ]
     ] refl)
 
 of_open : (d : Data) → HasReport d (open_of d)
-of_open d = then d (text_at 1 d) _ (λ session. then d (text_at 2 d) _ (λ kind. either d (text_eq kind (codes "amend")) _ _ (ended d 3 (Open session) tt) tt))
+of_open d = then d (text_at 1 d) _ (λ session. then d (option_and_then kind_of_word (text_at 2 d)) _ (λ kind. then d (ends_at 3 d) _ (λ ended. tt)))
 
 of_get : (d : Data) → HasReport d (get_of d)
-of_get d = then d (text_at 1 d) _ (λ session. then d (text_at 2 d) _ (λ report. then d (text_at 3 d) _ (λ id. ended d 4 (Get session report id) tt)))
+of_get d = then d (text_at 1 d) _ (λ session. then d (text_at 2 d) _ (λ report. then d (text_at 3 d) _ (λ id. then d (ends_at 4 d) _ (λ ended. tt))))
+
+of_cell : (d : Data) → HasReport d (cell_of d)
+of_cell d = then d (text_at 1 d) _ (λ session. then d (text_at 2 d) _ (λ report. then d (object_at 3 d) _ (λ dims. then d (ends_at 4 d) _ (λ ended. tt))))
+
+of_page : (d : Data) → HasReport d (page_of d)
+of_page d = then d (text_at 1 d) _ (λ session. then d (text_at 2 d) _ (λ report. then d (sought_at 3 d) _
+    (λ sought. then d (limit_at 6 d) _ (λ limit. then d (ends_at 7 d) _ (λ ended. tt)))))
 
 of_add : (d : Data) → HasReport d (add_of d)
 of_add d = then d (text_at 1 d) _ (λ session. then d (text_at 2 d) _
-    (λ report. then d (text_at 3 d) _ (λ id. then d (object_at 4 d) _ (λ fact. ended d 5 (Add session report id fact) tt))))
+    (λ report. then d (text_at 3 d) _ (λ id. then d (object_at 4 d) _ (λ fact. then d (ends_at 5 d) _ (λ ended. tt)))))
+
+of_remove : (d : Data) → HasReport d (remove_of d)
+of_remove d = then d (text_at 1 d) _ (λ session. then d (text_at 2 d) _ (λ report. then d (text_at 3 d) _ (λ id. then d (ends_at 4 d) _ (λ ended. tt))))
+
+of_declared : (d : Data) → HasReport d (declared_of d)
+of_declared d = then d (text_at 1 d) _ (λ session. then d (text_at 2 d) _ (λ report. then d (ends_at 3 d) _ (λ ended. tt)))
+
+of_declare : (d : Data) → HasReport d (declare_of d)
+of_declare d = then d (text_at 1 d) _ (λ session. then d (text_at 2 d) _
+    (λ report. then d (option_and_then allowed_of_word (text_at 3 d)) _ (λ allowed. then d (ends_at 4 d) _ (λ ended. tt))))
 
 of_commit : (d : Data) → HasReport d (commit_of d)
-of_commit d = then d (text_at 1 d) _ (λ session. ended d 2 (Commit session) tt)
+of_commit d = then d (text_at 1 d) _ (λ session. then d (ends_at 2 d) _ (λ ended. tt))
 
 of_close : (d : Data) → HasReport d (close_of d)
-of_close d = then d (text_at 1 d) _ (λ session. ended d 2 (Close session) tt)
+of_close d = then d (text_at 1 d) _ (λ session. then d (ends_at 2 d) _ (λ ended. tt))
 
 of_export : (d : Data) → HasReport d (export_of d)
-of_export d = then d (text_at 1 d) _ (λ name. ended d 2 (Export name) tt)
+of_export d = then d (text_at 1 d) _ (λ name. then d (ends_at 2 d) _ (λ ended. tt))
+
+of_asking_word : (d : Data) (word : Text) → HasReport d (asking_of_word word d)
+of_asking_word d word =
+    either d (text_eq word (codes "get")) _ _ (of_get d)
+    (either d (text_eq word (codes "cell")) _ _ (of_cell d)
+    (either d (text_eq word (codes "page")) _ _ (of_page d)
+    (either d (text_eq word (codes "add")) _ _ (of_add d)
+    (either d (text_eq word (codes "remove")) _ _ (of_remove d)
+    (either d (text_eq word (codes "declared")) _ _ (of_declared d)
+    (either d (text_eq word (codes "declare")) _ _ (of_declare d) tt))))))
 
 of_word : (d : Data) (word : Text) → HasReport d (line_of_word word d)
 of_word d word =
     either d (text_eq word (codes "load")) _ _ (of_load d)
     (either d (text_eq word (codes "open")) _ _ (of_open d)
-    (either d (text_eq word (codes "get")) _ _ (of_get d)
-    (either d (text_eq word (codes "add")) _ _ (of_add d)
     (either d (text_eq word (codes "commit")) _ _ (of_commit d)
     (either d (text_eq word (codes "close")) _ _ (of_close d)
-    (either d (text_eq word (codes "export")) _ _ (of_export d) tt))))))
+    (either d (text_eq word (codes "export")) _ _ (of_export d) (of_asking_word d word)))))
 
 pub loaded_part : (d : Data) (name : Text) (r : Data) → Some (Load name r) ≡ line_of d → at 2 d ≡ Some r
 unfolding line_of

@@ -9,6 +9,7 @@ use Rattle.filing_model.specs.Text.{Text}
 use Rattle.line_run.specs.Devices.{SourceState, SinkState, Gave, Took}
 use Rattle.line_run.specs.Run.{Runs}
 use Rattle.filing_text.specs.Script.{State, start, line_answer, script_output, script_history}
+use Rattle.filing_core.specs.States.{CoreState}
 use Rattle.line_run.specs.declared.fault.ScriptFault.{ScriptFault}
 
 -- the reply to a line, and what is carried on
@@ -39,6 +40,6 @@ pub record IsScriptStopped (table : Table) (source source' : SourceState) (sink 
   pub after : State
   pub runs : Runs {X = Unit {0}} IsReply most_reads (Err fault) (start table) after source source' sink sink'
 
-abbrev pub ScriptRuns : Table → Result History ScriptFault → SourceState → SourceState → SinkState → SinkState → Type 0
-ScriptRuns table (Ok history) source source' sink sink' = IsScriptEnded table source source' sink sink' history
+abbrev pub ScriptRuns : Table → Result CoreState ScriptFault → SourceState → SourceState → SinkState → SinkState → Type 0
+ScriptRuns table (Ok core) source source' sink sink' = IsScriptEnded table source source' sink sink' core.history
 ScriptRuns table (Err fault) source source' sink sink' = IsScriptStopped table source source' sink sink' fault

@@ -1,29 +1,27 @@
 //! `ScriptMachine`: a core that is asked by lines of a script.
 
-ghost use Rattle.std.specs.Prelude.{◌≡◌, [], IfOk, IsSome, OnOk, Some, Ok, false, string_bytes};
+ghost use Rattle.std.specs.Prelude.{◌≡◌, IfOk, IsSome, OnOk, Some, Ok, string_bytes};
 ghost use Rattle.std.specs.Arc.{arc_value};
 ghost use Rattle.serde_json.specs.View.{view};
 ghost use Rattle.filing_model.specs.Try.{Gives};
-ghost use Rattle.filing_model.specs.ReadFact.{raw_fact_of};
 ghost use Rattle.filing_model.specs.TextMap.{get, insert, remove};
-ghost use Rattle.filing_model.specs.Calls as call;
-ghost use Rattle.filing_step.specs.Overlap.{IsBusy, MayCome};
 ghost use Rattle.filing_step.specs.Steps.{step_of};
 ghost use Rattle.oim_report.specs.Faults.{report_fault};
-ghost use Rattle.filing_text.specs.Script.{Due, start, is_busy, report_in, answered, judged_load, judged_open, judged_call, judged_add, judged_end, judged_export, value_answer};
+ghost use Rattle.filing_text.specs.LineView.{asking_view};
+ghost use Rattle.filing_text.specs.Script.{Due, start, call_read, report_in, answered, judged_load, judged_open, judged_step, judged_asking, judged_end, judged_export, value_answer};
 ghost use Rattle.filing_cli.specs.ScriptRun.{IsReply, newest_session};
 
 use crate::session_names::SessionNames;
 use filing_core::{Core, CoreFault};
 use filing_step::{Kind, Reply, Step};
 use filing_text::{
-    Line, bad_fact_reply, bad_line_reply, bad_report_reply, exported_reply_of, line_of,
-    name_in_use_reply, no_session_reply, reply_text, taken_at,
+    Asking, Line, bad_line_reply, bad_report_reply, exported_reply_of, line_of, name_in_use_reply,
+    no_session_reply, reply_text, step_asked, taken_at,
 };
 use filing_version::RepoVersion;
 use line_run::Machine;
-use oim_fact::{NumericTable, RawFact};
-use oim_report::{Report, ReportFault, json_value, raw_fact, read_report, report_from};
+use oim_fact::NumericTable;
+use oim_report::{Report, ReportFault, json_value, read_report, report_from};
 use serde_json::Value;
 use std::alloc::{AllocError, Global};
 use std::marker::Model;
@@ -43,7 +41,7 @@ impl Model for ScriptMachine {
 
     ghost Value = { State };
 
-    ghost view = { λ r. record { table = arc_value r.table; history = r.core; names = r.names } };
+    ghost view = { λ r. record { table = arc_value r.table; history = r.core.history; names = r.names } };
 }
 
 /// The report of a load: an object, or the text of one. Its parts move out of the value.
@@ -69,17 +67,9 @@ impl ScriptMachine {
     }
 
     pub(crate) fn into_core(self) -> Core
-        ensures { result ≡ self.history }
+        ensures { result.history ≡ self.history }
     {
         self.core
-    }
-
-    /// Whether some session is open.
-    fn is_busy(&self) -> bool
-        ensures busy { result ≡ is_busy self.now.history }
-        ensures free { result ≡ false → ¬ IsBusy self.now.history }
-    {
-        self.core.busy()
     }
 
     /// The number of the session that has a name.
@@ -122,7 +112,6 @@ impl ScriptMachine {
         session: Option<u64>,
         step: Step,
     ) -> Result<String, AllocError>
-        requires { MayCome self.old.history (step_of step) }
         ensures { IfOk result (λ text. answered self.old (Due session (step_of step) self.old.names)
             ≡ (string_bytes text, self.new)) }
     {
@@ -150,9 +139,7 @@ impl ScriptMachine {
         ensures { IfOk result (λ text. answered self.old
             (judged_load self.old (string_bytes name) (Ok report)) ≡ (string_bytes text, self.new)) }
     {
-        if self.is_busy() {
-            return String::from_str(alloc, bad_line_reply());
-        }
+        let report = Arc::new(alloc, report)?;
         self.take(alloc, None, Step::Load(name, report))
     }
 
@@ -170,86 +157,49 @@ impl ScriptMachine {
     }
 
     /// Answers an opening.
-    fn open(&mut self, alloc: Global, session: &str) -> Result<String, AllocError>
-        ensures { IfOk result (λ text. answered self.old (judged_open self.old session.now)
+    fn open(&mut self, alloc: Global, session: &str, kind: Kind) -> Result<String, AllocError>
+        ensures { IfOk result (λ text. answered self.old (judged_open self.old session.now kind)
             ≡ (string_bytes text, self.new)) }
     {
         if self.number_of(session).is_some() {
             return String::from_str(alloc, name_in_use_reply());
         }
-        if self.is_busy() {
-            return String::from_str(alloc, bad_line_reply());
-        }
-        let text = self.take(alloc, None, Step::Open(Kind::Amend))?;
+        let text = self.take(alloc, None, Step::Open(kind))?;
         let number = self.newest_session();
         self.put_name(alloc, session, number)?;
         Ok(text)
     }
 
-    /// Answers a session that reads a fact.
-    fn get(
-        &mut self,
-        alloc: Global,
-        session: &str,
-        report: &str,
-        id: &str,
-    ) -> Result<String, AllocError>
+    /// Takes a step of the session that has a name, which keeps it.
+    fn take_under(&mut self, alloc: Global, session: &str, step: Step) -> Result<String, AllocError>
         ensures { IfOk result (λ text. answered self.old
-            (judged_call self.old session.now (call.Get report.now id.now))
-            ≡ (string_bytes text, self.new)) }
+            (judged_step self.old session.now (step_of step)) ≡ (string_bytes text, self.new)) }
     {
         let Some(number) = self.number_of(session) else {
             return String::from_str(alloc, no_session_reply());
         };
-        let report = String::from_str(alloc, report)?;
-        let id = String::from_str(alloc, id)?;
-        self.take(alloc, Some(number), Step::Get { report, id })
+        self.take(alloc, Some(number), step)
     }
 
-    /// Takes the addition of a fact that was read.
-    fn take_addition(
+    /// Answers what a line asks of a session.
+    fn ask(
         &mut self,
         alloc: Global,
         session: &str,
-        report: &str,
-        id: &str,
-        fact: RawFact,
+        asking: &Asking<'_>,
     ) -> Result<String, AllocError>
         ensures { IfOk result (λ text. answered self.old
-            (judged_add self.old session.now report.now id.now (Ok fact))
+            (judged_asking self.old session.now (call_read (asking_view asking.now)))
             ≡ (string_bytes text, self.new)) }
     {
-        let Some(number) = self.number_of(session) else {
-            return String::from_str(alloc, no_session_reply());
-        };
-        let report = String::from_str(alloc, report)?;
-        let id = String::from_str(alloc, id)?;
-        self.take(alloc, Some(number), Step::Add { report, id, fact })
-    }
-
-    /// Answers a session that adds a fact.
-    #[tactic(auto, using(filing_text::proofs::ToldFaults::addition_is_refused))]
-    fn add(
-        &mut self,
-        alloc: Global,
-        session: &str,
-        report: &str,
-        id: &str,
-        fact: &Value,
-    ) -> Result<String, AllocError>
-        ensures { IfOk result (λ text. answered self.old
-            (judged_add self.old session.now report.now id.now (raw_fact_of (view fact.now)))
-            ≡ (string_bytes text, self.new)) }
-    {
-        match raw_fact(alloc, fact) {
-            Ok(fact) => self.take_addition(alloc, session, report, id, fact),
-            Err(fault) => bad_fact_reply(alloc, fault),
+        match step_asked(alloc, asking)? {
+            Ok(step) => self.take_under(alloc, session, step),
+            Err(text) => Ok(text),
         }
     }
 
     /// Answers a session that ends by this step.
     fn end(&mut self, alloc: Global, session: &str, step: Step) -> Result<String, AllocError>
-        requires { MayCome self.old.history (step_of step) }
         ensures { IfOk result (λ text. answered self.old
             (judged_end self.old session.now (step_of step)) ≡ (string_bytes text, self.new)) }
     {
@@ -287,18 +237,8 @@ impl ScriptMachine {
                 let name = String::from_str(alloc, name)?;
                 self.load(alloc, name, taken_at(&mut value, 2))
             }
-            Line::Open { session } => self.open(alloc, session),
-            Line::Get {
-                session,
-                report,
-                id,
-            } => self.get(alloc, session, report, id),
-            Line::Add {
-                session,
-                report,
-                id,
-                fact,
-            } => self.add(alloc, session, report, id, fact),
+            Line::Open { session, kind } => self.open(alloc, session, kind),
+            Line::Ask { session, asking } => self.ask(alloc, session, &asking),
             Line::Commit { session } => self.end(alloc, session, Step::Commit),
             Line::Close { session } => self.end(alloc, session, Step::Close),
             Line::Export { name } => self.export(alloc, name),

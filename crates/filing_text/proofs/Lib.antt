@@ -1,5 +1,5 @@
 -- ---- the lines of a script
-pub mod BusySessions
 pub mod ToldFaults
+pub mod AskedSteps
 -- ---- examples that compute
 pub mod Examples

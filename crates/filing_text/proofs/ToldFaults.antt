@@ -1,8 +1,12 @@
--- Facts and reports that are refused in reading, as a script is told.
-use Rattle.std.proofs.Common.{◌≡◌, ◌∙◌, ap, sym, Option, Some, None, option_map, Result, is_some, unwrap_or, true≢false}
+-- Facts, dimensions and reports that are refused in reading, as a script is told.
+use Rattle.std.proofs.Common.{◌≡◌, ◌∙◌, ap, sym, Option, Some, None, option_map, Result, Err, is_some, unwrap_or, true≢false}
+use Rattle.std.specs.Result.{result_map_both}
 use Rattle.filing_model.specs.Text.{Text}
+use Rattle.filing_model.specs.Dimensions as dimensions
 use Rattle.filing_model.specs.Facts.{RawFact}
 use Rattle.filing_model.specs.Reports.{Report}
+use Rattle.filing_model.specs.Calls as call
+use Rattle.filing_model.specs.Calls.{Call}
 use Rattle.filing_model.specs.Faults.{fact_trouble}
 use Rattle.filing_model.specs.ReadReport.{ReportFault}
 use Rattle.filing_model.specs.Try.{Fails}
@@ -10,7 +14,7 @@ use Rattle.filing_model.specs.declared.faults.DimFault.TheVariants as dim
 use Rattle.filing_model.specs.declared.faults.Trouble.{Trouble}
 use Rattle.filing_model.specs.declared.faults.Trouble.TheVariants.{WrongShape, NotWhole, Dims, Fit, NoMemory}
 use Rattle.filing_text.specs.ReplyText.{bad_fact_text, bad_report_text, told_fault}
-use Rattle.filing_text.specs.Script.{State, Told, answered, judged_load, judged_add}
+use Rattle.filing_text.specs.Script.{State, answered, bad_dims_text, judged_load}
 
 -- the reply to a fault of a reading is the answer to a load of what is read
 pub load_is_refused : (fault : Option ReportFault) (reading : Result Report ReportFault) (state : State) (name text : Text)
@@ -19,33 +23,37 @@ load_is_refused None reading state name text fails told = absurd (true≢false (
 load_is_refused (Some fault) reading state name text fails told =
     ap (λ r. answered state (judged_load state name r)) fails ∙ (λ i. (unwrap_or (sym told i) text, state))
 
-refused : (fault : Option Trouble) (reading : Result RawFact Trouble) (state : State) (session name id text : Text)
-    → Fails fault reading → Some text ≡ option_map bad_fact_text fault → judged_add state session name id reading ≡ Told text
-refused None reading state session name id text fails told = absurd (true≢false (ap is_some told))
-refused (Some fault) reading state session name id text fails told =
-    ap (λ r. judged_add state session name id r) fails ∙ (λ i. Told (unwrap_or (sym told i) text))
+-- what a reading is told as, by these words
+abbrev told_as : {A : Type 0} → (A → Call) → (Trouble → Text) → Result A Trouble → Result Call Text
+told_as asked words reading = result_map_both asked words reading
 
--- the reply to a fault of a reading is what an addition of what is read comes to
-pub addition_is_told : (fault : Trouble) (reading : Result RawFact Trouble) (state : State) (session name id text : Text)
-    → Fails (fact_trouble fault) reading → Some text ≡ option_map bad_fact_text (told_fault fault)
-    → judged_add state session name id reading ≡ Told text
-addition_is_told NoMemory reading state session name id text fails told = absurd (true≢false (ap is_some told))
-addition_is_told WrongShape reading state session name id text fails told = refused (Some WrongShape) reading state session name id text fails told
-addition_is_told NotWhole reading state session name id text fails told = refused (Some NotWhole) reading state session name id text fails told
-addition_is_told (Fit fault) reading state session name id text fails told = refused (Some (Fit fault)) reading state session name id text fails told
-addition_is_told (Dims dim.NoMemory) reading state session name id text fails told = absurd (true≢false (ap is_some told))
-addition_is_told (Dims dim.NameTwice) reading state session name id text fails told =
-    refused (Some (Dims dim.NameTwice)) reading state session name id text fails told
-addition_is_told (Dims dim.NullCore) reading state session name id text fails told =
-    refused (Some (Dims dim.NullCore)) reading state session name id text fails told
-addition_is_told (Dims dim.NoConcept) reading state session name id text fails told =
-    refused (Some (Dims dim.NoConcept)) reading state session name id text fails told
-addition_is_told (Dims dim.TooLong) reading state session name id text fails told =
-    refused (Some (Dims dim.TooLong)) reading state session name id text fails told
+refused : {A : Type 0} (asked : A → Call) (words : Trouble → Text) (fault : Option Trouble) (reading : Result A Trouble) (text : Text)
+    → Fails fault reading → Some text ≡ option_map words fault → told_as asked words reading ≡ Err text
+refused asked words None reading text fails told = absurd (true≢false (ap is_some told))
+refused asked words (Some fault) reading text fails told =
+    ap (told_as asked words) fails ∙ (λ i. Err (unwrap_or (sym told i) text))
 
--- and so its answer
-pub addition_is_refused : (fault : Trouble) (reading : Result RawFact Trouble) (state : State) (session name id text : Text)
+-- the reply to a fault of a reading is what is told of the reading
+told_reading : {A : Type 0} (asked : A → Call) (words : Trouble → Text) (fault : Trouble) (reading : Result A Trouble) (text : Text)
+    → Fails (fact_trouble fault) reading → Some text ≡ option_map words (told_fault fault) → told_as asked words reading ≡ Err text
+told_reading asked words NoMemory reading text fails told = absurd (true≢false (ap is_some told))
+told_reading asked words WrongShape reading text fails told = refused asked words (Some WrongShape) reading text fails told
+told_reading asked words NotWhole reading text fails told = refused asked words (Some NotWhole) reading text fails told
+told_reading asked words (Fit fault) reading text fails told = refused asked words (Some (Fit fault)) reading text fails told
+told_reading asked words (Dims dim.NoMemory) reading text fails told = absurd (true≢false (ap is_some told))
+told_reading asked words (Dims dim.NameTwice) reading text fails told = refused asked words (Some (Dims dim.NameTwice)) reading text fails told
+told_reading asked words (Dims dim.NullCore) reading text fails told = refused asked words (Some (Dims dim.NullCore)) reading text fails told
+told_reading asked words (Dims dim.NoConcept) reading text fails told = refused asked words (Some (Dims dim.NoConcept)) reading text fails told
+told_reading asked words (Dims dim.TooLong) reading text fails told = refused asked words (Some (Dims dim.TooLong)) reading text fails told
+
+-- so of a fact
+pub addition_is_refused : (name id : Text) (fault : Trouble) (reading : Result RawFact Trouble) (text : Text)
     → Fails (fact_trouble fault) reading → Some text ≡ option_map bad_fact_text (told_fault fault)
-    → answered state (judged_add state session name id reading) ≡ (text, state)
-addition_is_refused fault reading state session name id text fails told =
-    ap (answered state) (addition_is_told fault reading state session name id text fails told)
+    → result_map_both (call.Add name id) bad_fact_text reading ≡ Err text
+addition_is_refused name id = told_reading (call.Add name id) bad_fact_text
+
+-- and of dimensions
+pub cell_is_refused : (name : Text) (fault : Trouble) (reading : Result dimensions.Dims Trouble) (text : Text)
+    → Fails (fact_trouble fault) reading → Some text ≡ option_map bad_dims_text (told_fault fault)
+    → result_map_both (call.Cell name) bad_dims_text reading ≡ Err text
+cell_is_refused name = told_reading (call.Cell name) bad_dims_text

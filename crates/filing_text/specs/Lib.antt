@@ -5,3 +5,5 @@ pub mod LineView
 pub mod ReplyText
 -- ---- the output of a script
 pub mod Script
+-- ---- the step that a line asks for
+pub mod AskedStep

@@ -1,6 +1,7 @@
 -- The output of a script by a numeric table: a reply to each line that is not blank, with the history so far and the names in use carried from line to line. All of it is the project's own.
-use Rattle.std.specs.Prelude.{ℕ, ◌+◌, if◌then◌else◌, List, [], Option, Some, None, is_some, option_and_then, Result, Ok, Err, result_map}
+use Rattle.std.specs.Prelude.{ℕ, ◌+◌, if◌then◌else◌, [], Option, Some, None, is_some, option_and_then, Result, Ok, Err}
 use Rattle.std.specs.Option.{option_map_or}
+use Rattle.std.specs.Result.{result_map_both}
 use Rattle.serde_json.specs.Data.{Data, string}
 use Rattle.filing_model.specs.TextMap.{TextMap, empty, get, insert, remove}
 use Rattle.filing_model.specs.JsonText.{json_of}
@@ -8,7 +9,6 @@ use Rattle.filing_model.specs.Facts.{Table}
 use Rattle.filing_model.specs.Reports.{Report}
 use Rattle.filing_model.specs.Repository.{report_at}
 use Rattle.filing_model.specs.Replies.{NoReport}
-use Rattle.filing_model.specs.Try.{map_err}
 use Rattle.filing_model.specs.ReadFact.{raw_fact_of, dims_read}
 use Rattle.filing_model.specs.ReadReport.{ReportFault, report_of, read_report_of}
 use Rattle.filing_model.specs.Calls as call
@@ -52,10 +52,13 @@ judged_open state session kind =
     if is_some (get state.names session) then Told name_in_use_text
     else Due None (step.Open kind) (insert state.names session (openings state.history + 1))
 
--- a call of the session that has the name
-abbrev pub judged_call : State → Text → Call → Ruling
-judged_call state session c = option_map_or (λ number. Due (Some number) (step.Ask c) state.names)
+-- a step of the session that has the name, which keeps it
+abbrev pub judged_step : State → Text → Step → Ruling
+judged_step state session s = option_map_or (λ number. Due (Some number) s state.names)
     (get state.names session) (Told no_session_text)
+
+abbrev pub judged_call : State → Text → Call → Ruling
+judged_call state session c = judged_step state session (step.Ask c)
 
 -- how dimensions are refused in reading. A line whose dimensions are not texts and nulls is none of the kinds
 abbrev pub bad_dims_text : Trouble → Text
@@ -65,9 +68,9 @@ bad_dims_text fault = bad_fact_text fault
 -- the call that is asked for, or how its parts are refused in reading
 abbrev pub call_read : Asking → Result Call Text
 call_read (Get name id) = Ok (call.Get name id)
-call_read (Cell name d) = map_err bad_dims_text (result_map (call.Cell name) (dims_read d))
+call_read (Cell name d) = result_map_both (call.Cell name) bad_dims_text (dims_read d)
 call_read (Page name sought limit) = Ok (call.Page name sought limit)
-call_read (Add name id d) = map_err bad_fact_text (result_map (call.Add name id) (raw_fact_of d))
+call_read (Add name id d) = result_map_both (call.Add name id) bad_fact_text (raw_fact_of d)
 call_read (Remove name id) = Ok (call.Remove name id)
 call_read (Declared name) = Ok (call.Declared name)
 call_read (Declare name allowed) = Ok (call.Declare name allowed)

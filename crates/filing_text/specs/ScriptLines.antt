@@ -1,5 +1,5 @@
 -- The lines of a script. All of it is the project's own.
-use Rattle.std.specs.Prelude.{ℕ, ◌+◌, true, false, if◌then◌else◌, ◌||◌, codes, Option, Some, None, is_some, option_and_then}
+use Rattle.std.specs.Prelude.{⊤, ℕ, ◌+◌, true, false, if◌then◌else◌, ◌||◌, codes, Option, Some, None, is_some, option_and_then}
 use Rattle.serde_json.specs.Data.{Data, null, boolean, string}
 use Rattle.serde_json.specs.Find.{at, as_str, as_number, as_u64, as_object}
 use Rattle.filing_model.specs.Text.{text_eq}
@@ -51,15 +51,16 @@ report_part_at place d = do
   part ← at place d
   if is_some (as_object part) || is_some (as_str part) then Some part else None
 
--- the line, where the array has no part from this place on
-abbrev pub ended_at : ℕ → Data → Line → Option Line
-ended_at place d line = if is_some (at place d) then None else Some line
+-- where the array has no part from this place on
+abbrev pub ends_at : ℕ → Data → Option ⊤
+ends_at place d = if is_some (at place d) then None else Some tt
 
 abbrev pub load_of : Data → Option Line
 load_of d = do
   name ← text_at 1 d
   report ← report_part_at 2 d
-  ended_at 3 d (Load name report)
+  ended ← ends_at 3 d
+  Some (Load name report)
 
 -- ---- what a session is opened for
 
@@ -73,7 +74,8 @@ abbrev pub open_of : Data → Option Line
 open_of d = do
   session ← text_at 1 d
   kind ← option_and_then kind_of_word (text_at 2 d)
-  ended_at 3 d (Open session kind)
+  ended ← ends_at 3 d
+  Some (Open session kind)
 
 -- ---- what is asked of a session
 
@@ -104,14 +106,16 @@ get_of d = do
   session ← text_at 1 d
   report ← text_at 2 d
   id ← text_at 3 d
-  ended_at 4 d (Ask session (Get report id))
+  ended ← ends_at 4 d
+  Some (Ask session (Get report id))
 
 abbrev pub cell_of : Data → Option Line
 cell_of d = do
   session ← text_at 1 d
   report ← text_at 2 d
   dims ← object_at 3 d
-  ended_at 4 d (Ask session (Cell report dims))
+  ended ← ends_at 4 d
+  Some (Ask session (Cell report dims))
 
 abbrev pub sought_at : ℕ → Data → Option Sought
 sought_at place d = do
@@ -126,7 +130,8 @@ page_of d = do
   report ← text_at 2 d
   sought ← sought_at 3 d
   limit ← limit_at 6 d
-  ended_at 7 d (Ask session (Page report sought limit))
+  ended ← ends_at 7 d
+  Some (Ask session (Page report sought limit))
 
 abbrev pub add_of : Data → Option Line
 add_of d = do
@@ -134,44 +139,51 @@ add_of d = do
   report ← text_at 2 d
   id ← text_at 3 d
   fact ← object_at 4 d
-  ended_at 5 d (Ask session (Add report id fact))
+  ended ← ends_at 5 d
+  Some (Ask session (Add report id fact))
 
 abbrev pub remove_of : Data → Option Line
 remove_of d = do
   session ← text_at 1 d
   report ← text_at 2 d
   id ← text_at 3 d
-  ended_at 4 d (Ask session (Remove report id))
+  ended ← ends_at 4 d
+  Some (Ask session (Remove report id))
 
 abbrev pub declared_of : Data → Option Line
 declared_of d = do
   session ← text_at 1 d
   report ← text_at 2 d
-  ended_at 3 d (Ask session (Declared report))
+  ended ← ends_at 3 d
+  Some (Ask session (Declared report))
 
 abbrev pub declare_of : Data → Option Line
 declare_of d = do
   session ← text_at 1 d
   report ← text_at 2 d
   allowed ← option_and_then allowed_of_word (text_at 3 d)
-  ended_at 4 d (Ask session (Declare report allowed))
+  ended ← ends_at 4 d
+  Some (Ask session (Declare report allowed))
 
 -- ---- the end of a session, and what is exported
 
 abbrev pub commit_of : Data → Option Line
 commit_of d = do
   session ← text_at 1 d
-  ended_at 2 d (Commit session)
+  ended ← ends_at 2 d
+  Some (Commit session)
 
 abbrev pub close_of : Data → Option Line
 close_of d = do
   session ← text_at 1 d
-  ended_at 2 d (Close session)
+  ended ← ends_at 2 d
+  Some (Close session)
 
 abbrev pub export_of : Data → Option Line
 export_of d = do
   name ← text_at 1 d
-  ended_at 2 d (Export name)
+  ended ← ends_at 2 d
+  Some (Export name)
 
 -- ---- by the first text
 

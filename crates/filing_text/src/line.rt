@@ -123,14 +123,14 @@ fn report_part_at(value: &Value, place: usize) -> Option<&Value>
     }
 }
 
-/// The line, where the array has no part from a place on.
-fn ended_at<'a>(value: &Value, place: usize, line: Line<'a>) -> Option<Line<'a>>
-    ensures { option_map line_view result ≡ model.ended_at place (view value.now) (line_view line.entry) }
+/// Whether the array ends: none where it has a part from a place on.
+fn ends_at(value: &Value, place: usize) -> Option<()>
+    ensures { result ≡ model.ends_at place (view value.now) }
 {
     if value.get(place).is_some() {
         None
     } else {
-        Some(line)
+        Some(())
     }
 }
 
@@ -139,7 +139,8 @@ fn load_of(value: &Value) -> Option<Line<'_>>
 {
     let name = text_at(value, 1)?;
     let report = report_part_at(value, 2)?;
-    ended_at(value, 3, Line::Load { name, report })
+    ends_at(value, 3)?;
+    Some(Line::Load { name, report })
 }
 
 /// What a word says that a session is opened for.
@@ -160,7 +161,8 @@ fn open_of(value: &Value) -> Option<Line<'_>>
 {
     let session = text_at(value, 1)?;
     let kind = kind_of_word(text_at(value, 2)?)?;
-    ended_at(value, 3, Line::Open { session, kind })
+    ends_at(value, 3)?;
+    Some(Line::Open { session, kind })
 }
 
 /// The text or null at a place of an array.
@@ -207,7 +209,8 @@ fn get_of(value: &Value) -> Option<Line<'_>>
     let report = text_at(value, 2)?;
     let id = text_at(value, 3)?;
     let asking = Asking::Get { report, id };
-    ended_at(value, 4, Line::Ask { session, asking })
+    ends_at(value, 4)?;
+    Some(Line::Ask { session, asking })
 }
 
 fn cell_of(value: &Value) -> Option<Line<'_>>
@@ -217,7 +220,8 @@ fn cell_of(value: &Value) -> Option<Line<'_>>
     let report = text_at(value, 2)?;
     let dims = object_at(value, 3)?;
     let asking = Asking::Cell { report, dims };
-    ended_at(value, 4, Line::Ask { session, asking })
+    ends_at(value, 4)?;
+    Some(Line::Ask { session, asking })
 }
 
 fn page_of(value: &Value) -> Option<Line<'_>>
@@ -236,7 +240,8 @@ fn page_of(value: &Value) -> Option<Line<'_>>
         after,
         limit,
     };
-    ended_at(value, 7, Line::Ask { session, asking })
+    ends_at(value, 7)?;
+    Some(Line::Ask { session, asking })
 }
 
 fn add_of(value: &Value) -> Option<Line<'_>>
@@ -247,7 +252,8 @@ fn add_of(value: &Value) -> Option<Line<'_>>
     let id = text_at(value, 3)?;
     let fact = object_at(value, 4)?;
     let asking = Asking::Add { report, id, fact };
-    ended_at(value, 5, Line::Ask { session, asking })
+    ends_at(value, 5)?;
+    Some(Line::Ask { session, asking })
 }
 
 fn remove_of(value: &Value) -> Option<Line<'_>>
@@ -257,7 +263,8 @@ fn remove_of(value: &Value) -> Option<Line<'_>>
     let report = text_at(value, 2)?;
     let id = text_at(value, 3)?;
     let asking = Asking::Remove { report, id };
-    ended_at(value, 4, Line::Ask { session, asking })
+    ends_at(value, 4)?;
+    Some(Line::Ask { session, asking })
 }
 
 fn declared_of(value: &Value) -> Option<Line<'_>>
@@ -266,7 +273,8 @@ fn declared_of(value: &Value) -> Option<Line<'_>>
     let session = text_at(value, 1)?;
     let report = text_at(value, 2)?;
     let asking = Asking::Declared { report };
-    ended_at(value, 3, Line::Ask { session, asking })
+    ends_at(value, 3)?;
+    Some(Line::Ask { session, asking })
 }
 
 fn declare_of(value: &Value) -> Option<Line<'_>>
@@ -276,28 +284,32 @@ fn declare_of(value: &Value) -> Option<Line<'_>>
     let report = text_at(value, 2)?;
     let allowed = allowed_at(value, 3)?;
     let asking = Asking::Declare { report, allowed };
-    ended_at(value, 4, Line::Ask { session, asking })
+    ends_at(value, 4)?;
+    Some(Line::Ask { session, asking })
 }
 
 fn commit_of(value: &Value) -> Option<Line<'_>>
     ensures { option_map line_view result ≡ model.commit_of (view value.now) }
 {
     let session = text_at(value, 1)?;
-    ended_at(value, 2, Line::Commit { session })
+    ends_at(value, 2)?;
+    Some(Line::Commit { session })
 }
 
 fn close_of(value: &Value) -> Option<Line<'_>>
     ensures { option_map line_view result ≡ model.close_of (view value.now) }
 {
     let session = text_at(value, 1)?;
-    ended_at(value, 2, Line::Close { session })
+    ends_at(value, 2)?;
+    Some(Line::Close { session })
 }
 
 fn export_of(value: &Value) -> Option<Line<'_>>
     ensures { option_map line_view result ≡ model.export_of (view value.now) }
 {
     let name = text_at(value, 1)?;
-    ended_at(value, 2, Line::Export { name })
+    ends_at(value, 2)?;
+    Some(Line::Export { name })
 }
 
 /// A line that asks something of a session, by its word.

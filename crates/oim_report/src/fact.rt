@@ -8,7 +8,7 @@ ghost use Rattle.filing_model.specs.Try.{Gives, each};
 ghost use Rattle.filing_model.specs.Faults.{fact_trouble};
 ghost use Rattle.filing_model.specs.Fitted.{AreLinks};
 ghost use Rattle.filing_model.specs.JsonText.{pairs, as_nullable};
-ghost use Rattle.filing_model.specs.ReadFact.{dim_of, decimals_of, links_of, raw_fact_of};
+ghost use Rattle.filing_model.specs.ReadFact.{dim_of, decimals_of, links_of, raw_fact_of, dims_read};
 ghost use Rattle.filing_model.specs.declared.faults.Trouble.TheVariants as trouble;
 ghost use Rattle.oim_fact.specs.Dims.{dims_view};
 ghost use Rattle.oim_fact.specs.Texts.{text_view};
@@ -180,5 +180,19 @@ pub fn raw_fact(alloc: Global, value: &Value) -> Result<RawFact, Trouble>
     match value.clone() {
         Ok(value) => raw_fact_from(alloc, value),
         Err(_) => Err(Trouble::NoMemory),
+    }
+}
+
+/// The dimension set that a JSON value is, or the first fault: no object of texts and nulls; no dimension set.
+pub fn dimensions(alloc: Global, value: &Value) -> Result<DimSet, Trouble>
+    ensures { Gives fact_trouble same result (dims_read (view value.now)) }
+{
+    let Ok(value) = value.clone() else {
+        return Err(Trouble::NoMemory);
+    };
+    let named = dims(alloc, Some(value))?;
+    match DimSet::of(named) {
+        Ok(dims) => Ok(dims),
+        Err(fault) => Err(Trouble::Dims(fault)),
     }
 }

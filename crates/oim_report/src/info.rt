@@ -52,7 +52,7 @@ pub(crate) fn document_info(value: Option<Value>) -> Result<Value, ReportFault>
 }
 
 /// The word that declares allowed duplicates.
-pub(crate) fn allowed_word(allowed: Allowed) -> &'static str
+pub fn allowed_word(allowed: Allowed) -> &'static str
     ensures { result.now ≡ allowed_word allowed }
 {
     match allowed {
@@ -63,8 +63,8 @@ pub(crate) fn allowed_word(allowed: Allowed) -> &'static str
     }
 }
 
-/// The allowed duplicates that a word declares.
-fn allowed_of_word(word: &str) -> Option<Allowed>
+/// The allowed duplicates that a word declares, or none where it is another word.
+pub fn allowed_of_word(word: &str) -> Option<Allowed>
     ensures { result ≡ allowed_of_word word.now }
 {
     if is_same_text(word, "none") {

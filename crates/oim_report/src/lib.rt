@@ -23,10 +23,11 @@ mod values;
 
 pub use declared_value::with_allowed;
 pub use entries::Entries;
-pub use fact::raw_fact;
+pub use fact::{dimensions, raw_fact};
 pub use fact_text::{push_dims, push_fact, push_raw, write_fact, write_raw};
 pub use fault::ReportFault;
 pub use filing_model::{TableFault, Trouble};
+pub use info::{allowed_of_word, allowed_word};
 pub use info_laws::{
     each_set_info_is_an_info, each_set_report_is_read_back, each_set_value_is_declared,
 };

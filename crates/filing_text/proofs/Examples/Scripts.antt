@@ -32,16 +32,16 @@ unfolding script_output whole_lines last_part lines_of spoken lines_text line_an
 two_lines = refl
 
 -- the report r1, which has no facts and binds the prefix ex
-abbrev load_r1 : Text
+abbrev pub load_r1 : Text
 load_r1 = codes "[\"load\",\"r1\",{\"documentInfo\":{\"documentType\":\"https://xbrl.org/2021/xbrl-json\",\"namespaces\":{\"ex\":\"http://e.org/t\"}}}]"
 
 -- the report r1 with these facts, as it is exported
-abbrev exported_r1 : Text → Text
+abbrev pub exported_r1 : Text → Text
 exported_r1 facts =
     codes "[\"report\",{\"documentInfo\":{\"documentType\":\"https://xbrl.org/2021/xbrl-json\",\"namespaces\":{\"ex\":\"http://e.org/t\"}},\"facts\":{"
     ++ (facts ++ codes "}}]")
 
-abbrev open_s1 : Text
+abbrev pub open_s1 : Text
 open_s1 = codes "[\"open\",\"s1\",\"amend\"]"
 
 -- one session adds a fact, and the next reads it
@@ -68,24 +68,26 @@ pub stored_run : told (load_r1
 unfolding line_answer line_of filing_on_literals
 stored_run = refl
 
--- sessions do not overlap yet, and a fact needs a prefix that is bound
-pub one_session_at_a_time : told (load_r1
-    ∷ open_s1
+-- sessions and loads may overlap: each session reads the version of its opening. A fact needs a prefix that is bound
+pub overlapping_lines : told (open_s1
+    ∷ load_r1
     ∷ codes "[\"open\",\"s2\",\"amend\"]"
     ∷ codes "[\"add\",\"s1\",\"r1\",\"a\",{\"value\":\"1\",\"dimensions\":{\"concept\":\"zz:Name\"}}]"
+    ∷ codes "[\"add\",\"s2\",\"r1\",\"a\",{\"value\":\"1\",\"dimensions\":{\"concept\":\"zz:Name\"}}]"
     ∷ codes "[\"close\",\"s1\"]"
     ∷ [])
-    ≡ codes "[\"loaded\",1]"
+    ≡ codes "[\"opened\"]"
+    ∷ codes "[\"loaded\",1]"
     ∷ codes "[\"opened\"]"
-    ∷ codes "[\"bad-line\"]"
+    ∷ codes "[\"no-report\"]"
     ∷ codes "[\"bad-fact\",\"unbound-prefix\"]"
     ∷ codes "[\"closed\"]"
     ∷ []
 unfolding line_answer line_of filing_on_literals
-one_session_at_a_time = refl
+overlapping_lines = refl
 
--- a name in use is found before an overlap, a report that is refused too; the name of an ended session is free
-pub names_and_reports_first : told (open_s1
+-- a name in use is refused, and the name of an ended session is free
+pub names_and_reports : told (open_s1
     ∷ open_s1
     ∷ load_r1
     ∷ codes "[\"load\",\"r1\",{}]"
@@ -96,15 +98,15 @@ pub names_and_reports_first : told (open_s1
     ∷ [])
     ≡ codes "[\"opened\"]"
     ∷ codes "[\"name-in-use\"]"
-    ∷ codes "[\"bad-line\"]"
+    ∷ codes "[\"loaded\",1]"
     ∷ codes "[\"bad-report\",\"wrong-shape\"]"
     ∷ codes "[\"closed\"]"
     ∷ codes "[\"no-session\"]"
     ∷ codes "[\"opened\"]"
-    ∷ codes "[\"no-report\"]"
+    ∷ codes "[\"none\"]"
     ∷ []
 unfolding line_answer line_of filing_on_literals
-names_and_reports_first = refl
+names_and_reports = refl
 
 -- a fact that is refused is found before a name that is not in use
 pub fact_first : told
@@ -251,20 +253,73 @@ refused_facts = refl
 -- lines of other kinds, lengths or parts
 pub bad_lines : told (codes "{}"
     ∷ codes "[1]"
-    ∷ codes "[\"open\",\"s1\",\"review\"]"
+    ∷ codes "[\"open\",\"s1\",\"read\"]"
     ∷ codes "[\"open\",\"s1\"]"
     ∷ codes "[\"open\",\"s1\",\"amend\",\"x\"]"
     ∷ codes "[\"get\",\"s1\",\"r1\",null]"
     ∷ codes "[\"add\",\"s1\",\"r1\",\"a\",\"x\"]"
     ∷ codes "[\"load\",\"r1\",[]]"
     ∷ codes "[\"export\",\"r1\",1]"
-    ∷ codes "[\"cell\",\"s1\",\"r1\",{\"concept\":\"ex:Name\"}]"
-    ∷ codes "[\"page\",\"s1\",\"r1\",\"ex:Name\",null,null,1]"
-    ∷ codes "[\"remove\",\"s1\",\"r1\",\"a\"]"
+    ∷ codes "[\"remove\",\"s1\",\"r1\"]"
+    ∷ codes "[\"commit\",\"s1\",\"s2\"]"
+    ∷ codes "[\"declared\",\"s1\"]"
     ∷ [])
     ≡ map (λ (n : ℕ). codes "[\"bad-line\"]") (1 ∷ 2 ∷ 3 ∷ 4 ∷ 5 ∷ 6 ∷ 7 ∷ 8 ∷ 9 ∷ 10 ∷ 11 ∷ 12 ∷ [])
 unfolding line_answer line_of filing_on_literals
 bad_lines = refl
+
+-- the dimensions of a cell are an object of texts and nulls, whatever else is wrong with them
+pub bad_cells : told (codes "[\"cell\",\"s1\",\"r1\",[\"concept\"]]"
+    ∷ codes "[\"cell\",\"s1\",\"r1\",\"concept\"]"
+    ∷ codes "[\"cell\",\"s1\",\"r1\",{\"concept\":1}]"
+    ∷ codes "[\"cell\",\"s1\",\"r1\",{\"concept\":null,\"ex:d\":{}}]"
+    ∷ codes "[\"cell\",\"s1\",\"r1\"]"
+    ∷ [])
+    ≡ map (λ (n : ℕ). codes "[\"bad-line\"]") (1 ∷ 2 ∷ 3 ∷ 4 ∷ 5 ∷ [])
+unfolding line_answer line_of filing_on_literals
+bad_cells = refl
+
+-- a limit is a whole number from 1 to 1,000, a period is true, null or a text
+pub bad_pages : told (codes "[\"page\",\"s1\",\"r1\",\"ex:Name\",null,null,0]"
+    ∷ codes "[\"page\",\"s1\",\"r1\",\"ex:Name\",null,null,1001]"
+    ∷ codes "[\"page\",\"s1\",\"r1\",\"ex:Name\",null,null,10.0]"
+    ∷ codes "[\"page\",\"s1\",\"r1\",\"ex:Name\",false,null,10]"
+    ∷ codes "[\"page\",\"s1\",\"r1\",\"ex:Name\",null,true,10]"
+    ∷ codes "[\"page\",\"s1\",\"r1\",null,null,null,10]"
+    ∷ [])
+    ≡ map (λ (n : ℕ). codes "[\"bad-line\"]") (1 ∷ 2 ∷ 3 ∷ 4 ∷ 5 ∷ 6 ∷ [])
+unfolding line_answer line_of filing_on_literals
+bad_pages = refl
+
+-- a declared value is one of four words
+pub bad_declarations : told (codes "[\"declare\",\"s1\",\"r1\",\"some\"]"
+    ∷ codes "[\"declare\",\"s1\",\"r1\",null]"
+    ∷ codes "[\"declare\",\"s1\",\"r1\"]"
+    ∷ [])
+    ≡ map (λ (n : ℕ). codes "[\"bad-line\"]") (1 ∷ 2 ∷ 3 ∷ [])
+unfolding line_answer line_of filing_on_literals
+bad_declarations = refl
+
+-- dimensions that are no set are told before a name that is not in use
+pub dims_first : told (codes "[\"cell\",\"s1\",\"r1\",{\"concept\":null}]" ∷ codes "[\"cell\",\"s1\",\"r1\",{}]" ∷ [])
+    ≡ codes "[\"bad-fact\",\"null-core\"]" ∷ codes "[\"bad-fact\",\"no-concept\"]" ∷ []
+unfolding line_answer line_of filing_on_literals
+dims_first = refl
+
+-- lines of a session under a name that is not in use
+pub unknown_sessions : told (codes "[\"get\",\"s1\",\"r1\",\"a\"]"
+    ∷ codes "[\"cell\",\"s1\",\"r1\",{\"concept\":\"ex:Name\"}]"
+    ∷ codes "[\"page\",\"s1\",\"r1\",\"ex:Name\",true,\"a\",1000]"
+    ∷ codes "[\"add\",\"s1\",\"r1\",\"a\",{\"value\":\"1\",\"dimensions\":{\"concept\":\"ex:Name\"}}]"
+    ∷ codes "[\"remove\",\"s1\",\"r1\",\"a\"]"
+    ∷ codes "[\"declared\",\"s1\",\"r1\"]"
+    ∷ codes "[\"declare\",\"s1\",\"r1\",\"none\"]"
+    ∷ codes "[\"commit\",\"s1\"]"
+    ∷ codes "[\"close\",\"s1\"]"
+    ∷ [])
+    ≡ map (λ (n : ℕ). codes "[\"no-session\"]") (1 ∷ 2 ∷ 3 ∷ 4 ∷ 5 ∷ 6 ∷ 7 ∷ 8 ∷ 9 ∷ [])
+unfolding line_answer line_of filing_on_literals
+unknown_sessions = refl
 
 -- a line that takes no step is in no history, an export neither
 pub history_of_steps : length (script_history table

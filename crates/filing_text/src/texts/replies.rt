@@ -13,11 +13,11 @@ ghost use Rattle.filing_text.specs.ReplyText.{class_word, exported_text, reply_t
 
 use super::refusals::{push_bad_fact, push_word};
 use super::things::push_thing;
-use super::words::{allowed_word, class_word};
+use super::words::class_word;
 use filing_model::{Allowed, Class, Trouble};
 use filing_step::{Reply, Thing};
 use oim_fact::Fact;
-use oim_report::{Report, push_comma, push_fact, push_quoted, push_report_of};
+use oim_report::{Report, allowed_word, push_comma, push_fact, push_quoted, push_report_of};
 use std::alloc::{AllocError, Global};
 
 /// Appends a whole number.

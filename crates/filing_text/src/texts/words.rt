@@ -1,10 +1,9 @@
 //! The words for classes and for faults of facts.
 
 ghost use Rattle.std.specs.Prelude.{◌≡◌};
-ghost use Rattle.filing_model.specs.ReadReport.{allowed_word};
 ghost use Rattle.filing_text.specs.ReplyText.{class_word, dim_fault_word, fact_fault_word, trouble_word};
 
-use filing_model::{Allowed, Class, DimFault, FactFault, Trouble};
+use filing_model::{Class, DimFault, FactFault, Trouble};
 
 /// The word of a class.
 pub(super) fn class_word(class: Class) -> &'static str
@@ -17,18 +16,6 @@ pub(super) fn class_word(class: Class) -> &'static str
         Class::Consistent => "consistent",
         Class::Inconsistent => "inconsistent",
         Class::Mixed => "mixed",
-    }
-}
-
-/// The word of allowed duplicates.
-pub(super) fn allowed_word(allowed: Allowed) -> &'static str
-    ensures { result.now ≡ allowed_word allowed }
-{
-    match allowed {
-        Allowed::Never => "none",
-        Allowed::Complete => "complete",
-        Allowed::Consistent => "consistent",
-        Allowed::All => "all",
     }
 }
 
