@@ -1,7 +1,3 @@
--- What the lists of the oracle are seen as, and what it comes to of a line.
-pub mod Named
-pub mod Views
-pub mod Alone
-pub mod Cells
+-- What the types of the oracle are seen as, and what it comes to of its lines.
 pub mod Rulings
 pub mod Lines

@@ -4,10 +4,10 @@ ghost use Rattle.std.specs.Prelude.{◌≡◌, not, IfOk};
 ghost use Rattle.std.specs.List.{filter};
 ghost use Rattle.filing_model.specs.Text.{text_eq};
 ghost use Rattle.filing_model.specs.TextMap.{empty, get, insert, remove};
-ghost use Rattle.script_oracle.specs.Named.{named};
+ghost use Rattle.history_oracle.specs.Named.{named};
 
-use crate::entries::find;
 use filing_model::is_same_text;
+use history_oracle::find;
 use std::alloc::{AllocError, Global};
 use std::marker::Model;
 
@@ -20,7 +20,7 @@ pub struct Names {
 impl Model for Names {
     ghost use Rattle.std.specs.Prelude.{ℕ};
     ghost use Rattle.filing_model.specs.TextMap.{TextMap, from_entries};
-    ghost use Rattle.script_oracle.specs.Named.{named};
+    ghost use Rattle.history_oracle.specs.Named.{named};
 
     ghost Value = { TextMap ℕ };
 

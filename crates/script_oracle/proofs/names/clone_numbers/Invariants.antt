@@ -1,5 +1,5 @@
 use Rattle.std.proofs.Common.{◌≡◌, take}
-use Rattle.script_oracle.specs.Named.{named}
+use Rattle.history_oracle.specs.Named.{named}
 use Rattle.script_oracle.proofs.names.clone_numbers.Given as goal
 
 -- so many are copied

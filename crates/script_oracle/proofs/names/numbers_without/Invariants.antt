@@ -1,7 +1,7 @@
 use Rattle.std.proofs.Common.{◌≡◌, not, take}
 use Rattle.std.specs.List.{filter}
 use Rattle.filing_model.specs.Text.{text_eq}
-use Rattle.script_oracle.specs.Named.{named}
+use Rattle.history_oracle.specs.Named.{named}
 use Rattle.script_oracle.proofs.names.numbers_without.Given as goal
 
 -- those of the first numbers

@@ -5,7 +5,7 @@ use Rattle.std.specs.FinMap.Entries.{find}
 use Rattle.filing_model.specs.Text.{text_cmp}
 use Rattle.filing_model.specs.TextMap.{get}
 use Rattle.filing_model.proofs.TextMaps.{get-from_entries}
-use Rattle.script_oracle.specs.Named.{named}
+use Rattle.history_oracle.specs.Named.{named}
 use Rattle.script_oracle.proofs.names.Names.get.Goals as goal
 
 copied : (o : Option (Bor ℕ)) → option_copied o ≡ option_map (λ x. x.now) o

@@ -1,5 +1,5 @@
-use Rattle.script_oracle.specs.Named.{named}
-use Rattle.script_oracle.proofs.NamesInUse.{map_without}
+use Rattle.history_oracle.specs.Named.{named}
+use Rattle.history_oracle.proofs.Plain.{map_without}
 use Rattle.script_oracle.proofs.names.Names.without.Goals as goal
 
 pub returns : goal.returns
