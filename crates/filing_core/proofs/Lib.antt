@@ -1,9 +1,2 @@
--- ---- what a load or a commit is refused for
+-- Loads that are refused.
 pub mod RefusedReports
--- ---- what a core keeps, from entry to entry
-pub mod Keeping
-pub mod Standing
-pub mod CopyAsLaid
-pub mod Committing
-pub mod OneMoreEntry
-pub mod OneMoreItem

@@ -56,8 +56,3 @@ refused c next name r dims none there least =
         let apart : None ≡ Some dims = sym ((obeys_where_no_cell_is_disallowed r.allowed r.facts.entries).0 obeys) ∙ least in
         absurd cc
     by false disobeys = refl
-
--- what a load makes, in the words of whoever asked for it
-pub load_as : (c d : Repository) (m name : Text) (r : Report) (o p : Result StampedReports step.Reply) → c ≡ d → m ≡ name → o ≡ p → LoadMakes c m r o → LoadMakes d name r p
-load_as c d m name r o p same_repository same_name same makes =
-    subst (λ o. LoadMakes d name r o) same (subst (λ n. LoadMakes d n r o) same_name (subst (λ c. LoadMakes c m r o) same_repository makes))

@@ -1,6 +1,8 @@
 -- What contracts of the core cite.
-pub mod Kept
+pub mod States
+pub mod Standing
+pub mod OpenSessions
 pub mod Outcomes
+pub mod Prepared
 pub mod Answers
-pub mod OpenSession
-pub mod Refusals
+pub mod Kept

@@ -1,32 +1,38 @@
--- What the open session is told, in terms of the current version and of what it has staged.
-use Rattle.std.specs.Prelude.{cond, Option, Result, Ok, Err, is_some, unwrap_or}
+-- What a commit is told by the version as it is, and what it makes. No history is looked at.
+use Rattle.std.specs.Prelude.{◌≡◌, cond, Option, Some, None, option_map, unwrap_or}
 use Rattle.std.specs.Option.{option_map_or}
-use Rattle.filing_model.specs.Text.{Text}
-use Rattle.filing_model.specs.Facts.{Fact, RawFact, fit_of}
-use Rattle.filing_model.specs.Reports.{Report}
-use Rattle.filing_model.specs.Repository.{Repository, report_at, fact_in}
-use Rattle.filing_model.specs.Changes.{Change, change_at}
+use Rattle.filing_model.specs.Changes.{Change, after_change}
 use Rattle.filing_model.specs.Replies as reply
 use Rattle.filing_model.specs.Replies.{Reply}
-use Rattle.filing_model.specs.declared.faults.FactFault.{FactFault}
+use Rattle.filing_model.specs.Sessions.{refusal_of}
+use Rattle.filing_model.specs.Versions.{counts}
+use Rattle.filing_model.specs.Stamps.{Version, next_number}
+use Rattle.filing_model.specs.declared.kind.Kind.{Kind}
+use Rattle.filing_model.specs.declared.kind.Kind.TheVariants.{Review, Amend}
+use Rattle.filing_laws.specs.StampedVersions.{first_stamped}
+use Rattle.filing_version.specs.Filed.{StampedReports, version_in}
+use Rattle.filing_session.specs.States.{SessionState}
 
--- what is staged there, or else the report's fact
-abbrev pub seen_fact : Change → Text → Text → Report → Option Fact
-seen_fact change name id r = unwrap_or (change_at change name id) (fact_in r id)
+-- a reply, and the version that it leaves, where it leaves another
+pub record Outcome : Type 0 where
+  pub reply : Reply
+  pub next : Option StampedReports
 
-abbrev pub found_or_absent : Option Fact → Reply
-found_or_absent fact = option_map_or reply.Found fact reply.Absent
+-- it is told so, and where that counts it leaves this version
+pub record Makes (o : Outcome) (told : Reply) (next : Version) : Type 0 where
+  pub told_so : o.reply ≡ told
+  pub next_so : option_map version_in o.next ≡ cond (counts told) (Some next) None
 
-abbrev pub get_outcome : Repository → Change → Text → Text → Reply
-get_outcome c change name id = option_map_or (λ r. found_or_absent (seen_fact change name id r))
-    (report_at c name) reply.NoReport
+-- ---- commits
 
-abbrev pub fit_outcome : Result Fact FactFault → Result Fact Reply
-fit_outcome (Ok fact) = Ok fact
-fit_outcome (Err fault) = Err (reply.BadFact fault)
+-- a change is refused where what it makes disobeys
+abbrev pub change_told : Version → Change → Reply
+change_told v change = unwrap_or (refusal_of (after_change change v.repository)) (reply.Committed (next_number v))
 
--- the fact to be staged, or the reply that refuses it
-abbrev pub add_outcome : Repository → Change → Text → Text → RawFact → Result Fact Reply
-add_outcome c change name id raw = option_map_or
-    (λ r. cond (is_some (seen_fact change name id r)) (Err reply.Taken) (fit_outcome (fit_of r.names raw)))
-    (report_at c name) (Err reply.NoReport)
+-- an amendment is told the first thing that it has read whose stamp is greater than the number of its base
+abbrev pub amendment_told : Version → SessionState → Reply
+amendment_told v s = option_map_or (λ c. reply.Conflict c.0 c.1) (first_stamped s.base.count v.stamp s.reads) (change_told v s.change)
+
+abbrev pub commit_told : Version → SessionState → Kind → Reply
+commit_told v s Review = reply.Closed
+commit_told v s Amend = amendment_told v s

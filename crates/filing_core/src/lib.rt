@@ -1,16 +1,19 @@
-//! The core of the repository: sessions step by step, their commits, and the history of every step with its reply.
+//! The core of the repository: many sessions at once, each validated at its commit (serial validation: Kung and Robinson 1981), and the history of every step with its reply.
 //!
-//! `engine` is `Core`, which takes a step, and `fault` says why it did not. `session` is the open session, `outcome` what it is told and what its commit makes, and `disallowed` tells a cell that its report does not allow.
+//! `engine` is `Core`, which takes a step, and `fault` says why it did not. `prepared` is a load or a commit that is ready to be entered. `sessions` has the open sessions by their numbers. `outcome` is what a load or a commit is told and makes, `conflict` finds what was touched of the things that a session read, and `disallowed` tells a cell that its report does not allow.
 //!
-//! The words in which steps and replies are said are those of `filing_step`, and versions and changes those of `filing_version`. The crate knows nothing of JSON, of devices, of locks or of threads.
+//! The words in which steps and replies are said are those of `filing_step`, versions and changes those of `filing_version`, and a session by itself is that of `filing_session`. The crate knows nothing of JSON, of devices, of locks or of threads.
 #![tactic(auto)]
 
+mod conflict;
 mod disallowed;
 mod engine;
 mod fault;
 mod outcome;
-mod session;
+mod prepared;
+mod sessions;
 
 pub use engine::Core;
 pub use fault::CoreFault;
 pub use filing_step::{Entry, Kind, Reply, Step};
+pub use prepared::Prepared;

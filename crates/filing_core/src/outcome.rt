@@ -1,120 +1,113 @@
-//! What the open session is told, from the current version and what it has staged, and what its commit makes.
+//! `Outcome`: what a load or a commit is told, and the version that it makes.
 
-ghost use Rattle.std.specs.Prelude.{◌≡◌, ◌+◌, ◌<◌, ◌^◌, None, true, option_map, IfOk, Result};
-ghost use Rattle.std.specs.Result.{result_map_both};
-ghost use Rattle.std.specs.Arc.{arc_value};
+ghost use Rattle.std.specs.Prelude.{◌≡◌, ◌+◌, ◌<◌, ◌^◌, None, true, IfOk};
 ghost use Rattle.filing_model.specs.Text.{Text};
 ghost use Rattle.filing_model.specs.TextMap.{get as value_at};
 ghost use Rattle.filing_model.specs.Repository.{report_at};
 ghost use Rattle.filing_model.specs.Sessions.{repository_obeys};
-ghost use Rattle.filing_model.specs.Replies as model;
 ghost use Rattle.filing_step.specs.Steps.{reply_of};
-ghost use Rattle.filing_version.specs.Found.{got_of};
-ghost use Rattle.filing_core.specs.Outcomes.{seen_fact, get_outcome, add_outcome};
-ghost use Rattle.filing_core.specs.Refusals.{CommitMakes, LoadMakes};
-ghost use Rattle.filing_version.specs.Filed.{repository_in};
+ghost use Rattle.filing_version.specs.Filed.{repository_in, version_in};
+ghost use Rattle.filing_core.specs.Outcomes.{Makes, change_told, commit_told};
+ghost use Rattle.filing_model.specs.Lawful.{load_reply};
+ghost use Rattle.filing_model.specs.Stamps.{version_after, version_with};
 
+use crate::conflict::conflict;
 use crate::disallowed::disallowed;
-use filing_step::Reply;
-use filing_version::{Change, Got, RepoVersion};
-use oim_fact::{Fact, RawFact, fit};
+use filing_session::Session;
+use filing_step::{Kind, Reply};
+use filing_version::{Change, RepoVersion};
 use oim_report::Report;
 use std::alloc::{AllocError, Global};
-use std::sync::Arc;
+use std::marker::Model;
 
-/// What stands at an identifier: what is staged there, or else the version's fact.
-fn seen<'a>(current: &'a RepoVersion, change: &'a Change, name: &str, id: &str) -> Got<'a>
-    ensures { got_of result ≡ option_map (seen_fact change.now name.now id.now) (report_at (repository_in current.now) name.now) }
-{
-    match current.get(name, id) {
-        Got::NoReport => Got::NoReport,
-        got => match change.staged(name, id) {
-            None => got,
-            Some(None) => Got::Absent,
-            Some(Some(fact)) => Got::Found(fact),
-        },
-    }
+/// A reply, and the version that it leaves, where it leaves another.
+#[derive(Drop)]
+pub(crate) struct Outcome {
+    pub(crate) reply: Reply,
+    pub(crate) next: Option<RepoVersion>,
 }
 
-fn found(fact: &Arc<Fact>) -> Result<Reply, AllocError>
-    ensures { IfOk result (λ r. reply_of r ≡ model.Found (arc_value fact.now)) }
-{
-    Ok(Reply::Found(fact.clone()?))
+impl Model for Outcome {
+    ghost use Rattle.filing_core.specs.Outcomes.{Outcome as PlainOutcome};
+
+    ghost Value = { PlainOutcome };
+
+    ghost use Rattle.filing_step.specs.Steps.{reply_of};
+
+    ghost view = { λ o. record { reply = reply_of o.reply; next = o.next } };
 }
 
-/// The reply to a get.
-pub(crate) fn get_reply(
-    current: &RepoVersion,
-    change: &Change,
-    name: &str,
-    id: &str,
-) -> Result<Reply, AllocError>
-    ensures { IfOk result (λ r. reply_of r ≡ get_outcome (repository_in current.now) change.now name.now id.now) }
+/// A reply that leaves the version as it is.
+fn told(reply: Reply) -> Outcome
+    ensures { result ≡ record { reply = reply_of reply; next = None } }
 {
-    match seen(current, change, name, id) {
-        Got::NoReport => Ok(Reply::NoReport),
-        Got::Absent => Ok(Reply::Absent),
-        Got::Found(fact) => found(fact),
-    }
+    Outcome { reply, next: None }
 }
 
-/// The fact that an addition stages, or the reply that refuses it.
-pub(crate) fn addition(
-    current: &RepoVersion,
-    change: &Change,
-    name: &str,
-    id: &str,
-    raw: &RawFact,
-) -> Result<Result<Fact, Reply>, AllocError>
-    ensures { IfOk result (λ r. result_map_both (λ f. f) reply_of r
-        ≡ add_outcome (repository_in current.now) change.now name.now id.now raw.now) }
-{
-    let Some(names) = current.names(name) else {
-        return Ok(Err(Reply::NoReport));
-    };
-    if let Got::Found(_) = seen(current, change, name, id) {
-        return Ok(Err(Reply::Taken));
-    }
-    match fit(names, raw.clone()?) {
-        Ok(fact) => Ok(Ok(fact)),
-        Err(fault) => Ok(Err(Reply::BadFact(fault))),
-    }
-}
-
-/// The next version, with what is staged laid over the current one, or the reply that refuses it.
-pub(crate) fn commit_outcome(
-    alloc: Global,
-    current: &RepoVersion,
-    change: &Change,
-) -> Result<Result<RepoVersion, Reply>, AllocError>
-    requires there { (name : Text) → report_at (repository_in current.now) name ≡ None → value_at change.now name ≡ None }
-    requires few { (repository_in current.now).count + 1 < 2 ^ 64 }
-    requires obeys { repository_obeys (repository_in current.now) ≡ true }
-    ensures { IfOk result (CommitMakes (repository_in current.now) change.now) }
-{
-    let next = current.after(alloc, change)?;
-    match next.first_disallowed(change) {
-        None => Ok(Ok(next)),
-        Some((name, dims)) => Ok(Err(disallowed(alloc, &next, name, dims)?)),
-    }
-}
-
-/// The next version, with one report more, or the reply that refuses it. A name that is taken comes first.
+/// Of a load. A name that is taken comes first.
 pub(crate) fn load_outcome(
     alloc: Global,
     current: &RepoVersion,
     name: &str,
     report: &Report,
-) -> Result<Result<RepoVersion, Reply>, AllocError>
+) -> Result<Outcome, AllocError>
     requires { (repository_in current.now).count + 1 < 2 ^ 64 }
-    ensures { IfOk result (LoadMakes (repository_in current.now) name.now report.now) }
+    ensures { IfOk result (λ o. Makes o (load_reply (repository_in current.now) name.now report.now)
+        (version_with name.now report.now (version_in current.now))) }
 {
     if current.allowed(name).is_some() {
-        return Ok(Err(Reply::NameTaken));
+        return Ok(told(Reply::NameTaken));
     }
     let next = current.with_report(alloc, String::from_str(alloc, name)?, report.clone()?)?;
     match next.disallowed_in(name) {
-        None => Ok(Ok(next)),
-        Some(dims) => Ok(Err(disallowed(alloc, &next, name, dims)?)),
+        None => Ok(Outcome {
+            reply: Reply::Loaded(next.number()),
+            next: Some(next),
+        }),
+        Some(dims) => Ok(told(disallowed(alloc, &next, name, dims)?)),
+    }
+}
+
+/// Of a change that no conflict refuses.
+fn change_outcome(
+    alloc: Global,
+    current: &RepoVersion,
+    change: &Change,
+) -> Result<Outcome, AllocError>
+    requires there { (name : Text) → report_at (repository_in current.now) name ≡ None → value_at change.now name ≡ None }
+    requires few { (repository_in current.now).count + 1 < 2 ^ 64 }
+    requires obeys { repository_obeys (repository_in current.now) ≡ true }
+    ensures { IfOk result (λ o. Makes o (change_told (version_in current.now) change.now)
+        (version_after change.now (version_in current.now))) }
+{
+    let next = current.after(alloc, change)?;
+    match next.first_disallowed(change) {
+        None => Ok(Outcome {
+            reply: Reply::Committed(next.number()),
+            next: Some(next),
+        }),
+        Some((name, dims)) => Ok(told(disallowed(alloc, &next, name, dims)?)),
+    }
+}
+
+/// Of a session's commit: a review is closed; an amendment is told its first conflict, or what its change makes disallowed, or passes.
+pub(crate) fn commit_outcome(
+    alloc: Global,
+    current: &RepoVersion,
+    session: &Session,
+) -> Result<Outcome, AllocError>
+    requires there { (name : Text) → report_at (repository_in current.now) name ≡ None
+        → value_at session.now.state.change name ≡ None }
+    requires few { (repository_in current.now).count + 1 < 2 ^ 64 }
+    requires obeys { repository_obeys (repository_in current.now) ≡ true }
+    ensures { IfOk result (λ o. Makes o (commit_told (version_in current.now) session.now.state session.now.state.kind)
+        (version_after session.now.state.change (version_in current.now))) }
+{
+    match session.kind() {
+        Kind::Review => Ok(told(Reply::Closed)),
+        Kind::Amend => match conflict(current, session) {
+            Some((number, thing)) => Ok(told(Reply::Conflict(number, thing.clone()?))),
+            None => change_outcome(alloc, current, session.change()),
+        },
     }
 }

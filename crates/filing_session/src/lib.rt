@@ -14,6 +14,7 @@ mod stages;
 
 pub use filing_model::Kind;
 pub use filing_step::{Asked, Call, Limit, Reply, Sought, Thing};
+pub use pages::period_of;
 pub use ready::Ready;
 pub use runs::{
     each_amendment_stages_its_net_change, each_effect_is_its_call, each_review_stages_nothing,

@@ -15,8 +15,8 @@ use filing_step::{Asked, Limit, Reply, Sought, Thing};
 use filing_version::{Asked as Period, Ids, RepoVersion};
 use std::alloc::{AllocError, Global};
 
-/// The period that is asked for, without its text.
-fn period_of(asked: &Asked) -> Period<'_>
+/// The period that is asked for, without a text of its own. It takes no memory.
+pub fn period_of(asked: &Asked) -> Period<'_>
     ensures { borrowed.asked_of result ≡ asked_of asked.now }
 {
     match asked {

@@ -1,0 +1,54 @@
+//! What was touched of the things that a session read.
+
+ghost use Rattle.std.specs.Prelude.{◌≡◌, option_map};
+ghost use Rattle.filing_model.specs.Things as thing;
+ghost use Rattle.filing_step.specs.Steps.{thing_of};
+ghost use Rattle.filing_version.specs.Filed.{version_in};
+ghost use Rattle.filing_laws.specs.StampedVersions.{first_stamped};
+
+use filing_session::{Session, period_of};
+use filing_step::{Sought, Thing};
+use filing_version::RepoVersion;
+
+/// The number of the last commit that touched a range, or 0.
+fn stamp_of_range(
+    version: &RepoVersion,
+    report: &str,
+    sought: &Sought,
+    upto: Option<&str>,
+) -> u64
+    ensures { result ≡ (version_in version.now).stamp (thing.Range report.now sought.now (option_map (λ t. t.now) upto.entry)) }
+{
+    let period = period_of(&sought.period);
+    version.stamp_range(report, &sought.concept, period, sought.after.as_deref(), upto)
+}
+
+/// The number of the last load or commit that touched a thing, or 0.
+fn stamp_of(version: &RepoVersion, thing: &Thing) -> u64
+    ensures { result ≡ (version_in version.now).stamp (thing_of thing.now) }
+{
+    match thing {
+        Thing::Report(report) => version.stamp_report(report),
+        Thing::Id(report, id) => version.stamp_id(report, id),
+        Thing::Cell(report, dims) => version.stamp_cell(report, dims),
+        Thing::Range(report, sought, upto) => {
+            stamp_of_range(version, report, sought, upto.as_deref())
+        }
+        Thing::Policy(report) => version.stamp_policy(report),
+    }
+}
+
+/// The first thing that a session read whose stamp is greater than the number of its base, with that stamp. The history is not looked at.
+pub(crate) fn conflict<'a>(version: &RepoVersion, session: &'a Session) -> Option<(u64, &'a Thing)>
+    ensures { option_map (λ c. (c.0, thing_of c.1.now)) result
+        ≡ first_stamped session.now.state.base.count (version_in version.now).stamp session.now.state.reads }
+{
+    let opened_at = session.base().number();
+    for thing in session.reads() {
+        let stamp = stamp_of(version, thing);
+        if opened_at < stamp {
+            return Some((stamp, thing));
+        }
+    }
+    None
+}
