@@ -1,2 +1,13 @@
--- Loads that are refused.
+-- ---- open sessions
+pub mod SessionsAfter
+pub mod FoundSessions
+pub mod Replying
+pub mod ChangedReports
+-- ---- loads and commits
 pub mod RefusedReports
+pub mod CommitsByVersion
+-- ---- what is kept
+pub mod KeptAfter
+pub mod NewestEntry
+pub mod Asking
+pub mod Preparing

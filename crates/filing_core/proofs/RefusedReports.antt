@@ -1,5 +1,5 @@
 -- A load is refused for a name that is taken, or for the least disallowed cell of its report.
-use Rattle.std.proofs.Common.{◌≡◌, ◌∙◌, ap, sym, refl, subst, cond, Result, true, false, true≢false, Bool, [], Some, None, Option, option_map, is_some}
+use Rattle.std.proofs.Common.{◌≡◌, ◌∙◌, ◌+◌, ap, sym, refl, cond, true, false, true≢false, Bool, [], Some, None, Option, option_map, is_some}
 use Rattle.std.specs.Option.{option_map_or}
 use Rattle.filing_model.specs.Text.{Text}
 use Rattle.filing_model.specs.TextMap.{get}
@@ -16,9 +16,8 @@ use Rattle.filing_model.proofs.TextMaps.{get-insert}
 use Rattle.filing_model.proofs.Texts.{text_eq-refl}
 use Rattle.filing_model.proofs.DisallowedCells.{obeys_where_no_cell_is_disallowed}
 use Rattle.filing_laws.specs.NetChange.{refusal_at}
-use Rattle.filing_step.specs.declared.reply.Reply as step
-use Rattle.filing_version.specs.Filed.{StampedReports}
-use Rattle.filing_core.specs.Refusals.{report_refusal, load_refusal, LoadMakes}
+use Rattle.filing_model.specs.Lawful.{load_reply}
+use Rattle.filing_model.specs.Versions.{counts}
 
 pub absent : (o : Option Report) → is_some (option_map (λ r. r.allowed) o) ≡ false → o ≡ None
 absent None none = refl
@@ -28,17 +27,19 @@ absent (Some r) there = absurd (true≢false there)
 pub loaded_there : (c : Repository) (name : Text) (r : Report) → report_at (with_report c name r) name ≡ Some r
 loaded_there c name r = get-insert c.reports name r name ∙ ap (λ b. cond b (Some r) (get c.reports name)) (text_eq-refl name)
 
-pub taken : (c : Repository) (name : Text) (r : Report) → is_some (report_at c name) ≡ true → load_refusal c name r ≡ Some reply.NameTaken
-taken c name r there = ap (λ b. cond b (Some reply.NameTaken) (report_refusal name r)) there
+pub taken : (c : Repository) (name : Text) (r : Report) → is_some (report_at c name) ≡ true → load_reply c name r ≡ reply.NameTaken
+taken c name r there = ap (λ b. cond b reply.NameTaken (cond (report_obeys r) (reply.Loaded (c.count + 1)) (disallowed_cell name r))) there
 
-free : (c : Repository) (name : Text) (r : Report) → report_at c name ≡ None → load_refusal c name r ≡ report_refusal name r
-free c name r none = ap (λ o. cond (is_some o) (Some reply.NameTaken) (report_refusal name r)) none
+free : (c : Repository) (name : Text) (r : Report) → report_at c name ≡ None
+    → load_reply c name r ≡ cond (report_obeys r) (reply.Loaded (c.count + 1)) (disallowed_cell name r)
+free c name r none = ap (λ o. cond (is_some o) reply.NameTaken (cond (report_obeys r) (reply.Loaded (c.count + 1)) (disallowed_cell name r))) none
 
 -- no cell is disallowed
-pub accepted : (c : Repository) (name : Text) (r : Report) → report_at c name ≡ None → least_disallowed r.allowed r.facts.entries ≡ None → load_refusal c name r ≡ None
+pub accepted : (c : Repository) (name : Text) (r : Report) → report_at c name ≡ None → least_disallowed r.allowed r.facts.entries ≡ None
+    → load_reply c name r ≡ reply.Loaded (c.count + 1)
 accepted c name r none least =
     free c name r none
-    ∙ ap (λ b. cond b None (Some (disallowed_cell name r))) ((obeys_where_no_cell_is_disallowed r.allowed r.facts.entries).1 least)
+    ∙ ap (λ b. cond b (reply.Loaded (c.count + 1)) (disallowed_cell name r)) ((obeys_where_no_cell_is_disallowed r.allowed r.facts.entries).1 least)
 
 -- how a report is refused whose least disallowed cell, if any, is this
 abbrev told : Text → Report → Option Dims → Reply
@@ -46,13 +47,21 @@ told name r least = option_map_or (λ dims. reply.Disallowed name (class_of (cel
 
 -- one is
 pub refused : (c next : Repository) (name : Text) (r : Report) (dims : Dims) → report_at c name ≡ None → report_at next name ≡ Some r
-    → least_disallowed r.allowed r.facts.entries ≡ Some dims → load_refusal c name r ≡ Some (refusal_at next (name, dims))
+    → least_disallowed r.allowed r.facts.entries ≡ Some dims → load_reply c name r ≡ refusal_at next (name, dims)
 refused c next name r dims none there least =
-    free c name r none ∙ by (report_obeys r) refl ∙ ap (λ o. Some (told name r o)) least
-    ∙ sym (ap (λ o. Some (option_map_or (λ (r : Report). reply.Disallowed name (class_of (cell_facts dims r.facts)) (cell_ids dims r.facts)) o reply.NoReport)) there)
+    free c name r none ∙ by (report_obeys r) refl ∙ ap (told name r) least
+    ∙ sym (ap (λ o. option_map_or (λ (r : Report). reply.Disallowed name (class_of (cell_facts dims r.facts)) (cell_ids dims r.facts)) o reply.NoReport) there)
   where
-    by : (b : Bool) → report_obeys r ≡ b → cond b None (Some (disallowed_cell name r)) ≡ Some (told name r (least_disallowed r.allowed r.facts.entries))
+    by : (b : Bool) → report_obeys r ≡ b → cond b (reply.Loaded (c.count + 1)) (disallowed_cell name r) ≡ told name r (least_disallowed r.allowed r.facts.entries)
     by true obeys =
         let apart : None ≡ Some dims = sym ((obeys_where_no_cell_is_disallowed r.allowed r.facts.entries).0 obeys) ∙ least in
         absurd cc
     by false disobeys = refl
+
+-- which does not count
+pub refusal_at_is_quiet : (c : Repository) (d : Text × Dims) → counts (refusal_at c d) ≡ false
+refusal_at_is_quiet c d = by (report_at c d.0)
+  where
+    by : (o : Option Report) → counts (option_map_or (λ (r : Report). reply.Disallowed d.0 (class_of (cell_facts d.1 r.facts)) (cell_ids d.1 r.facts)) o reply.NoReport) ≡ false
+    by None = refl
+    by (Some r) = refl

@@ -176,17 +176,19 @@ module _ (base : Repository) (calls : List Call) where
   abbrev values : List (Text × Allowed)
   values = staged_values calls (solo_replies Amend base calls)
 
-  same_values : (m : Text) → declared_in (pruned base change) m ≡ declared_in (net_change base calls (solo_replies Amend base calls)) m
-  same_values m =
-      ap (λ (x : ReportChange). x.declared) (change_in-pruned base change m)
-      ∙ value_is base calls m
+  alone : (o : Option Allowed) → option_or o None ≡ o
+  alone None = refl
+  alone (Some value) = refl
+
+  pub declared_as_net : (m : Text) → declared_in change m ≡ declared_in (net_change base calls (solo_replies Amend base calls)) m
+  declared_as_net m =
+      value_is base calls m
       ∙ sym (declared_in-with_values values (change_between base copy places) m
       ∙ ap (option_or (last_value m values)) (declared_in-change_between base copy places m)
       ∙ alone (last_value m values))
-    where
-      alone : (o : Option Allowed) → option_or o None ≡ o
-      alone None = refl
-      alone (Some value) = refl
+
+  same_values : (m : Text) → declared_in (pruned base change) m ≡ declared_in (net_change base calls (solo_replies Amend base calls)) m
+  same_values m = ap (λ (x : ReportChange). x.declared) (change_in-pruned base change m) ∙ declared_as_net m
 
   same_puts : (m q : Text) → change_at (pruned base change) m q ≡ change_at (net_change base calls (solo_replies Amend base calls)) m q
   same_puts m q =

@@ -7,5 +7,5 @@ use Rattle.filing_core.proofs.conflict.conflict.Given as goal
 -- of the things that are left the first is that of all
 abbrev pub invariant-loop-thing : goal.invariant-loop-thing
 invariant-loop-thing l =
-    first_stamped l.opened_at (version_in l.args.version.now).stamp (map thing_of l.thing-iterator)
-    ≡ first_stamped l.opened_at (version_in l.args.version.now).stamp (map thing_of l.initial.thing-iterator)
+    first_stamped l.opened_at (version_in l.version).stamp (map thing_of l.thing-iterator)
+    ≡ first_stamped l.opened_at (version_in l.version).stamp (map thing_of l.initial.thing-iterator)

@@ -1,0 +1,46 @@
+use Rattle.std.proofs.Common.{◌≡◌, ◌∙◌, ap, sym, Some, None, cond, option_map, option_and_then, is_some}
+use Rattle.filing_model.specs.Reports.{Report}
+use Rattle.filing_model.specs.Repository.{report_at, with_report}
+use Rattle.filing_model.specs.Replies.{Loaded}
+use Rattle.filing_model.specs.Stamps.{Version, version_with}
+use Rattle.filing_model.specs.Versions.{counts}
+use Rattle.filing_model.specs.Duplicates.{least_disallowed}
+use Rattle.filing_version.specs.Filed.{repository_in, version_in}
+use Rattle.filing_core.proofs.RefusedReports.{absent, loaded_there, accepted, refused, refusal_at_is_quiet}
+use Rattle.filing_core.proofs.outcome.load_outcome.Goals as goal
+
+pub returns-in-None : goal.returns-in-None
+returns-in-None c =
+    let v = version_in c.args.current.now in
+    let before = repository_in c.args.current.now in
+    let name = c.args.name.now in
+    let report = c.args.report.now in
+    let made : version_in c.in_ok-next.next ≡ version_with name report v =
+    c.in_ok-next.ensures ∙ (λ i. version_with (c.in_ok-from_str.ensures.ok i) (c.in_ok-clone.ensures.cases i) v) in
+    let none : report_at before name ≡ None = absent (report_at before name) (ap is_some (sym c.allowed.ensures) ∙ sym c.is_some.ensures ∙ c.if-is_some.false) in
+    let there : report_at (repository_in c.in_ok-next.next) name ≡ Some report = ap (λ (w : Version). report_at w.repository name) made ∙ loaded_there before name report in
+    let least = sym (c.in-None.ensures ∙ ap (option_and_then (λ (r : Report). least_disallowed r.allowed r.facts.entries)) there) in
+    let told = accepted before name report none least in
+    record {
+      told_so = ap Loaded (c.number.ensures ∙ ap (λ (w : Version). w.repository.count) made) ∙ sym told;
+      next_so = ap Some made ∙ ap (λ r. cond (counts r) (Some (version_with name report v)) None) (sym told);
+    }
+
+pub returns-in_ok-disallowed-in-Some : goal.returns-in_ok-disallowed-in-Some
+returns-in_ok-disallowed-in-Some c =
+    let v = version_in c.args.current.now in
+    let before = repository_in c.args.current.now in
+    let name = c.args.name.now in
+    let report = c.args.report.now in
+    let dims = c.in-Some.dims.now in
+    let next = repository_in c.in_ok-next.next in
+    let made : version_in c.in_ok-next.next ≡ version_with name report v =
+    c.in_ok-next.ensures ∙ (λ i. version_with (c.in_ok-from_str.ensures.ok i) (c.in_ok-clone.ensures.cases i) v) in
+    let none : report_at before name ≡ None = absent (report_at before name) (ap is_some (sym c.allowed.ensures) ∙ sym c.is_some.ensures ∙ c.if-is_some.false) in
+    let there : report_at next name ≡ Some report = ap (λ (w : Version). report_at w.repository name) made ∙ loaded_there before name report in
+    let least = sym (c.in-Some.ensures ∙ ap (option_and_then (λ (r : Report). least_disallowed r.allowed r.facts.entries)) there) in
+    let told = refused before next name report dims none there least in
+    record {
+      told_so = ap (λ o. o.reply) c.told-in-Some.ensures ∙ c.in_ok-disallowed-in-Some.ensures ∙ sym told;
+      next_so = ap (λ o. option_map version_in o.next) c.told-in-Some.ensures ∙ ap (λ b. cond b (Some (version_with name report v)) None) (sym (refusal_at_is_quiet next (name, dims)) ∙ ap counts (sym told));
+    }
