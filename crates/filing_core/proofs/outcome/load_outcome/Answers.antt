@@ -1,6 +1,6 @@
 use Rattle.std.proofs.Common.{◌≡◌, ◌∙◌, ap, sym, Some, None, cond, option_map, option_and_then, is_some}
 use Rattle.filing_model.specs.Reports.{Report}
-use Rattle.filing_model.specs.Repository.{report_at, with_report}
+use Rattle.filing_model.specs.Repository.{report_at}
 use Rattle.filing_model.specs.Replies.{Loaded}
 use Rattle.filing_model.specs.Stamps.{Version, version_with}
 use Rattle.filing_model.specs.Versions.{counts}
