@@ -16,7 +16,7 @@ returns-in-Some-Some c =
     let (report, found, is_report) = of_what_was_found (report_at version name) c.in-Some-Some.info.now c.in-Some-Some.entries
     c.in-Some-Some.ensures c.in-Some-Some.ensures' in
     let now : repository_in c.deref-version.result.now ≡ repository c.args.self.now.history =
-    ap repository_in c.deref-version.ensures ∙ c.current.ensures ∙ ap (λ state. repository state.history) c.self.view_is in
+    ap repository_in c.deref-version.ensures ∙ c.current.ensures.repository ∙ ap (λ state. repository state.history) c.self.view_is in
     IfOk-weaker c.exported_reply_of.result _ _ (λ text written. λ i. (
       (ap (λ d. option_map_or exported_text (report_at d name) (reply_text NoReport)) (sym now)
           ∙ ap (λ o. option_map_or exported_text o (reply_text NoReport)) found ∙ sym written) i,
