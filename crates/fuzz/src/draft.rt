@@ -9,11 +9,16 @@ use std::mem;
 
 const HEX: [u8; 16] = *b"0123456789abcdef";
 
-/// The bytes so far, and the generator of what comes next.
+/// The names of sessions.
+pub(crate) const SESSIONS: [&str; 4] = ["s1", "s2", "s 3", "\"é\\"];
+
+/// The bytes so far, the generator of what comes next, which names of sessions are in use, and how much was asked of each session.
 #[derive(Drop)]
 pub(crate) struct Draft {
     rng: Pcg32,
     text: Vec<u8>,
+    used: [bool; 4],
+    asked: [u32; 4],
 }
 
 impl Draft {
@@ -22,6 +27,8 @@ impl Draft {
         Draft {
             rng: Pcg32::new(seed, number),
             text: Vec::new(alloc),
+            used: [false; 4],
+            asked: [0; 4],
         }
     }
 
@@ -49,6 +56,60 @@ impl Draft {
     {
         let place = self.rng.next_u32() as usize % words.len();
         words[place]
+    }
+
+    /// The place of a name that is in use, or that is not, as is wanted; now and then, or where there is none, of any.
+    fn place_of_name(&mut self, wanted: bool) -> usize
+        ensures { result < 4 }
+    {
+        let start = self.below(4);
+        if self.one_in(24) {
+            return start as usize;
+        }
+        for turn in 0..4 {
+            let place = ((start + turn) % 4) as usize;
+            if self.used[place] == wanted {
+                return place;
+            }
+        }
+        start as usize
+    }
+
+    /// Whether only one name is in use, or none.
+    pub(crate) fn is_calm(&self) -> bool {
+        let mut names = 0u32;
+        for place in 0..4 {
+            if self.used[place] {
+                names = names.saturating_add(1);
+            }
+        }
+        names < 2
+    }
+
+    /// The name of a session, mostly of one that is in use, of which something is asked.
+    pub(crate) fn asked_name(&mut self) -> &'static str {
+        let place = self.place_of_name(true);
+        self.asked[place] = self.asked[place].saturating_add(1);
+        SESSIONS[place]
+    }
+
+    /// The name of a session, mostly of one that is in use and of which much was asked. From here on it is not in use.
+    pub(crate) fn ended_name(&mut self) -> &'static str {
+        let mut place = self.place_of_name(true);
+        let other = self.place_of_name(true);
+        if self.asked[other] > self.asked[place] {
+            place = other;
+        }
+        self.used[place] = false;
+        self.asked[place] = 0;
+        SESSIONS[place]
+    }
+
+    /// A name that is mostly not in use, and is so from here on.
+    pub(crate) fn opened_name(&mut self) -> &'static str {
+        let place = self.place_of_name(false);
+        self.used[place] = true;
+        SESSIONS[place]
     }
 
     pub(crate) fn put(&mut self, text: &str) -> Result<(), AllocError> {

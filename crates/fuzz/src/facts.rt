@@ -23,10 +23,12 @@ const LONG: &str = "LONG";
 
 fn good_text(draft: &mut Draft) -> Parts {
     Parts {
-        concept: draft.pick(&["\"ex:Name\"", "\"ex:Name\"", "\"ex:Note\""]),
-        period: draft.pick(&["", "", "", "", "", "", "\"2024-01-01T00:00:00\""]),
+        concept: draft.pick(&["\"ex:Name\"", "\"ex:Name\"", "\"ex:Name\"", "\"ex:Note\""]),
+        period: draft.pick(&["", "", "", "\"2024\""]),
         unit: "",
-        segment: draft.pick(&["", "", "", "", "", "", "", "", "\"a\"", "null"]),
+        segment: draft.pick(&[
+            "", "", "", "", "", "", "", "", "", "", "", "", "\"a\"", "null",
+        ]),
         value: draft.pick(&["\"Acme\"", "\"Acme\"", "\"Bolt\"", "\"\"", "null"]),
         decimals: draft.pick(&["", "", "", "null"]),
         links: draft.pick(&["", "", "", "", "{\"l\":{\"g\":[\"f2\", 1]}}", "{}"]),
@@ -36,7 +38,12 @@ fn good_text(draft: &mut Draft) -> Parts {
 
 fn good_number(draft: &mut Draft) -> Parts {
     Parts {
-        concept: draft.pick(&["\"ex:Assets\"", "\"ex:Assets\"", "\"ex:Cash\""]),
+        concept: draft.pick(&[
+            "\"ex:Assets\"",
+            "\"ex:Assets\"",
+            "\"ex:Assets\"",
+            "\"ex:Cash\"",
+        ]),
         unit: draft.pick(&["", "", "", "", "", "", "\"iso4217:EUR\""]),
         value: draft.pick(&[
             "\"100\"",
@@ -55,10 +62,10 @@ fn good_number(draft: &mut Draft) -> Parts {
 }
 
 fn good_fact(draft: &mut Draft) -> Parts {
-    if draft.one_in(2) {
-        good_text(draft)
-    } else {
+    if draft.one_in(3) {
         good_number(draft)
+    } else {
+        good_text(draft)
     }
 }
 
@@ -156,6 +163,27 @@ fn bad_number(draft: &mut Draft, case: u32, number: Parts) -> Parts {
     }
 }
 
+/// A fact with few dimensions.
+fn good_cell(draft: &mut Draft) -> Parts {
+    Parts {
+        unit: "",
+        segment: "",
+        ..good_fact(draft)
+    }
+}
+
+/// A fact with dimensions that are refused for a cell too.
+fn bad_cell(draft: &mut Draft) -> Parts {
+    let text = good_text(draft);
+    let case = match draft.below(4) {
+        0 => 11,
+        1 => 12,
+        2 => 13,
+        _ => 17,
+    };
+    bad_dimension(draft, case, text)
+}
+
 /// A fact with one thing wrong, or more.
 fn bad_fact(draft: &mut Draft) -> Parts {
     let text = good_text(draft);
@@ -197,11 +225,8 @@ impl Draft {
         Ok(true)
     }
 
-    fn put_dimensions(&mut self, parts: &Parts, later: bool) -> Result<bool, AllocError> {
-        if !parts.dimensions {
-            return Ok(later);
-        }
-        self.put_member(later, "dimensions", "{")?;
+    /// The members of an object of dimensions, and its end.
+    fn put_dimension_members(&mut self, parts: &Parts) -> Result<(), AllocError> {
         let start = self.below(4);
         let mut some = false;
         for turn in 0..4 {
@@ -212,7 +237,15 @@ impl Draft {
                 _ => self.put_member(some, "ex:Segment", parts.segment)?,
             };
         }
-        self.put("}")?;
+        self.put("}")
+    }
+
+    fn put_dimensions(&mut self, parts: &Parts, later: bool) -> Result<bool, AllocError> {
+        if !parts.dimensions {
+            return Ok(later);
+        }
+        self.put_member(later, "dimensions", "{")?;
+        self.put_dimension_members(parts)?;
         Ok(true)
     }
 
@@ -249,5 +282,20 @@ impl Draft {
             good_fact(self)
         };
         self.put_parts(&parts)
+    }
+
+    /// The dimensions of a cell, of which one in so many are refused.
+    pub(crate) fn put_cell_dimensions(&mut self, bound: u32) -> Result<(), AllocError>
+        requires { 0 < bound }
+    {
+        let parts = if self.one_in(bound) {
+            bad_cell(self)
+        } else if self.one_in(4) {
+            good_fact(self)
+        } else {
+            good_cell(self)
+        };
+        self.put("{")?;
+        self.put_dimension_members(&parts)
     }
 }

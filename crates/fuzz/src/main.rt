@@ -1,19 +1,22 @@
 //! Draws scripts, and compares what is written for each with the output that the test oracle computes, byte for byte.
 //!
-//! It takes two words, a seed and a number of scripts. Each script is drawn from the seed and its own number. `draft` is a text that grows by what is drawn, `facts`, `reports` and `scripts` say what is drawn, and `tally` counts the replies.
+//! It takes two words, a seed and a number of scripts. Each script is drawn from the seed and its own number. `draft` is a text that grows by what is drawn, `facts`, `reports` and `scripts` say what is drawn, `words` gives the words of a reply, and `tally` counts the replies. Of a large number of scripts it also tells which of `kinds` never came, and whether too few commits were refused.
 #![tactic(auto)]
 
 ghost use Rattle.std.specs.Prelude.{◌≡◌, ◌≤◌, ◌<◌};
 
 mod draft;
 mod facts;
+mod kinds;
 mod reports;
 mod scripts;
 mod tally;
+mod words;
 
 use anyhow::{Result, anyhow};
 use draft::Draft;
 use filing_cli::{MemoryIn, MemoryOut, run_script};
+use kinds::KINDS;
 use oim_fact::NumericTable;
 use oim_report::read_table;
 use script_oracle::expected_output;
@@ -32,6 +35,9 @@ const ROOM: usize = 65536;
 
 // So many scripts that differ are told one by one.
 const TOLD: u64 = 10;
+
+// So many scripts have replies of every kind.
+const LARGE: u64 = 1000;
 
 /// The line of the first byte at which two texts differ, from 1 on.
 fn first_difference(one: &[u8], other: &[u8]) -> Option<u64> {
@@ -87,7 +93,7 @@ fn try_script(
     draft.put_script(alloc)?;
     let piece = 1 + draft.below(400) as usize;
     let expected = expected_output(alloc, draft.text(), table)?;
-    tally.count_all(alloc, &expected)?;
+    tally.count_all(alloc, draft.text(), &expected)?;
     departure::<Brand, Brand>(
         alloc,
         table,
@@ -129,17 +135,45 @@ fn read_words(rt: &HostRuntime) -> Result<(u64, u64)> {
     Ok((seed.parse::<u64>()?, scripts.parse::<u64>()?))
 }
 
+/// Prints how often each reply came, and how many commits were refused.
+fn tell_counts<R: Print>(rt: &R, tally: &Tally) -> Result<()> {
+    for (words, count) in tally.counts() {
+        println!(rt; "{count} {words}")?;
+    }
+    let commits = tally.commits();
+    let refused = tally.refused();
+    println!(rt; "{commits} commits of sessions with changes, {refused} of them refused")?;
+    Ok(())
+}
+
+/// Tells what a large number of scripts should have had and has not, and gives how much that is.
+fn tell_lacks<R: Print>(rt: &R, tally: &Tally) -> Result<u64> {
+    let mut lacks = 0u64;
+    for kind in &KINDS {
+        if !tally.counts().contains_key(*kind) {
+            println!(rt; "never came: {kind}")?;
+            lacks = lacks.saturating_add(1);
+        }
+    }
+    if tally.refused() < tally.commits() / 3 {
+        println!(rt; "too few commits were refused")?;
+        lacks = lacks.saturating_add(1);
+    }
+    Ok(lacks)
+}
+
 fn main(rt: HostRuntime) -> Result<()> {
     let (seed, scripts) = read_words(&rt)?;
     let mut tally = Tally::new(rt.alloc());
     let differ = try_scripts(&rt, seed, scripts, &mut tally)?;
-    for (words, count) in tally.counts() {
-        println!(&rt; "{count} {words}")?;
-    }
-    let lines = tally.lines();
-    println!(&rt; "{scripts} scripts, {lines} replies, {differ} differ")?;
+    tell_counts(&rt, &tally)?;
+    let replies = tally.replies();
+    println!(&rt; "{scripts} scripts, {replies} replies, {differ} differ")?;
     if differ > 0 {
         return Err(anyhow!("some scripts differ"));
+    }
+    if scripts >= LARGE && tell_lacks(&rt, &tally)? > 0 {
+        return Err(anyhow!("the scripts lack something"));
     }
     Ok(())
 }

@@ -21,8 +21,6 @@ fn good_info(draft: &mut Draft) -> Info {
         document_type: DOCUMENT_TYPE,
         features: draft.pick(&[
             "{\"xbrl:allowedDuplicates\":\"none\"}",
-            "{\"xbrl:allowedDuplicates\":\"none\"}",
-            "{\"xbrl:allowedDuplicates\":\"complete\"}",
             "{\"xbrl:allowedDuplicates\":\"complete\"}",
             "{\"xbrl:allowedDuplicates\":\"consistent\"}",
             "{\"xbrl:allowedDuplicates\":\"consistent\"}",
@@ -106,27 +104,27 @@ impl Draft {
     fn put_facts(&mut self) -> Result<(), AllocError> {
         self.put("\"facts\":{")?;
         let mut some = false;
-        for _ in 0..self.below(5) {
-            let id = self.pick(&["f1", "f2", "f3", "f4"]);
+        for _ in 0..self.below(7) {
+            let id = self.pick(&["f1", "f2", "f3", "f4", "f5"]);
             some = self.put_member(some, id, " ")?;
-            if self.one_in(60) {
+            if self.one_in(120) {
                 self.put("[]")?;
             } else {
-                self.put_fact(32)?;
+                self.put_fact(60)?;
             }
         }
         self.put("}")
     }
 
     fn put_report_object(&mut self) -> Result<(), AllocError> {
-        let info = if self.one_in(8) {
+        let info = if self.one_in(16) {
             bad_info(self)
         } else {
             good_info(self)
         };
         self.put("{")?;
         self.put_space()?;
-        match self.below(48) {
+        match self.below(72) {
             0 => self.put_info(&info)?,
             1 => {
                 self.put_info(&info)?;
@@ -139,7 +137,7 @@ impl Draft {
                 self.put("\"documentInfo\":null,")?;
                 self.put_facts()?;
             }
-            4..24 => {
+            4..36 => {
                 self.put_facts()?;
                 self.put(",")?;
                 self.put_info(&info)?;
@@ -160,7 +158,7 @@ impl Draft {
             self.put_bytes(&[0xef, 0xbb, 0xbf])?;
         }
         self.put_report_object()?;
-        match self.below(12) {
+        match self.below(16) {
             0 => self.put("}")?,
             1 => self.cut(),
             2 => self.put("\n")?,

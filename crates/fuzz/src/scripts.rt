@@ -1,20 +1,47 @@
-//! Scripts: lines of every kind, with few names, so that they meet.
+//! Scripts: lines of every kind, with few names and many sessions at once, so that they meet.
 
 ghost use Rattle.std.specs.Prelude.{◌<◌, length};
 
 use crate::draft::Draft;
 use std::alloc::{AllocError, Global};
 
-const REPORTS: [&str; 9] = ["r1", "r1", "r1", "r1", "r1", "r2", "r2", "r2", "r\"é\\"];
-
-const SESSIONS: [&str; 16] = [
-    "s1", "s1", "s1", "s1", "s1", "s1", "s1", "s1", "s1", "s1", "s1", "s1", "s1", "s1", "s2", "s 3",
+const REPORTS: [&str; 20] = [
+    "r1", "r1", "r1", "r1", "r1", "r1", "r1", "r1", "r1", "r1", "r1", "r1", "r1", "r1", "r1", "r1",
+    "r2", "r2", "r2", "r\"é\\",
 ];
 
-const IDS: [&str; 8] = ["f1", "f1", "f2", "f2", "f3", "f4", "f5", "\tf"];
+// The names of later loads.
+const LOADED: [&str; 5] = ["r1", "r2", "r2", "r\"é\\", "r\"é\\"];
+
+const IDS: [&str; 10] = ["f1", "f1", "f1", "f2", "f2", "f2", "f3", "f3", "f4", "\tf"];
+
+const KINDS: [&str; 7] = [
+    "amend", "amend", "amend", "amend", "amend", "amend", "review",
+];
+
+const CONCEPTS: [&str; 7] = [
+    "ex:Name",
+    "ex:Name",
+    "ex:Name",
+    "ex:Name",
+    "ex:Assets",
+    "ex:Assets",
+    "Name",
+];
+
+const ALLOWED: [&str; 4] = ["none", "complete", "consistent", "all"];
+
+// Parts of a page's line as JSON texts.
+const PERIODS: [&str; 7] = [
+    "true", "true", "true", "null", "null", "\"2024\"", "\"2025\"",
+];
+
+const AFTERS: [&str; 6] = ["null", "null", "null", "\"f1\"", "\"f2\"", "\"\""];
+
+const LIMITS: [&str; 6] = ["1", "1", "2", "3", "10", "1000"];
 
 // Lines that are no line of a script.
-const BAD_LINES: [&str; 36] = [
+const BAD_LINES: [&str; 55] = [
     "[",
     "[]",
     "{}",
@@ -24,7 +51,7 @@ const BAD_LINES: [&str; 36] = [
     "[1]",
     "[\"open\"]",
     "[\"open\",\"s1\"]",
-    "[\"open\",\"s1\",\"review\"]",
+    "[\"open\",\"s1\",\"Review\"]",
     "[\"open\",\"s1\",\"amend\",1]",
     "[\"open\",1,\"amend\"]",
     "[\"open\",\"s1\",null]",
@@ -48,7 +75,26 @@ const BAD_LINES: [&str; 36] = [
     "[\"export\",1]",
     "[\"export\",\"r1\",\"r2\"]",
     "[\"Open\",\"s1\",\"amend\"]",
-    "[\"remove\",\"s1\",\"r1\",\"f1\"]",
+    "[\"remove\",\"s1\",\"r1\"]",
+    "[\"remove\",\"s1\",\"r1\",1]",
+    "[\"remove\",\"s1\",\"r1\",\"f1\",null]",
+    "[\"cell\",\"s1\",\"r1\"]",
+    "[\"cell\",\"s1\",\"r1\",[]]",
+    "[\"cell\",\"s1\",\"r1\",{},1]",
+    "[\"page\",\"s1\",\"r1\",\"ex:Name\",true,null]",
+    "[\"page\",\"s1\",\"r1\",\"ex:Name\",true,null,0]",
+    "[\"page\",\"s1\",\"r1\",\"ex:Name\",true,null,1001]",
+    "[\"page\",\"s1\",\"r1\",\"ex:Name\",true,null,1.0]",
+    "[\"page\",\"s1\",\"r1\",\"ex:Name\",true,null,-1]",
+    "[\"page\",\"s1\",\"r1\",\"ex:Name\",true,null,null]",
+    "[\"page\",\"s1\",\"r1\",\"ex:Name\",false,null,1]",
+    "[\"page\",\"s1\",\"r1\",\"ex:Name\",true,true,1]",
+    "[\"page\",\"s1\",\"r1\",null,true,null,1]",
+    "[\"page\",\"s1\",\"r1\",\"ex:Name\",true,null,1,1]",
+    "[\"declared\",\"s1\"]",
+    "[\"declared\",\"s1\",\"r1\",\"none\"]",
+    "[\"declare\",\"s1\",\"r1\"]",
+    "[\"declare\",\"s1\",\"r1\",\"some\"]",
     "[\"commit\",\"s1\"] x",
     "\u{feff}[\"commit\",\"s1\"]",
 ];
@@ -85,9 +131,11 @@ impl Draft {
         self.put_space()
     }
 
-    fn put_load(&mut self, alloc: Global) -> Result<(), AllocError> {
+    fn put_load(&mut self, alloc: Global, names: &[&'static str]) -> Result<(), AllocError>
+        requires { 0 < length names.now }
+    {
         self.put_word("load")?;
-        self.put_one_of(&REPORTS)?;
+        self.put_one_of(names)?;
         self.put(",")?;
         self.put_space()?;
         self.put_report(alloc)?;
@@ -96,37 +144,91 @@ impl Draft {
 
     fn put_opening(&mut self) -> Result<(), AllocError> {
         self.put_word("open")?;
-        self.put_one_of(&SESSIONS)?;
-        self.put_next("amend")?;
+        let name = self.opened_name();
+        self.put_next(name)?;
+        self.put_one_of(&KINDS)?;
         self.put_closing()
     }
 
-    fn put_get(&mut self) -> Result<(), AllocError> {
-        self.put_word("get")?;
-        self.put_one_of(&SESSIONS)?;
-        self.put_one_of(&REPORTS)?;
+    /// A line that ends a session.
+    fn put_ending(&mut self, word: &str) -> Result<(), AllocError> {
+        self.put_word(word)?;
+        let name = self.ended_name();
+        self.put_next(name)?;
+        self.put_closing()
+    }
+
+    /// The beginning of a line that asks something of a session about a report.
+    fn put_question(&mut self, word: &str) -> Result<(), AllocError> {
+        self.put_word(word)?;
+        let name = self.asked_name();
+        self.put_next(name)?;
+        self.put_one_of(&REPORTS)
+    }
+
+    /// A line about an identifier.
+    fn put_about_id(&mut self, word: &str) -> Result<(), AllocError> {
+        self.put_question(word)?;
         self.put_one_of(&IDS)?;
+        self.put_closing()
+    }
+
+    fn put_cell(&mut self) -> Result<(), AllocError> {
+        self.put_question("cell")?;
+        self.put(",")?;
+        self.put_space()?;
+        self.put_cell_dimensions(16)?;
+        self.put_closing()
+    }
+
+    /// One more of some JSON texts.
+    fn put_json_of(&mut self, texts: &[&'static str]) -> Result<(), AllocError>
+        requires { 0 < length texts.now }
+    {
+        self.put(",")?;
+        self.put_space()?;
+        let text = self.pick(texts);
+        self.put(text)
+    }
+
+    fn put_page(&mut self) -> Result<(), AllocError> {
+        self.put_question("page")?;
+        self.put_one_of(&CONCEPTS)?;
+        self.put_json_of(&PERIODS)?;
+        self.put_json_of(&AFTERS)?;
+        self.put_json_of(&LIMITS)?;
         self.put_closing()
     }
 
     fn put_addition(&mut self) -> Result<(), AllocError> {
-        self.put_word("add")?;
-        self.put_one_of(&SESSIONS)?;
-        self.put_one_of(&REPORTS)?;
+        self.put_question("add")?;
         self.put_one_of(&IDS)?;
         self.put(",")?;
         self.put_space()?;
-        self.put_fact(5)?;
+        self.put_fact(9)?;
         self.put_closing()
     }
 
-    /// A line of a word and one name.
-    fn put_short(&mut self, word: &str, names: &[&'static str]) -> Result<(), AllocError>
-        requires { 0 < length names.now }
-    {
-        self.put_word(word)?;
-        self.put_one_of(names)?;
+    fn put_declared(&mut self) -> Result<(), AllocError> {
+        self.put_question("declared")?;
         self.put_closing()
+    }
+
+    fn put_declaration(&mut self) -> Result<(), AllocError> {
+        self.put_question("declare")?;
+        self.put_one_of(&ALLOWED)?;
+        self.put_closing()
+    }
+
+    fn put_export(&mut self) -> Result<(), AllocError> {
+        self.put_word("export")?;
+        self.put_one_of(&REPORTS)?;
+        self.put_closing()
+    }
+
+    fn put_blank(&mut self) -> Result<(), AllocError> {
+        let blank = self.pick(&["", " ", "\t \r", "\r"]);
+        self.put(blank)
     }
 
     fn put_bad_line(&mut self) -> Result<(), AllocError> {
@@ -141,21 +243,40 @@ impl Draft {
         }
     }
 
-    /// A line without its end.
+    /// A line that asks something of a session.
+    fn put_asking(&mut self) -> Result<(), AllocError> {
+        match self.below(44) {
+            0..4 => self.put_about_id("get"),
+            4..10 => self.put_cell(),
+            10..17 => self.put_page(),
+            17..30 => self.put_addition(),
+            30..39 => self.put_about_id("remove"),
+            39..42 => self.put_declared(),
+            _ => self.put_declaration(),
+        }
+    }
+
+    /// A line of no session: a load or an export, a bad line or a blank one.
+    fn put_apart(&mut self, alloc: Global) -> Result<(), AllocError> {
+        match self.below(8) {
+            0..3 => self.put_load(alloc, &LOADED),
+            3..5 => self.put_export(),
+            5..7 => self.put_bad_line(),
+            _ => self.put_blank(),
+        }
+    }
+
+    /// A line without its end. Where few sessions are open, more are opened.
     fn put_line(&mut self, alloc: Global) -> Result<(), AllocError> {
-        match self.below(40) {
-            0..4 => self.put_load(alloc),
-            4..11 => self.put_opening(),
-            11..16 => self.put_get(),
-            16..31 => self.put_addition(),
-            31..34 => self.put_short("commit", &SESSIONS),
-            34 => self.put_short("close", &SESSIONS),
-            35..37 => self.put_short("export", &REPORTS),
-            37..39 => self.put_bad_line(),
-            _ => {
-                let blank = self.pick(&["", " ", "\t \r", "\r"]);
-                self.put(blank)
-            }
+        if self.is_calm() && self.one_in(2) {
+            return self.put_opening();
+        }
+        match self.below(64) {
+            0..6 => self.put_opening(),
+            6..12 => self.put_ending("commit"),
+            12 => self.put_ending("close"),
+            13..18 => self.put_apart(alloc),
+            _ => self.put_asking(),
         }
     }
 
@@ -167,13 +288,27 @@ impl Draft {
         }
     }
 
-    /// A script, which mostly begins with loads.
-    pub(crate) fn put_script(&mut self, alloc: Global) -> Result<(), AllocError> {
-        for _ in 0..self.below(6) {
-            self.put_load(alloc)?;
+    /// The lines with which a script begins: loads and openings.
+    fn put_beginning(&mut self, alloc: Global) -> Result<(), AllocError> {
+        for _ in 0..3 {
+            self.put_load(alloc, &["r1"])?;
             self.put_line_end()?;
         }
-        for _ in 0..self.below(50) {
+        for _ in 0..self.below(3) {
+            self.put_load(alloc, &LOADED)?;
+            self.put_line_end()?;
+        }
+        for _ in 0..self.below(5) {
+            self.put_opening()?;
+            self.put_line_end()?;
+        }
+        Ok(())
+    }
+
+    /// A script.
+    pub(crate) fn put_script(&mut self, alloc: Global) -> Result<(), AllocError> {
+        self.put_beginning(alloc)?;
+        for _ in 0..24 + self.below(33) {
             self.put_line(alloc)?;
             self.put_line_end()?;
         }
