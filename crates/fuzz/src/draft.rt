@@ -75,7 +75,7 @@ impl Draft {
         start as usize
     }
 
-    /// Whether only one name is in use, or none.
+    /// Whether at most two names are in use.
     pub(crate) fn is_calm(&self) -> bool {
         let mut names = 0u32;
         for place in 0..4 {
@@ -83,7 +83,7 @@ impl Draft {
                 names = names.saturating_add(1);
             }
         }
-        names < 2
+        names < 3
     }
 
     /// The name of a session, mostly of one that is in use, of which something is asked.

@@ -24,7 +24,7 @@ const LONG: &str = "LONG";
 fn good_text(draft: &mut Draft) -> Parts {
     Parts {
         concept: draft.pick(&["\"ex:Name\"", "\"ex:Name\"", "\"ex:Name\"", "\"ex:Note\""]),
-        period: draft.pick(&["", "", "", "\"2024\""]),
+        period: draft.pick(&["", "", "\"2024\""]),
         unit: "",
         segment: draft.pick(&[
             "", "", "", "", "", "", "", "", "", "", "", "", "\"a\"", "null",

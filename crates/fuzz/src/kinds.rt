@@ -21,7 +21,7 @@ pub(crate) const KINDS: [&str; 93] = [
     "cell: bad-fact no-concept",
     "cell: bad-fact null-core",
     "cell: bad-fact too-long",
-    "cell: bad-fact wrong-shape",
+    "cell: bad-line",
     "cell: cell complete",
     "cell: cell consistent",
     "cell: cell empty",

@@ -37,7 +37,7 @@ const ROOM: usize = 65536;
 const TOLD: u64 = 10;
 
 // So many scripts have replies of every kind.
-const LARGE: u64 = 1000;
+const LARGE: u64 = 5000;
 
 /// The line of the first byte at which two texts differ, from 1 on.
 fn first_difference(one: &[u8], other: &[u8]) -> Option<u64> {

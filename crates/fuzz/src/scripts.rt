@@ -13,7 +13,7 @@ const REPORTS: [&str; 20] = [
 // The names of later loads.
 const LOADED: [&str; 5] = ["r1", "r2", "r2", "r\"é\\", "r\"é\\"];
 
-const IDS: [&str; 10] = ["f1", "f1", "f1", "f2", "f2", "f2", "f3", "f3", "f4", "\tf"];
+const IDS: [&str; 10] = ["f1", "f1", "f1", "f1", "f2", "f2", "f2", "f3", "f3", "\tf"];
 
 const KINDS: [&str; 7] = [
     "amend", "amend", "amend", "amend", "amend", "amend", "review",
@@ -29,16 +29,23 @@ const CONCEPTS: [&str; 7] = [
     "Name",
 ];
 
-const ALLOWED: [&str; 4] = ["none", "complete", "consistent", "all"];
+const ALLOWED: [&str; 6] = [
+    "none",
+    "none",
+    "complete",
+    "consistent",
+    "consistent",
+    "all",
+];
 
 // Parts of a page's line as JSON texts.
 const PERIODS: [&str; 7] = [
-    "true", "true", "true", "null", "null", "\"2024\"", "\"2025\"",
+    "true", "true", "null", "null", "\"2024\"", "\"2024\"", "\"2025\"",
 ];
 
 const AFTERS: [&str; 6] = ["null", "null", "null", "\"f1\"", "\"f2\"", "\"\""];
 
-const LIMITS: [&str; 6] = ["1", "1", "2", "3", "10", "1000"];
+const LIMITS: [&str; 7] = ["1", "1", "1", "2", "3", "10", "1000"];
 
 // Lines that are no line of a script.
 const BAD_LINES: [&str; 55] = [
@@ -245,13 +252,13 @@ impl Draft {
 
     /// A line that asks something of a session.
     fn put_asking(&mut self) -> Result<(), AllocError> {
-        match self.below(44) {
+        match self.below(45) {
             0..4 => self.put_about_id("get"),
             4..10 => self.put_cell(),
-            10..17 => self.put_page(),
-            17..30 => self.put_addition(),
-            30..39 => self.put_about_id("remove"),
-            39..42 => self.put_declared(),
+            10..19 => self.put_page(),
+            19..32 => self.put_addition(),
+            32..41 => self.put_about_id("remove"),
+            41..43 => self.put_declared(),
             _ => self.put_declaration(),
         }
     }
@@ -273,9 +280,9 @@ impl Draft {
         }
         match self.below(64) {
             0..6 => self.put_opening(),
-            6..12 => self.put_ending("commit"),
-            12 => self.put_ending("close"),
-            13..18 => self.put_apart(alloc),
+            6..11 => self.put_ending("commit"),
+            11 => self.put_ending("close"),
+            12..17 => self.put_apart(alloc),
             _ => self.put_asking(),
         }
     }
@@ -305,13 +312,23 @@ impl Draft {
         Ok(())
     }
 
+    /// The lines with which a script ends: commits of sessions that are still open.
+    fn put_last(&mut self) -> Result<(), AllocError> {
+        for _ in 0..2 + self.below(3) {
+            self.put_ending("commit")?;
+            self.put_line_end()?;
+        }
+        Ok(())
+    }
+
     /// A script.
     pub(crate) fn put_script(&mut self, alloc: Global) -> Result<(), AllocError> {
         self.put_beginning(alloc)?;
-        for _ in 0..24 + self.below(33) {
+        for _ in 0..22 + self.below(33) {
             self.put_line(alloc)?;
             self.put_line_end()?;
         }
+        self.put_last()?;
         if self.one_in(4) {
             self.cut();
         }

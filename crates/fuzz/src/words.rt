@@ -74,12 +74,12 @@ fn detail_of(reply: &Value) -> &str {
     }
 }
 
-/// The words of a reply to a line of this word.
+/// The words of a reply to a line of this word, which is empty where the line is none of a script.
 pub(crate) fn words_of(alloc: Global, asked: &str, reply: &Value) -> Result<String, AllocError> {
     let word = text_at(reply, 0);
     let detail = detail_of(reply);
     match word {
-        "bad-line" => String::from_str(alloc, word),
+        _ if asked.is_empty() => String::from_str(alloc, word),
         "bad-report" if text_at(reply, 1) == "bad-fact" => {
             format!(in alloc; "{asked}: {word} bad-fact {detail}")
         }
