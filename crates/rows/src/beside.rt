@@ -87,7 +87,9 @@ fn line_answers(alloc: Global, table: &Table, kind: Asked, lines: &[u8]) -> Resu
 fn answers(alloc: Global, table: &Table, kind: Kind, sheet: &Sheet) -> Result<Vec<u8>> {
     match kind {
         Kind::Script(piece) => run_lines(alloc, &table.numeric, sheet, piece),
-        Kind::Steps => Ok(steps_answers(alloc, &table.numeric, &sheet.lines)?.into_bytes()),
+        Kind::Steps(taking) => {
+            Ok(steps_answers(alloc, &table.numeric, taking, &sheet.lines)?.into_bytes())
+        }
         Kind::Each(kind) => line_answers(alloc, table, kind, &sheet.lines),
     }
 }

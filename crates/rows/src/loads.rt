@@ -1,7 +1,6 @@
 //! The refusal of a report that is loaded beside that by all pairs of its facts, over reports that are drawn.
 
 use crate::drawn::{Held, next};
-use crate::steps::take;
 use anyhow::Result;
 use filing_cli::reply_text;
 use filing_core::{Core, CoreFault, Reply, Step};
@@ -144,7 +143,8 @@ fn reply_by_pairs(alloc: Global, report: &Report) -> Result<Reply, AllocError> {
 fn load(alloc: Global, report: Report) -> Result<Reply, CoreFault> {
     let mut core = Core::new(alloc)?;
     let name = String::from_str(alloc, "r1")?;
-    take(alloc, &mut core, None, Step::Load(name, report))
+    let report = Arc::new(alloc, report)?;
+    core.step(alloc, None, Step::Load(name, report))
 }
 
 fn is_same_line(alloc: Global, one: &Reply, other: &Reply) -> Result<bool, AllocError> {

@@ -2,9 +2,10 @@
 //!
 //! A file of `data/` has scripts. A line that begins with `# ` begins one and is its title; a line that begins with `=> ` is the reply that is expected to the line before it; one that begins with `= ` is the number of steps that the script takes; every other line is a line of the script. `sheet` reads them, and `beside` compares the replies with those of the program.
 //!
-//! `scripts` runs scripts over memory. The lines of other files are questions: `steps` takes steps of a core, `tables` and `reports` read texts and write them again, `infos` sets what a report declares, `facts` reads and writes with one fact, `numbers` has numerals and intervals, `dimensions` dimension sets and prefixes, and `classes` what facts are to one another. `question` has the parts of a question. `drawn` and `loads` compare fast answers with slow ones.
+//! `scripts` runs scripts over memory. The lines of other files are questions: `steps` takes steps of a core, loads and commits in two parts too, as `asked_steps` makes them, `tables` and `reports` read texts and write them again, `infos` sets what a report declares, `facts` reads and writes with one fact, `numbers` has numerals and intervals, `dimensions` dimension sets and prefixes, and `classes` what facts are to one another. `question` has the parts of a question. `drawn` and `loads` compare fast answers with slow ones.
 #![tactic(auto)]
 
+mod asked_steps;
 mod beside;
 mod classes;
 mod dimensions;
@@ -29,6 +30,7 @@ use std::alloc::Global;
 use std::fs;
 use std::rt::Files;
 use std::sync::Arc;
+use steps::Taking;
 
 /// What answers the lines of a file.
 #[derive(Clone, Copy)]
@@ -36,7 +38,7 @@ pub(crate) enum Kind {
     /// A script, read and written so many bytes at a time at most.
     Script(usize),
     /// Steps of a core.
-    Steps,
+    Steps(Taking),
     /// Questions, each by itself.
     Each(Asked),
 }
@@ -68,14 +70,18 @@ pub(crate) enum Asked {
 const PIECE: usize = 65536;
 
 /// Each is the file NAME.rows.
-const FILES: [(&str, Kind); 25] = [
+const FILES: [(&str, Kind); 29] = [
     ("sessions", Kind::Script(PIECE)),
     ("sessions", Kind::Script(1)),
+    ("conflicts", Kind::Script(PIECE)),
+    ("reads", Kind::Script(PIECE)),
+    ("declared", Kind::Script(PIECE)),
     ("lines", Kind::Script(PIECE)),
     ("refused", Kind::Script(PIECE)),
     ("export", Kind::Script(PIECE)),
     ("duplicates", Kind::Script(PIECE)),
-    ("steps", Kind::Steps),
+    ("steps", Kind::Steps(Taking::Whole)),
+    ("steps", Kind::Steps(Taking::InParts)),
     ("tables", Kind::Each(Asked::Table)),
     ("reports", Kind::Each(Asked::Report)),
     ("fronts", Kind::Each(Asked::Fronts)),
