@@ -2,7 +2,7 @@
 //!
 //! A file of `data/` has scripts. A line that begins with `# ` begins one and is its title; a line that begins with `=> ` is the reply that is expected to the line before it; one that begins with `= ` is the number of steps that the script takes; every other line is a line of the script. `sheet` reads them, and `beside` compares the replies with those of the program.
 //!
-//! `scripts` runs scripts over memory. The lines of other files are questions: `steps` takes steps of a core, loads and commits in two parts too, as `asked_steps` makes them, `tables` and `reports` read texts and write them again, `infos` sets what a report declares, `facts` reads and writes with one fact, `numbers` has numerals and intervals, `dimensions` dimension sets and prefixes, and `classes` what facts are to one another. `question` has the parts of a question. `drawn` and `loads` compare fast answers with slow ones.
+//! `scripts` runs scripts over memory. The lines of other files are questions: `steps` takes the steps of a core that `asked_steps` makes, loads and commits in two parts too, `tables` and `reports` read texts and write them again, `infos` sets what a report declares, `facts` reads and writes with one fact, `numbers` has numerals and intervals, `dimensions` dimension sets and prefixes, and `classes` what facts are to one another. `question` has the parts of a question. `drawn` and `loads` compare fast answers with slow ones.
 #![tactic(auto)]
 
 mod asked_steps;
