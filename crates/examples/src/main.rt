@@ -15,13 +15,18 @@ use std::sync::Arc;
 use std::sync::ledger::{Blank, Ledger};
 
 /// Each is a script NAME.jsonl with the replies NAME.replies.
-const NAMES: [&str; 7] = [
+const NAMES: [&str; 12] = [
     "amendment",
     "duplicates",
     "numbers",
     "refused",
     "export",
     "annual_report",
+    "review",
+    "write_skew",
+    "phantom",
+    "pages",
+    "declare",
     "every_reply",
 ];
 
