@@ -4,6 +4,7 @@ ghost use Rattle.filing.specs.Words.{Asks, IsRun, program};
 ghost use Rattle.filing.specs.declared.words.Order.TheVariants.{Shown};
 
 use crate::fault::Fault;
+use crate::help::LINES;
 use clap::error::ErrorKind;
 use clap::{Arg, ArgAction, ArgMatches, Command, Error};
 use std::alloc::{AllocError, Global};
@@ -29,6 +30,7 @@ fn command<'a>(alloc: Global) -> Result<Command<'a>, AllocError>
         .action(ArgAction::Set);
     let run = Command::new(alloc, "run")
         .about("Runs a script of JSON lines from standard input")
+        .after_help(LINES)
         .arg(numeric)?;
     Command::new(alloc, "filing")
         .about("A repository of company filing reports in xBRL-JSON")

@@ -13,9 +13,9 @@ returns c =
     let numeric_is : rule_of c.action-numeric.result ≡ numeric = search rules in
     let local : c.action-numeric.result.global ≡ false = search rules in
     let run_is : app_of c.in_ok-run.run' ≡ run = c.in_ok-run.ensures.shape local
-    ∙ ap₂ with_rule (ap app_of_fields c.about.ensures ∙ c.new-2.ensures.app) numeric_is in
+    ∙ ap₂ with_rule (ap app_of_fields c.after_help.ensures ∙ ap app_of_fields c.about.ensures ∙ c.new-2.ensures.app) numeric_is in
     let top_is : app_of c.arg_required_else_help.result ≡ wants (new_app (codes "filing")) = ap app_of_fields c.arg_required_else_help.ensures
     ∙ ap helps (ap app_of_fields c.subcommand_required.ensures ∙ ap wants (ap app_of_fields c.about-2.ensures ∙ c.new-3.ensures.app)) in
     IfOk-weaker c.subcommand.result _ _ (λ r added.
-    added.shape (rw (c.in_ok-run.ensures.globals, c.about.ensures, c.new-2.ensures.local, local) refl)
+    added.shape (rw (c.in_ok-run.ensures.globals, c.after_help.ensures, c.about.ensures, c.new-2.ensures.local, local) refl)
     ∙ ap₂ with_subcommand top_is (ap (λ (a : App). a.top) run_is)) c.subcommand.ensures

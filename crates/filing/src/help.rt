@@ -1,0 +1,49 @@
+//! What `filing run --help` says of the lines of a script. It is a text that is shown as it stands; no code reads it.
+
+/// Every line by an example, and how reports and replies go in and out.
+pub(crate) const LINES: &str =
+    r#"Each line of the script is a JSON array and gets one reply line, in the same order. Blank lines get none.
+r1 and f1 stand for the names of a report and of a fact, s1 and v1 for names that you give to sessions.
+
+A report goes in, and comes out as it is now:
+  ["load","r1",REPORT]        REPORT is an object in xBRL-JSON 1.0, or a JSON string that holds the text of one
+  ["export","r1"]
+
+A session opens at the current version. Any number may be open at once:
+  ["open","v1","review"]      reads that version, and goes on reading it, whatever is committed meanwhile
+  ["open","s1","amend"]       reads that version with its own changes laid over it
+
+It reads:
+  ["get","s1","r1","f1"]                          the fact of an identifier
+  ["cell","s1","r1",{"concept":"ex:Name"}]        the facts with exactly these dimensions: class, identifiers
+  ["page","s1","r1","ex:Name",true,null,100]      the first 100 identifiers of a concept, whatever the period
+  ["page","s1","r1","ex:Name","2024","f7",100]    of the period "2024" (null: of none), those after f7 (null:
+                                                  all), at most 1000. The reply ends in whether there are more
+  ["declared","s1","r1"]                          the duplicates that the report allows
+
+It stages, where it was opened to amend, and nobody else sees it:
+  ["add","s1","r1","f1",{"value":"Acme","dimensions":{"concept":"ex:Name"}}]
+  ["remove","s1","r1","f1"]                       to change a fact, remove it and add it
+  ["declare","s1","r1","none"]                    or complete, consistent, all
+
+It ends, and its name is free:
+  ["commit","s1"]             all that it staged becomes the next version, or nothing does
+  ["close","s1"]              nothing is left of it
+
+A commit is answered by one of
+  ["committed",4]                                 version 4 is the current one
+  ["conflict",3,["id","r1","f1"]]                 the commit or load numbered 3 touched what the session read.
+                                                  Open it again, read anew, and commit
+  ["disallowed","r1","inconsistent",["f1","f2"]]  these facts would be duplicates that r1 does not allow
+  ["closed"]                                      to a review
+
+A report's file becomes a load line, a script runs, and replies are picked out again, by jq:
+  jq -c '["load","r1",.]' report.json > script.jsonl
+  jq -Rsc '["load","r1",.]' report.json > script.jsonl    the same, with the text kept as it is
+  filing run --numeric concepts.txt < script.jsonl > replies.jsonl
+  jq -c 'select(.[0] == "conflict" or .[0] == "disallowed")' replies.jsonl
+  jq -r 'select(.[0] == "page") | .[1][]' replies.jsonl
+  jq 'select(.[0] == "report") | .[1]' replies.jsonl
+  grep '[^[:space:]]' script.jsonl | paste -d '\n' - replies.jsonl    each line with its reply below it
+
+Without --numeric no concept is numeric, and a fact with a unit is refused as misplaced."#;
