@@ -27,9 +27,6 @@ absent (Some r) there = absurd (true≢false there)
 pub loaded_there : (c : Repository) (name : Text) (r : Report) → report_at (with_report c name r) name ≡ Some r
 loaded_there c name r = get-insert c.reports name r name ∙ ap (λ b. cond b (Some r) (get c.reports name)) (text_eq-refl name)
 
-pub taken : (c : Repository) (name : Text) (r : Report) → is_some (report_at c name) ≡ true → load_reply c name r ≡ reply.NameTaken
-taken c name r there = ap (λ b. cond b reply.NameTaken (cond (report_obeys r) (reply.Loaded (c.count + 1)) (disallowed_cell name r))) there
-
 free : (c : Repository) (name : Text) (r : Report) → report_at c name ≡ None
     → load_reply c name r ≡ cond (report_obeys r) (reply.Loaded (c.count + 1)) (disallowed_cell name r)
 free c name r none = ap (λ o. cond (is_some o) reply.NameTaken (cond (report_obeys r) (reply.Loaded (c.count + 1)) (disallowed_cell name r))) none

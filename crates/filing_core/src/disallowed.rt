@@ -1,25 +1,15 @@
 //! How a cell that its report does not allow is told.
 
-ghost use Rattle.std.specs.Prelude.{◌≡◌, map, string_bytes, IfOk};
+ghost use Rattle.std.specs.Prelude.{◌≡◌, IfOk};
 ghost use Rattle.filing_step.specs.Steps.{reply_of};
 ghost use Rattle.filing_laws.specs.NetChange.{refusal_at};
 ghost use Rattle.filing_version.specs.Filed.{repository_in};
 
+use filing_session::texts_of;
 use filing_step::Reply;
-use filing_version::{Ids, RepoVersion};
+use filing_version::RepoVersion;
 use oim_fact::DimSet;
 use std::alloc::{AllocError, Global};
-
-/// The identifiers as texts of their own.
-fn texts_of(alloc: Global, ids: Ids<'_>) -> Result<Vec<String>, AllocError>
-    ensures { IfOk result (λ v. map string_bytes v.items ≡ ids.entry) }
-{
-    let mut texts = Vec::new(alloc);
-    for id in ids {
-        texts.push(String::from_str(alloc, id)?)?;
-    }
-    Ok(texts)
-}
 
 /// The reply that tells a cell of a version: its report, its class, and its identifiers in byte order.
 pub(crate) fn disallowed(

@@ -14,6 +14,7 @@ mod stages;
 
 pub use filing_model::Kind;
 pub use filing_step::{Asked, Call, Limit, Reply, Sought, Thing};
+pub use looks::texts_of;
 pub use pages::period_of;
 pub use ready::Ready;
 pub use runs::{

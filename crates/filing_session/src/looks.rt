@@ -25,7 +25,7 @@ pub(crate) fn get(copy: &RepoVersion, report: String, id: String) -> Result<Read
 }
 
 /// The identifiers as texts of their own.
-fn texts_of(alloc: Global, ids: Ids<'_>) -> Result<Vec<String>, AllocError>
+pub fn texts_of(alloc: Global, ids: Ids<'_>) -> Result<Vec<String>, AllocError>
     ensures { IfOk result (λ v. map string_bytes v.items ≡ ids.entry) }
 {
     let mut texts = Vec::new(alloc);
