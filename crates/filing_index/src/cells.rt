@@ -134,6 +134,9 @@ pub(crate) fn with_cell<'a>(
         ≡ fold lesser_dims (option_map (λ d. d.now) least.entry)
         (filter (is_disallowed allowed (facts_of facts.entries)) (dims.now ∷ [])) }
 {
+    if matches!(allowed, Allowed::All) {
+        return least;
+    }
     if allows(allowed, class_in(index, dims)) {
         return least;
     }

@@ -1,9 +1,25 @@
-use Rattle.std.proofs.Common.{◌∙◌, ap, sym, not, [], ◌∷◌, cond}
+use Rattle.std.proofs.Common.{◌∙◌, ap, sym, refl, not, [], ◌∷◌, cond, true, filter, true≢false}
 use Rattle.std.specs.List.{fold}
 use Rattle.std.specs.Option.{option_map}
-use Rattle.filing_model.specs.Duplicates.{lesser_dims}
+use Rattle.filing_model.specs.Duplicates.{has_dims, facts_of, is_disallowed, lesser_dims}
+use Rattle.filing_model.specs.declared.duplicates.Allowed.TheVariants.{All}
+use Rattle.filing_model.proofs.EveryPair.{pairs_always}
+use Rattle.filing_model.proofs.DisallowedCells.{allows-cell}
 use Rattle.filing_index.proofs.CrowdedCells.{disallowed_by_class}
 use Rattle.filing_index.proofs.cells.with_cell.Goals as goal
+use Rattle.filing_index.proofs.cells.with_cell.Goals.{in-All, in_default}
+
+-- a report that allows all allows each cell
+pub returns-then-matches : goal.returns-then-matches
+returns-then-matches c = λ facts index.
+    let least = option_map (λ d. d.now) c.args.least in
+    let dims = c.args.dims.now in
+    elim c.match-matches.branch [
+      | in-All w ↦ sym (ap (λ a. fold lesser_dims least (filter (is_disallowed a (facts_of facts.entries)) (dims ∷ []))) w.in-All.is
+          ∙ ap (λ b. fold lesser_dims least (cond (not b) (dims ∷ []) []))
+          (allows-cell All dims (facts_of facts.entries) ∙ pairs_always (λ f g. true) (λ f g. refl) (filter (has_dims dims) (facts_of facts.entries))))
+      | in_default w ↦ absurd (true≢false (sym c.if-matches.true ∙ w.matches-is))
+    ]
 
 pub returns-then-allows : goal.returns-then-allows
 returns-then-allows c = λ facts index.
