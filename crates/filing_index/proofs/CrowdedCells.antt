@@ -26,7 +26,7 @@ use Rattle.filing_model.proofs.LeastDims.{same_least, any_kept}
 use Rattle.filing_index.specs.Index.{Coded, key_cmp, coded_cmp, IsIndex}
 use Rattle.filing_pages.specs.Codes.{cell_code, code_of_dims}
 use Rattle.filing_index.specs.Found.{passing, side_of}
-use Rattle.filing_index.specs.Cells.{shares_code, first_of, crowded, are_these, least_among_facts}
+use Rattle.filing_index.specs.Cells.{shares_code, first_of, crowded, are_these, least_among_facts, WasLookedAt}
 use Rattle.filing_index.proofs.AskedCodes.{code_of_cell}
 use Rattle.filing_index.proofs.FoundEntries.{found_is, found_all, sorted_from_rising}
 use Rattle.filing_index.proofs.KeptElements as kept
@@ -215,11 +215,6 @@ module _ (a : Allowed) (facts : TextMap Fact) (es : List Coded) (rising : IsRisi
 -- ---- one more fact
 
 module _ (p : Dims → Bool) where
-  -- the least does not change where one more is looked at that was already
-  abbrev pub WasLookedAt : Option Dims → Option Dims → Type 0
-  WasLookedAt None least = Unit {0}
-  WasLookedAt (Some d) least = fold lesser_dims least (filter p (d ∷ [])) ≡ least
-
   again : (d : Dims) (m : Option Dims) (b : Bool)
       → fold lesser_dims (fold lesser_dims m (cond b (d ∷ []) [])) (cond b (d ∷ []) []) ≡ fold lesser_dims m (cond b (d ∷ []) [])
   again d m false = refl
@@ -230,8 +225,14 @@ module _ (p : Dims → Bool) where
       by true is = elim (is_lt (dims_cmp d d)) as (λ b. Some (cond b d d) ≡ Some d) [ true ↦ refl | false ↦ refl ]
       by false is = ap (λ b. Some (cond b d m)) is
 
-  pub was_looked_at : (d : Dims) (m : Option Dims) → WasLookedAt (Some d) (fold lesser_dims m (filter p (d ∷ [])))
+  pub was_looked_at : (d : Dims) (m : Option Dims) → WasLookedAt p (Some d) (fold lesser_dims m (filter p (d ∷ [])))
   was_looked_at d m = again d m (p d)
+
+-- what was looked at already
+pub nothing_new : (p : Dims → Bool) (before least : Option Dims) (dims : Dims) → WasLookedAt p before least → are_these before dims ≡ true
+    → least ≡ fold lesser_dims least (filter p (dims ∷ []))
+nothing_new p None least dims was same = absurd (true≢false (sym same))
+nothing_new p (Some d) least dims was same = sym (subst (λ e. WasLookedAt p (Some e) least) (dims_same d dims same) was)
 
 -- the least among the facts so far, of which the last has these dimensions
 pub record IsLeastSoFar (a : Allowed) (all : TextMap Fact) (facts : List Fact) (before least : Option Dims) : Type 0 where

@@ -1,12 +1,12 @@
 -- Where facts may share a cell, and the least of some cells that is not allowed. The project's own.
-use Rattle.std.specs.Prelude.{Bool, false, cond, ◌==◌, List, [], ◌∷◌, map, Option, Some, None}
-use Rattle.std.specs.List.{filter}
+use Rattle.std.specs.Prelude.{◌≡◌, Bool, false, cond, ◌==◌, List, [], ◌∷◌, map, Option, Some, None}
+use Rattle.std.specs.List.{filter, fold}
 use Rattle.std.specs.Borrow.{Bor}
 use Rattle.filing_model.specs.Text.{Text}
 use Rattle.filing_model.specs.TextMap.{TextMap}
 use Rattle.filing_model.specs.Dimensions.{Dims, dims_eq}
 use Rattle.filing_model.specs.Facts.{Fact}
-use Rattle.filing_model.specs.Duplicates.{facts_of, is_disallowed, least_dims}
+use Rattle.filing_model.specs.Duplicates.{facts_of, is_disallowed, lesser_dims, least_dims}
 use Rattle.filing_model.specs.declared.duplicates.Allowed.{Allowed}
 use Rattle.filing_index.specs.Index.{Coded}
 
@@ -45,3 +45,8 @@ facts_given given = map (λ e. e.now.1) given
 -- the least dimensions of these facts whose cell is not allowed in a report that has all
 abbrev pub least_among_facts : List Fact → Allowed → TextMap Fact → Option Dims
 least_among_facts facts a all = least_dims (filter (is_disallowed a (facts_of all.entries)) (map (λ f. f.dims) facts))
+
+-- the least does not change where dimensions, if there are any, are looked at once more
+abbrev pub WasLookedAt : (Dims → Bool) → Option Dims → Option Dims → Type 0
+WasLookedAt disallowed None least = Unit {0}
+WasLookedAt disallowed (Some dims) least = fold lesser_dims least (filter disallowed (dims ∷ [])) ≡ least

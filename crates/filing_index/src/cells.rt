@@ -97,7 +97,7 @@ impl<'a> Iterator for Crowded<'a> {
 }
 
 /// Whether these are the dimensions, where there are any.
-fn are_these(others: Option<&DimSet>, dims: &DimSet) -> bool
+pub(crate) fn are_these(others: Option<&DimSet>, dims: &DimSet) -> bool
     ensures { result ≡ are_these (option_map (λ d. d.now) others.entry) dims.now }
 {
     match others {

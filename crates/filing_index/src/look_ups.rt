@@ -3,9 +3,10 @@ ghost use Rattle.std.specs.Prelude.{◌≡◌, [], ◌∷◌, option_map};
 ghost use Rattle.std.specs.List.{filter, fold};
 ghost use Rattle.filing_model.specs.Duplicates.{class_of, facts_of, is_disallowed, lesser_dims, least_disallowed};
 ghost use Rattle.filing_model.specs.Queries.{cell_facts, cell_ids, ids_for};
+ghost use Rattle.filing_index.specs.Cells.{WasLookedAt};
 ghost use Rattle.filing_index.specs.Wanted.{asked_of};
 
-use crate::cells::{class_in, least_disallowed, with_cell};
+use crate::cells::{are_these, class_in, least_disallowed, with_cell};
 use crate::facts::Facts;
 use crate::ids::Ids;
 use crate::order::Order;
@@ -43,17 +44,22 @@ impl Facts {
         Ids::of_query(self.index(period.order()), concept, period, after)
     }
 
-    /// The lesser of these dimensions, where there are some, and others, where their cell is not allowed.
+    /// The lesser of the least so far, where there is one, and other dimensions, where their cell is not allowed. Dimensions that were looked at right before are not looked at again.
     pub fn lesser_disallowed<'a>(
         &self,
         allowed: Allowed,
         least: Option<&'a DimSet>,
+        before: Option<&DimSet>,
         dims: &'a DimSet,
     ) -> Option<&'a DimSet>
-        ensures { option_map (λ d. d.now) result
+        ensures { WasLookedAt (is_disallowed allowed (facts_of self.now.entries)) (option_map (λ d. d.now) before.entry) (option_map (λ d. d.now) least.entry)
+            → option_map (λ d. d.now) result
             ≡ fold lesser_dims (option_map (λ d. d.now) least.entry)
             (filter (is_disallowed allowed (facts_of self.now.entries)) (dims.now ∷ [])) }
     {
+        if are_these(before, dims) {
+            return least;
+        }
         with_cell(self.index(Order::Cell), allowed, least, dims)
     }
 

@@ -330,17 +330,18 @@ impl FiledReport {
         }
     }
 
-    /// The least dimensions of facts that are put whose cell is not allowed. A fact that is put stands in the report.
+    /// The least dimensions of facts that are put whose cell is not allowed. A fact that is put stands in the report. A cell is looked at once for all facts of it that are put one after another.
     fn least_among<'a>(&self, puts: &'a TextPages<Option<Held>>) -> Option<&'a DimSet>
         ensures { option_map (λ d. d.now) result ≡ least_among (filter_map (λ e. e.1) puts.now.entries) self.now.report }
     {
         let allowed = self.allowed();
         let mut least = None;
+        let mut before = None;
         for put in puts.iter() {
             if let Some(held) = put.value() {
-                least = self
-                    .facts
-                    .lesser_disallowed(allowed, least, &held.fact().dims);
+                let dims = &held.fact().dims;
+                least = self.facts.lesser_disallowed(allowed, least, before, dims);
+                before = Some(dims);
             }
         }
         least

@@ -1,8 +1,10 @@
-use Rattle.std.proofs.Common.{◌≡◌, ◌∙◌, ap, sym, List, [], ◌∷◌, Option, Some, map, filter, filter_map, fold, option_map}
+use Rattle.std.proofs.Common.{◌≡◌, ◌∙◌, ap, sym, subst, List, [], ◌∷◌, Option, Some, map, filter, filter_map, fold, option_map}
 use Rattle.filing_model.specs.Text.{Text}
 use Rattle.filing_model.specs.Facts.{Fact}
 use Rattle.filing_model.specs.Dimensions.{Dims}
 use Rattle.filing_model.specs.Duplicates.{facts_of, is_disallowed, lesser_dims}
+use Rattle.filing_index.specs.Cells.{WasLookedAt}
+use Rattle.filing_index.proofs.CrowdedCells.{was_looked_at}
 use Rattle.filing_version.proofs.StampedReports.{facts_put, least_with_one}
 use Rattle.filing_version.proofs.filed.FiledReport.least_among.Goals as goal
 
@@ -15,12 +17,18 @@ loop-put-preserved-in-Some-value c =
     let rest : List (Text × Option Fact) = c.next.new.self in
     let held = c.in-Some-value.held in
     let dims = ap (λ (f : Fact). f.dims) (c.behind-fact.view_is ∙ c.deref.ensures ∙ c.fact.ensures) in
-    let one = c.lesser_disallowed-least.ensures
-    ∙ (λ i. fold lesser_dims least (filter (is_disallowed (c.allowed-allowed.ensures i) (facts_of (c.self.view_is i).report.facts.entries)) (dims i ∷ []))) in
+    let same : is_disallowed c.allowed-allowed.result (facts_of c.self.inside.facts.entries) ≡ bad =
+    (λ i. is_disallowed (c.allowed-allowed.ensures i) (facts_of (c.self.view_is i).report.facts.entries)) in
+    let before : Option Dims = option_map (λ d. d.now) c.loop-put.before in
+    let one = c.lesser_disallowed-least.ensures (subst (λ p. WasLookedAt p before least) (sym same) c.loop-put.invariant.0)
+    ∙ (λ i. fold lesser_dims least (filter (same i) (dims i ∷ []))) in
     let steps : c.loop-put.put-iterator ≡ c.in-Some.put.now ∷ rest = c.in-Some.ensures.steps in
-    let put : c.in-Some.put.now.1 ≡ Some held = sym c.value.ensures ∙ c.in-Some-value.is in
-    ap (λ o. fold lesser_dims o (filter bad (map (λ f. f.dims) (filter_map (λ e. e.1) rest)))) one
-    ∙ least_with_one bad least held.dims (map (λ f. f.dims) (filter_map (λ e. e.1) rest))
-    ∙ sym (ap among (facts_put c.in-Some.put.now rest held put))
-    ∙ sym (ap (λ puts. among (filter_map (λ e. e.1) puts)) steps)
-    ∙ c.loop-put.invariant
+    let put : c.in-Some.put.now.1 ≡ Some held = sym c.value.ensures ∙ c.in-Some-value.is in (
+      subst (λ d. WasLookedAt bad (Some d) (option_map (λ d. d.now) c.lesser_disallowed-least.result)) (sym dims)
+          (subst (WasLookedAt bad (Some held.dims)) (sym one) (was_looked_at bad held.dims least)),
+      ap (λ o. fold lesser_dims o (filter bad (map (λ f. f.dims) (filter_map (λ e. e.1) rest)))) one
+          ∙ least_with_one bad least held.dims (map (λ f. f.dims) (filter_map (λ e. e.1) rest))
+          ∙ sym (ap among (facts_put c.in-Some.put.now rest held put))
+          ∙ sym (ap (λ puts. among (filter_map (λ e. e.1) puts)) steps)
+          ∙ c.loop-put.invariant.1,
+    )
