@@ -3,6 +3,7 @@ pub mod CallEffects
 pub mod PagesSoFar
 pub mod PutsStaged
 pub mod ThingsEntered
+pub mod PendingChanges
 -- ---- whole runs
 pub mod RunStates
 pub mod StagedChanges

@@ -2,4 +2,3 @@ pub mod States
 pub mod Effects
 pub mod Runs
 pub mod Held
-pub mod Nexts

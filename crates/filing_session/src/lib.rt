@@ -1,8 +1,8 @@
 //! Sessions: each reads and stages over a version that does not change.
 //!
-//! `session` is `Session`, and `ready` what is made ready of a call before anything changes. `looks` answers the calls that only look, `pages` those for pages, and `stages` those that stage. `runs` has the laws: what a session is after any calls.
+//! `session` is `Session`, `staging` what it has staged, and `ready` what is made ready of a call before anything changes. `looks` answers the calls that only look, `pages` those for pages, and `stages` those that stage. `runs` has the laws: what a session is after any calls.
 //!
-//! A session has a copy of its version of its own, in which what it staged stands, so each reply is a look-up there; the copy shares all else with the version. The crate knows nothing of histories, of other sessions, or of how a commit is decided.
+//! A session has a copy of its version of its own, which shares with the version all that is not staged. What is staged is laid over it when a cell or a page is asked for; what stands at an identifier is told by both. The crate knows nothing of histories, of other sessions, or of how a commit is decided.
 #![tactic(auto)]
 
 mod looks;
@@ -11,6 +11,7 @@ mod ready;
 mod runs;
 mod session;
 mod stages;
+mod staging;
 
 pub use filing_model::Kind;
 pub use filing_step::{Asked, Call, Limit, Reply, Sought, Thing};

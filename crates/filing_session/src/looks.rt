@@ -3,20 +3,20 @@ ghost use Rattle.std.specs.Prelude.{◌≡◌, map, string_bytes, IfOk};
 ghost use Rattle.filing_model.specs.Calls as call;
 ghost use Rattle.filing_model.specs.Changes.{Change};
 ghost use Rattle.filing_model.specs.Repository.{report_at};
-ghost use Rattle.filing_version.specs.Filed.{repository_in};
 ghost use Rattle.filing_session.specs.Effects.{effect_in};
 
 use crate::ready::Ready;
+use crate::staging::Staging;
 use filing_step::{Reply, Thing};
-use filing_version::{Got, Ids, RepoVersion};
+use filing_version::{Got, Ids};
 use oim_fact::DimSet;
 use std::alloc::{AllocError, Global};
 
-pub(crate) fn get(copy: &RepoVersion, report: String, id: String) -> Result<Ready, AllocError>
+pub(crate) fn get(staging: &Staging, report: String, id: String) -> Result<Ready, AllocError>
     ensures { (change : Change) → IfOk result (λ r. r ≡ effect_in (call.Get (string_bytes report) (string_bytes id))
-        (repository_in copy.now) change (report_at (repository_in copy.now) (string_bytes report))) }
+        staging.now.0 change (report_at staging.now.0 (string_bytes report))) }
 {
-    let reply = match copy.get(&report, &id) {
+    let reply = match staging.get(&report, &id) {
         Got::NoReport => return Ok(Ready::nowhere(report)),
         Got::Absent => Reply::Absent,
         Got::Found(fact) => Reply::Found(fact.clone()?),
@@ -37,13 +37,14 @@ pub fn texts_of(alloc: Global, ids: Ids<'_>) -> Result<Vec<String>, AllocError>
 
 pub(crate) fn cell(
     alloc: Global,
-    copy: &RepoVersion,
+    staging: &Staging,
     report: String,
     dims: DimSet,
 ) -> Result<Ready, AllocError>
     ensures { (change : Change) → IfOk result (λ r. r ≡ effect_in (call.Cell (string_bytes report) dims)
-        (repository_in copy.now) change (report_at (repository_in copy.now) (string_bytes report))) }
+        staging.now.0 change (report_at staging.now.0 (string_bytes report))) }
 {
+    let copy = staging.copy(alloc)?;
     let reply = match copy.cell(&report, &dims) {
         None => return Ok(Ready::nowhere(report)),
         Some((class, ids)) => Reply::Cell(class, texts_of(alloc, ids)?),
@@ -51,11 +52,11 @@ pub(crate) fn cell(
     Ok(Ready::read(reply, Thing::Cell(report, dims)))
 }
 
-pub(crate) fn declared(copy: &RepoVersion, report: String) -> Ready
+pub(crate) fn declared(staging: &Staging, report: String) -> Ready
     ensures { (change : Change) → result ≡ effect_in (call.Declared (string_bytes report))
-        (repository_in copy.now) change (report_at (repository_in copy.now) (string_bytes report)) }
+        staging.now.0 change (report_at staging.now.0 (string_bytes report)) }
 {
-    match copy.allowed(&report) {
+    match staging.allowed(&report) {
         None => Ready::nowhere(report),
         Some(allowed) => Ready::read(Reply::Declared(allowed), Thing::Policy(report)),
     }

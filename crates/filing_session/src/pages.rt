@@ -7,12 +7,12 @@ ghost use Rattle.filing_model.specs.Repository.{report_at};
 ghost use Rattle.oim_fact.specs.Texts.{text_view};
 ghost use Rattle.filing_index.specs.Wanted as borrowed;
 ghost use Rattle.filing_step.specs.Asked.{asked_of};
-ghost use Rattle.filing_version.specs.Filed.{repository_in};
 ghost use Rattle.filing_session.specs.Effects.{effect_in};
 
 use crate::ready::Ready;
+use crate::staging::Staging;
 use filing_step::{Asked, Limit, Reply, Sought, Thing};
-use filing_version::{Asked as Period, Ids, RepoVersion};
+use filing_version::{Asked as Period, Ids};
 use std::alloc::{AllocError, Global};
 
 /// The period that is asked for, without a text of its own. It takes no memory.
@@ -50,14 +50,15 @@ fn page_of(
 
 pub(crate) fn page(
     alloc: Global,
-    copy: &RepoVersion,
+    staging: &Staging,
     report: String,
     sought: Sought,
     limit: Limit,
 ) -> Result<Ready, AllocError>
     ensures { (change : Change) → IfOk result (λ r. r ≡ effect_in (call.Page (string_bytes report) sought limit)
-        (repository_in copy.now) change (report_at (repository_in copy.now) (string_bytes report))) }
+        staging.now.0 change (report_at staging.now.0 (string_bytes report))) }
 {
+    let copy = staging.copy(alloc)?;
     let period = period_of(&sought.period);
     let (ids, cut) = match copy.query(&report, &sought.concept, period, sought.after.as_deref()) {
         None => return Ok(Ready::nowhere(report)),

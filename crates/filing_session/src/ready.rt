@@ -5,44 +5,17 @@ ghost use Rattle.filing_model.specs.Things as thing;
 ghost use Rattle.filing_step.specs.Steps.{reply_of, thing_of};
 ghost use Rattle.filing_session.specs.Effects.{no_effect};
 
+use crate::staging::Staging;
 use filing_step::{Reply, Thing};
-use filing_version::{ReadyDeclare, ReadyPut, RepoVersion};
 use std::marker::Model;
-use std::sync::Arc;
-
-/// The change with what is staged, which takes the place of the session's.
-#[derive(Drop)]
-pub(crate) enum Next {
-    Put(ReadyPut),
-    Declare(ReadyDeclare),
-}
-
-/// The copy and the change that take the place of the session's.
-#[derive(Drop)]
-pub(crate) struct Staged {
-    pub(crate) copy: Arc<RepoVersion>,
-    pub(crate) next: Next,
-}
-
-impl Model for Staged {
-    ghost use Rattle.filing_model.specs.Repository.{Repository};
-    ghost use Rattle.filing_model.specs.Changes.{Change};
-
-    ghost Value = { Repository × Change };
-
-    ghost use Rattle.std.specs.Arc.{arc_value};
-    ghost use Rattle.filing_version.specs.Filed.{repository_in};
-    ghost use Rattle.filing_session.specs.Nexts.{next_of};
-
-    ghost view = { λ s. (repository_in (arc_value s.copy), next_of s.next) };
-}
 
 /// A call for which all growths are made. Contracts see its effect.
 #[derive(Drop)]
 pub struct Ready {
     pub(crate) reply: Reply,
     pub(crate) thing: Option<Thing>,
-    pub(crate) staged: Option<Staged>,
+    /// What takes the place of what the session staged.
+    pub(crate) staged: Option<Staging>,
 }
 
 impl Model for Ready {

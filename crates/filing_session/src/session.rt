@@ -15,7 +15,8 @@ ghost use Rattle.filing_session.specs.Effects.{effect_in, effect_on, effect_of, 
 ghost use Rattle.filing_session.specs.Held.{Answers};
 ghost use Rattle.filing_model.specs.Sessions.{may_make};
 
-use crate::ready::{Next, Ready, Staged};
+use crate::ready::Ready;
+use crate::staging::Staging;
 use crate::{looks, pages, stages};
 use filing_model::Kind;
 use filing_step::{Asked, Call, Limit, Reply, Sought, Thing};
@@ -32,9 +33,7 @@ pub struct Session {
     alloc: Global,
     kind: Kind,
     base: Arc<RepoVersion>,
-    /// The base with what is staged in it.
-    copy: Arc<RepoVersion>,
-    change: Change,
+    staging: Staging,
     reads: IndexSet<Thing>,
 }
 
@@ -53,8 +52,8 @@ impl Model for Session {
       state = record {
         kind = s.kind;
         base = repository_in (arc_value s.base);
-        copy = repository_in (arc_value s.copy);
-        change = s.change;
+        copy = s.staging.0;
+        change = s.staging.1;
         reads = map thing_of s.reads.keys;
       };
       has_room = nat_lt 0 (spare s.reads);
@@ -74,34 +73,39 @@ fn may_make(kind: Kind, call: &Call) -> bool
     }
 }
 
-/// Makes the growths of a call that may be made.
-fn made(alloc: Global, copy: &RepoVersion, change: &Change, call: Call) -> Result<Ready, AllocError>
-    ensures { IfOk result (λ r. r ≡ effect_in (call_of call) (repository_in copy.now) change.now
-        (report_at (repository_in copy.now) (report_of_call (call_of call)))) }
+/// Lays what is pending over the version, where a call is answered by facts in order and not by one alone.
+fn lay_for(alloc: Global, staging: &mut Staging, call: &Call) -> Result<(), AllocError>
+    ensures { staging.new ≡ staging.old }
 {
     match call {
-        Call::Get(report, id) => looks::get(copy, report, id),
-        Call::Cell(report, dims) => looks::cell(alloc, copy, report, dims),
-        Call::Page(report, sought, limit) => pages::page(alloc, copy, report, sought, limit),
-        Call::Add(report, id, fact) => stages::add(alloc, copy, change, report, id, fact),
-        Call::Remove(report, id) => stages::remove(alloc, copy, change, report, id),
-        Call::Declared(report) => Ok(looks::declared(copy, report)),
-        Call::Declare(report, allowed) => stages::declare(alloc, copy, change, report, allowed),
+        Call::Cell(..) | Call::Page(..) => staging.lay(alloc),
+        Call::Get(..) | Call::Add(..) | Call::Remove(..) | Call::Declared(..) | Call::Declare(..) =>
+            { Ok(()) }
+    }
+}
+
+/// Makes the growths of a call that may be made.
+fn made(alloc: Global, staging: &Staging, call: Call) -> Result<Ready, AllocError>
+    ensures { IfOk result (λ r. r ≡ effect_in (call_of call) staging.now.0 staging.now.1
+        (report_at staging.now.0 (report_of_call (call_of call)))) }
+{
+    match call {
+        Call::Get(report, id) => looks::get(staging, report, id),
+        Call::Cell(report, dims) => looks::cell(alloc, staging, report, dims),
+        Call::Page(report, sought, limit) => pages::page(alloc, staging, report, sought, limit),
+        Call::Add(report, id, fact) => stages::add(alloc, staging, report, id, fact),
+        Call::Remove(report, id) => stages::remove(staging, report, id),
+        Call::Declared(report) => Ok(looks::declared(staging, report)),
+        Call::Declare(report, allowed) => stages::declare(staging, report, allowed),
     }
 }
 
 /// Makes the growths of a call.
-fn effect(
-    alloc: Global,
-    kind: Kind,
-    copy: &RepoVersion,
-    change: &Change,
-    call: Call,
-) -> Result<Ready, AllocError>
-    ensures { IfOk result (λ r. r ≡ effect_of kind (call_of call) (repository_in copy.now) change.now) }
+fn effect(alloc: Global, kind: Kind, staging: &Staging, call: Call) -> Result<Ready, AllocError>
+    ensures { IfOk result (λ r. r ≡ effect_of kind (call_of call) staging.now.0 staging.now.1) }
 {
     if may_make(kind, &call) {
-        made(alloc, copy, change, call)
+        made(alloc, staging, call)
     } else {
         Ok(Ready::read_only())
     }
@@ -120,21 +124,13 @@ fn enter(reads: &mut IndexSet<Thing>, thing: Option<Thing>)
     }
 }
 
-/// The copy and the change with what is staged take the place of those of the session.
-fn put_in_place(copy: &mut Arc<RepoVersion>, change: &mut Change, staged: Option<Staged>)
-    ensures copied { repository_in (arc_value copy.new) ≡ option_map_or (λ s. s.0) staged (repository_in (arc_value copy.old)) }
-    ensures changed { change.new ≡ option_map_or (λ s. s.1) staged change.old }
+/// What is staged now takes the place of what was staged before.
+fn put_in_place(staging: &mut Staging, staged: Option<Staging>)
+    ensures copied { staging.new.0 ≡ option_map_or (λ s. s.0) staged staging.old.0 }
+    ensures changed { staging.new.1 ≡ option_map_or (λ s. s.1) staged staging.old.1 }
 {
     if let Some(staged) = staged {
-        let Staged {
-            copy: changed,
-            next,
-        } = staged;
-        *copy = changed;
-        match next {
-            Next::Put(ready) => change.take(ready),
-            Next::Declare(ready) => change.take_declare(ready),
-        }
+        *staging = staged;
     }
 }
 
@@ -143,13 +139,12 @@ impl Session {
     pub fn open(alloc: Global, kind: Kind, base: Arc<RepoVersion>) -> Result<Session, AllocError>
         ensures { IfOk result (λ s. s.state ≡ opened kind (repository_in (arc_value base))) }
     {
-        let copy = Arc::try_clone(&base)?;
+        let version = Arc::try_clone(&base)?;
         Ok(Session {
             alloc,
             kind,
             base,
-            copy,
-            change: Change::new(alloc),
+            staging: Staging::new(alloc, version),
             reads: IndexSet::new(alloc),
         })
     }
@@ -178,7 +173,7 @@ impl Session {
     pub fn change(&self) -> &Change
         ensures { result.now ≡ self.now.state.change }
     {
-        &self.change
+        self.staging.change()
     }
 
     /// Makes all growths of a call. No reply changes, and nothing is read or staged.
@@ -188,7 +183,8 @@ impl Session {
         ensures state { self.new.state ≡ self.old.state }
     {
         self.reads.reserve(1)?;
-        effect(self.alloc, self.kind, &self.copy, &self.change, call)
+        lay_for(self.alloc, &mut self.staging, &call)?;
+        effect(self.alloc, self.kind, &self.staging, call)
     }
 
     /// Does what is ready. It takes no memory. Where nothing but readers was called since it was made ready, this is the call (`each_effect_is_its_call`).
@@ -203,7 +199,7 @@ impl Session {
             staged,
         } = ready;
         enter(&mut self.reads, thing);
-        put_in_place(&mut self.copy, &mut self.change, staged);
+        put_in_place(&mut self.staging, staged);
         reply
     }
 

@@ -1,2 +1,3 @@
 pub mod FiledReports
 pub mod StampedReports
+pub mod LaidInTurn

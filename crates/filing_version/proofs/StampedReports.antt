@@ -6,11 +6,11 @@ use Rattle.std.proofs.lemmas.Bool.{and_parts}
 use Rattle.filing_model.specs.Text.{Text, text_eq}
 use Rattle.filing_model.specs.TextMap.{TextMap, get, insert}
 use Rattle.filing_model.specs.Reports.{Report}
-use Rattle.filing_model.specs.Repository.{Repository, report_at, with_fact, with_report_at, with_fact_at, declaring_at}
+use Rattle.filing_model.specs.Repository.{Repository, report_at, with_fact, with_report_at}
 use Rattle.filing_model.specs.DeclaredValue.{report_declaring}
 use Rattle.filing_model.specs.Dimensions.{Dims}
 use Rattle.filing_model.specs.Facts.{Fact}
-use Rattle.filing_model.specs.Changes.{ReportChange, Change, with_facts, declaring_if, changed, least_changed, find_map, first_disallowed, after_change}
+use Rattle.filing_model.specs.Changes.{ReportChange, Change, with_facts, declaring_if, changed, changed_at, least_changed, find_map, first_disallowed, after_change}
 use Rattle.filing_model.specs.Duplicates.{has_dims, lesser_dims}
 use Rattle.filing_model.specs.Sessions.{repository_obeys, refusal_of}
 use Rattle.filing_laws.specs.NetChange.{refusal_at}
@@ -304,14 +304,8 @@ module _ (v : StampedReports) (name : Text) (old new : StampedReport) (held : ge
   found : report_at (repository_in v) name ≡ Some old.report
   found = reported v name ∙ ap (option_map (λ (r : StampedReport). r.report)) held
 
-  pub with_fact_there : (id : Text) (fact : Option Fact) → filed_of new ≡ record (filed_of old) { report = with_fact old.report id fact }
-      → with_report_at (repository_in v) name new.report ≡ with_fact_at (repository_in v) name id fact
-  with_fact_there id fact made =
+  pub changed_there : (change : ReportChange) → filed_of new ≡ record (filed_of old) { report = changed change old.report }
+      → with_report_at (repository_in v) name new.report ≡ changed_at (repository_in v) (name, change)
+  changed_there change made =
       ap (λ (f : Filed). with_report_at (repository_in v) name f.report) made
-      ∙ sym (ap (λ o. option_map_or (λ r. with_report_at (repository_in v) name (with_fact r id fact)) o (repository_in v)) found)
-
-  pub declaring_there : (value : Allowed) → filed_of new ≡ record (filed_of old) { report = report_declaring old.report value }
-      → with_report_at (repository_in v) name new.report ≡ declaring_at (repository_in v) name value
-  declaring_there value made =
-      ap (λ (f : Filed). with_report_at (repository_in v) name f.report) made
-      ∙ sym (ap (λ o. option_map_or (λ r. with_report_at (repository_in v) name (report_declaring r value)) o (repository_in v)) found)
+      ∙ sym (ap (λ o. option_map_or (λ r. with_report_at (repository_in v) name (changed change r)) o (repository_in v)) found)

@@ -1,13 +1,13 @@
 //! `Change`: what a session puts, removes and declares, by report.
-ghost use Rattle.std.specs.Prelude.{◌≡◌, option_copied, option_map, string_bytes, unwrap_or, IfOk, OnOk, OnErr};
+ghost use Rattle.std.specs.Prelude.{◌≡◌, option_copied, option_map, string_bytes, unwrap_or, IfOk, IsTrue, OnOk, OnErr};
 ghost use Rattle.std.specs.Arc.{arc_value};
 ghost use Rattle.filing_model.specs.TextMap.{empty, get, insert};
 ghost use Rattle.filing_model.specs.Changes.{change_at, declared_in, with_change, with_declared};
 ghost use Rattle.filing_version.specs.Puts.{fact_seen, puts_of};
 
-use crate::changed_report::{ChangedReport, fact_of};
+use crate::changed_report::{ChangedReport, fact_of, held_of, shared};
 use crate::puts::Puts;
-use filing_pages::{Named, Range, TextPages};
+use filing_pages::{Held, Named, Range, TextPages};
 use oim_fact::{Allowed, Fact};
 use std::alloc::{AllocError, Global};
 use std::marker::Model;
@@ -28,34 +28,6 @@ impl Model for Change {
     ghost view = { λ c. c.reports };
 }
 
-/// A put that needs no more memory. Contracts see the change as it is to be.
-#[derive(Drop)]
-pub struct ReadyPut {
-    reports: TextPages<ChangedReport>,
-}
-
-impl Model for ReadyPut {
-    ghost use Rattle.filing_model.specs.Changes.{Change as PlainChange};
-
-    ghost Value = { PlainChange };
-
-    ghost view = { λ r. r.reports };
-}
-
-/// A declaration that needs no more memory. Contracts see the change as it is to be.
-#[derive(Drop)]
-pub struct ReadyDeclare {
-    reports: TextPages<ChangedReport>,
-}
-
-impl Model for ReadyDeclare {
-    ghost use Rattle.filing_model.specs.Changes.{Change as PlainChange};
-
-    ghost Value = { PlainChange };
-
-    ghost view = { λ r. r.reports };
-}
-
 impl Change {
     /// The change of nothing. It takes no memory.
     pub fn new(alloc: Global) -> Change
@@ -74,41 +46,58 @@ impl Change {
         self.reports.get(name).unwrap_or(none)
     }
 
-    /// The reports with another change of one of them.
-    fn with_report(
-        &self,
-        name: &str,
-        report: ChangedReport,
-    ) -> Result<TextPages<ChangedReport>, AllocError>
-        ensures { IfOk result (λ reports. reports ≡ insert self.now name.now report) }
+    /// The change with another change of one report.
+    fn with_report(&self, name: &str, report: ChangedReport) -> Result<Change, AllocError>
+        ensures { IfOk result (λ next. next ≡ insert self.now name.now report) }
     {
         let name = String::from_str(self.alloc, name)?;
-        self.reports.with(self.alloc, name, report)
+        let reports = self.reports.with(self.alloc, name, report)?;
+        Ok(Change {
+            alloc: self.alloc,
+            reports,
+        })
     }
 
-    /// Makes the growths of `put`. The change stays as it is.
-    pub fn ready(
+    /// The change with this put, or removal, at an identifier.
+    fn with_put(&self, report: &str, id: String, put: Option<Held>) -> Result<Change, AllocError>
+        ensures { IfOk result (λ next. next ≡ with_change self.now report.now (string_bytes id) put) }
+    {
+        let none = ChangedReport::new(self.alloc);
+        let changed = self.report_or(report, &none).with_put(self.alloc, id, put)?;
+        self.with_report(report, changed)
+    }
+
+    /// The change with a fact put, or removed, at an identifier, in the place of an earlier put of it. This change stays as it is.
+    pub fn with_fact(
         &self,
         report: &str,
         id: String,
         fact: Option<Arc<Fact>>,
-    ) -> Result<ReadyPut, AllocError>
+    ) -> Result<Change, AllocError>
         ensures { IfOk result (λ next. next
             ≡ with_change self.now report.now (string_bytes id) (option_map arc_value fact)) }
     {
-        let none = ChangedReport::new(self.alloc);
-        let changed = self
-            .report_or(report, &none)
-            .with_fact(self.alloc, id, fact)?;
-        let reports = self.with_report(report, changed)?;
-        Ok(ReadyPut { reports })
+        let put = held_of(self.alloc, fact)?;
+        self.with_put(report, id, put)
     }
 
-    /// Makes a put that is ready. It takes no memory.
-    pub fn take(&mut self, ready: ReadyPut)
-        ensures { self.new ≡ ready }
+    /// This change and another, each with the same fact put, or removed, at an identifier. What the fact is compared by is made once. Both stay as they are.
+    pub fn both_with_fact(
+        &self,
+        other: &Change,
+        report: &str,
+        id: String,
+        fact: Option<Arc<Fact>>,
+    ) -> Result<(Change, Change), AllocError>
+        ensures this { IfOk result (λ both. both.0
+            ≡ with_change self.now report.now (string_bytes id) (option_map arc_value fact)) }
+        ensures other { IfOk result (λ both. both.1
+            ≡ with_change other.now report.now (string_bytes id) (option_map arc_value fact)) }
     {
-        self.reports = ready.reports;
+        let put = held_of(self.alloc, fact)?;
+        let again = shared(&put)?;
+        let this = self.with_put(report, id.clone()?, again)?;
+        Ok((this, other.with_put(report, id, put)?))
     }
 
     /// Puts a fact, or removes what stands there, in the place of an earlier put of the identifier.
@@ -122,28 +111,19 @@ impl Change {
             ≡ with_change self.old report.now (string_bytes id) (option_map arc_value fact)) }
         ensures err { OnErr result (self.new ≡ self.old) }
     {
-        let ready = self.ready(report, id, fact)?;
-        self.take(ready);
+        *self = self.with_fact(report, id, fact)?;
         Ok(())
     }
 
-    /// Makes the growths of `declare`. The change stays as it is.
-    pub fn ready_declare(&self, report: &str, allowed: Allowed) -> Result<ReadyDeclare, AllocError>
+    /// The change with a value declared, in the place of the one that it declared before. This change stays as it is.
+    pub fn declaring(&self, report: &str, allowed: Allowed) -> Result<Change, AllocError>
         ensures { IfOk result (λ next. next ≡ with_declared self.now report.now allowed) }
     {
         let none = ChangedReport::new(self.alloc);
         let changed = self
             .report_or(report, &none)
             .declaring(self.alloc, allowed)?;
-        let reports = self.with_report(report, changed)?;
-        Ok(ReadyDeclare { reports })
-    }
-
-    /// Makes a declaration that is ready. It takes no memory.
-    pub fn take_declare(&mut self, ready: ReadyDeclare)
-        ensures { self.new ≡ ready }
-    {
-        self.reports = ready.reports;
+        self.with_report(report, changed)
     }
 
     /// Declares a value, in the place of the one that the change declared before.
@@ -151,9 +131,18 @@ impl Change {
         ensures ok { OnOk result (self.new ≡ with_declared self.old report.now allowed) }
         ensures err { OnErr result (self.new ≡ self.old) }
     {
-        let ready = self.ready_declare(report, allowed)?;
-        self.take_declare(ready);
+        *self = self.declaring(report, allowed)?;
         Ok(())
+    }
+
+    /// Whether nothing is put, removed or declared. It takes no memory.
+    pub fn is_empty(&self) -> bool
+        ensures { IsTrue result → self.now ≡ empty }
+    {
+        match self.reports.iter().next() {
+            None => true,
+            Some(_) => false,
+        }
     }
 
     /// What is put at an identifier, or none where it is removed. It takes no memory.

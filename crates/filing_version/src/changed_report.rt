@@ -43,6 +43,16 @@ pub(crate) fn held_of(alloc: Global, fact: Option<Arc<Fact>>) -> Result<Option<H
     }
 }
 
+/// Another owner of a fact that is put, or none.
+pub(crate) fn shared(put: &Option<Held>) -> Result<Option<Held>, AllocError>
+    ensures { IfOk result (λ again. again ≡ put.now) }
+{
+    match put {
+        None => Ok(None),
+        Some(held) => Ok(Some(held.share()?)),
+    }
+}
+
 impl ChangedReport {
     /// Nothing. It takes no memory.
     pub(crate) fn new(alloc: Global) -> ChangedReport
@@ -67,16 +77,15 @@ impl ChangedReport {
     }
 
     /// A copy with a fact put, or removed, at an identifier.
-    pub(crate) fn with_fact(
+    pub(crate) fn with_put(
         &self,
         alloc: Global,
         id: String,
-        fact: Option<Arc<Fact>>,
+        put: Option<Held>,
     ) -> Result<ChangedReport, AllocError>
         ensures { IfOk result (λ r. r ≡
-            record self.now { facts = insert self.now.facts (string_bytes id) (option_map arc_value fact) }) }
+            record self.now { facts = insert self.now.facts (string_bytes id) put }) }
     {
-        let put = held_of(alloc, fact)?;
         let facts = self.facts.with(alloc, id, put)?;
         Ok(ChangedReport {
             declared: self.declared,

@@ -6,15 +6,14 @@ ghost use Rattle.filing_model.specs.Text.{text_cmp};
 ghost use Rattle.std.specs.List.{filter_map};
 ghost use Rattle.filing_model.specs.TextMap.{empty};
 ghost use Rattle.filing_model.specs.DeclaredValue.{report_declaring};
-ghost use Rattle.filing_model.specs.Repository.{with_fact};
-ghost use Rattle.filing_model.specs.Changes.{declaring_if, least_among, least_changed};
+ghost use Rattle.filing_model.specs.Changes.{changed, declaring_if, least_among, least_changed};
 ghost use Rattle.filing_model.specs.Duplicates.{least_disallowed};
 ghost use Rattle.oim_report.specs.Parts.{facts_view, IsInfo};
 ghost use Rattle.filing_index.specs.Moves.{Part, moves_of, stamped_by, with_changes};
 ghost use Rattle.filing_index.specs.Stamps.{stamp_in};
 ghost use Rattle.filing_version.specs.Filed.{filed_of, newly_filed, changed_filed};
 
-use crate::changed_report::{ChangedReport, held_of};
+use crate::changed_report::ChangedReport;
 use filing_index::{Facts, Stamps};
 use filing_pages::{Held, Keyring, Named, TextPages};
 use oim_fact::{Allowed, DimSet, Fact, Names};
@@ -183,27 +182,16 @@ impl FiledReport {
         })
     }
 
-    /// The facts with one put, or removed, at an identifier.
-    fn facts_with(
+    /// The facts with puts laid over them.
+    fn facts_after(
         &self,
         alloc: Global,
-        id: String,
-        fact: Option<Arc<Fact>>,
+        puts: &TextPages<Option<Held>>,
     ) -> Result<Facts, AllocError>
-        ensures { IfOk result (λ facts. facts
-            ≡ with_changes ((string_bytes id, option_map arc_value fact) ∷ []) self.now.report.facts) }
+        ensures { IfOk result (λ facts. facts ≡ with_changes puts.now.entries self.now.report.facts) }
     {
-        let nothing: TextPages<Option<Held>> = TextPages::new(alloc);
-        let put = nothing.with(alloc, id, held_of(alloc, fact)?)?;
-        let moves = self.facts.moves(alloc, &put)?;
+        let moves = self.facts.moves(alloc, puts)?;
         self.facts.after(alloc, &moves)
-    }
-
-    /// The same facts once more, which share their indexes.
-    fn facts_again(&self, alloc: Global) -> Result<Facts, AllocError>
-        ensures { IfOk result (λ facts. facts ≡ self.now.report.facts) }
-    {
-        self.facts.after(alloc, &[])
     }
 
     /// The same stamps once more, which share all that they hold.
@@ -214,44 +202,19 @@ impl FiledReport {
         self.stamps.after(alloc, &[], number)
     }
 
-    /// The report with a fact put, or removed, at an identifier. No stamp is greater than the number, and all stay.
-    pub(crate) fn with_fact(
+    /// The report with a change laid over it. No stamp is greater than the number, and all stay.
+    pub(crate) fn with_change(
         &self,
         alloc: Global,
-        id: String,
-        fact: Option<Arc<Fact>>,
-        number: u64,
-    ) -> Result<FiledReport, AllocError>
-        requires { (part : Part) → stamp_in self.now.stamps part ≤ number }
-        ensures { IfOk result (λ f. filed_of f ≡ record (filed_of self.now) {
-          report = with_fact self.now.report (string_bytes id) (option_map arc_value fact);
-        }) }
-    {
-        let front = Arc::try_clone(&self.front)?;
-        let facts = self.facts_with(alloc, id, fact)?;
-        let stamps = self.stamps_again(alloc, number)?;
-        Ok(FiledReport {
-            front,
-            facts,
-            loaded: self.loaded,
-            declared: self.declared,
-            stamps,
-        })
-    }
-
-    /// The report that declares this value. No stamp is greater than the number, and all stay.
-    pub(crate) fn with_declared(
-        &self,
-        alloc: Global,
-        allowed: Allowed,
+        change: &ChangedReport,
         number: u64,
     ) -> Result<FiledReport, AllocError>
         requires { (part : Part) → stamp_in self.now.stamps part ≤ number }
         ensures { IfOk result (λ f. filed_of f
-            ≡ record (filed_of self.now) { report = report_declaring self.now.report allowed }) }
+            ≡ record (filed_of self.now) { report = changed change.now self.now.report }) }
     {
-        let front = declaring(alloc, &self.front, Some(allowed))?;
-        let facts = self.facts_again(alloc)?;
+        let front = declaring(alloc, &self.front, change.declared())?;
+        let facts = self.facts_after(alloc, change.facts())?;
         let stamps = self.stamps_again(alloc, number)?;
         Ok(FiledReport {
             front,

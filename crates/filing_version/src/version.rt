@@ -3,10 +3,10 @@ ghost use Rattle.std.specs.Prelude.{◌≡◌, ◌+◌, ◌<◌, ◌^◌, None, 
 ghost use Rattle.std.specs.Arc.{arc_value};
 ghost use Rattle.filing_model.specs.Text.{Text};
 ghost use Rattle.filing_model.specs.TextMap.{get as value_at};
-ghost use Rattle.filing_model.specs.Repository.{Repository, report_at, fact_in, with_report_at, with_fact_at, declaring_at};
+ghost use Rattle.filing_model.specs.Repository.{Repository, report_at, fact_in, with_report_at};
 ghost use Rattle.filing_model.specs.Things as thing;
 ghost use Rattle.filing_model.specs.Stamps.{first_version, version_after, version_with};
-ghost use Rattle.filing_model.specs.Changes.{after_change, first_disallowed};
+ghost use Rattle.filing_model.specs.Changes.{after_change, changed_at, first_disallowed, laid_over};
 ghost use Rattle.filing_model.specs.Duplicates.{class_of, least_disallowed};
 ghost use Rattle.filing_model.specs.Queries.{cell_facts, cell_ids, ids_for};
 ghost use Rattle.filing_model.specs.Sessions.{repository_obeys, refusal_of};
@@ -16,11 +16,12 @@ ghost use Rattle.filing_version.specs.Found.{got_of};
 ghost use Rattle.filing_version.specs.Filed.{StampedReport, KeepsItsStamps, version_in, repository_in};
 
 use crate::change::Change;
+use crate::changed_report::ChangedReport;
 use crate::entries::Entries;
 use crate::filed::FiledReport;
 use crate::got::Got;
 use filing_index::{Asked, Ids};
-use filing_pages::TextPages;
+use filing_pages::{Named, TextPages};
 use oim_fact::{Allowed, Class, DimSet, Fact, Names};
 use oim_report::Report;
 use std::alloc::{AllocError, Global};
@@ -189,41 +190,32 @@ impl RepoVersion {
         })
     }
 
-    /// The version with a fact put, or removed, at an identifier of a report; the same where the report is not there. Its number and its stamps stay: it is what a session makes of the version of its opening, and no version that was accepted.
-    pub fn with_fact_at(
+    /// The version with the change of one report laid over it; the same where the report is not there.
+    fn with_part(
         &self,
         alloc: Global,
-        report: &str,
-        id: String,
-        fact: Option<Arc<Fact>>,
+        part: &Named<ChangedReport>,
     ) -> Result<RepoVersion, AllocError>
-        ensures { IfOk result (λ v. version_in v ≡ record (version_in self.now) {
-          repository = with_fact_at (repository_in self.now) report.now (string_bytes id) (option_map arc_value fact);
-        }) }
+        ensures { IfOk result (λ v. version_in v
+            ≡ record (version_in self.now) { repository = changed_at (repository_in self.now) part.now }) }
     {
-        let Some(filed) = self.reports.get(report) else {
+        let Some(filed) = self.reports.get(part.name()) else {
             return self.again(alloc);
         };
-        let changed = filed.with_fact(alloc, id, fact, self.number)?;
-        self.with_filed(alloc, report, changed)
+        let changed = filed.with_change(alloc, part.value(), self.number)?;
+        self.with_filed(alloc, part.name(), changed)
     }
 
-    /// The version in whose report a value is declared; the same where the report is not there. Its number and its stamps stay.
-    pub fn declaring_at(
-        &self,
-        alloc: Global,
-        report: &str,
-        allowed: Allowed,
-    ) -> Result<RepoVersion, AllocError>
-        ensures { IfOk result (λ v. version_in v ≡ record (version_in self.now) {
-          repository = declaring_at (repository_in self.now) report.now allowed;
-        }) }
+    /// The version with a change laid over it, but for reports that are not there. Its number and its stamps stay: it is what a session makes of the version of its opening, and no version that was accepted.
+    pub fn with_change(&self, alloc: Global, change: &Change) -> Result<RepoVersion, AllocError>
+        ensures { IfOk result (λ v. version_in v
+            ≡ record (version_in self.now) { repository = laid_over change.now (repository_in self.now) }) }
     {
-        let Some(filed) = self.reports.get(report) else {
-            return self.again(alloc);
-        };
-        let changed = filed.with_declared(alloc, allowed, self.number)?;
-        self.with_filed(alloc, report, changed)
+        let mut version = self.again(alloc)?;
+        for part in change.reports() {
+            version = version.with_part(alloc, part)?;
+        }
+        Ok(version)
     }
 
     /// The report of this name. Its facts are shared.

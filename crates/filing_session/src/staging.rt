@@ -1,0 +1,203 @@
+//! `Staging`: what a session has staged, and the copy of its version in which that shows.
+ghost use Rattle.std.specs.Prelude.{◌≡◌, Some, option_map, string_bytes, unwrap_or, IfOk};
+ghost use Rattle.std.specs.Arc.{arc_value};
+ghost use Rattle.filing_model.specs.TextMap.{empty};
+ghost use Rattle.filing_model.specs.Changes.{laid_over, with_change, with_declared};
+ghost use Rattle.filing_model.specs.Repository.{report_at, fact_in, with_fact_at, declaring_at};
+ghost use Rattle.filing_version.specs.Filed.{repository_in};
+ghost use Rattle.filing_version.specs.Found.{got_of};
+ghost use Rattle.filing_version.specs.Puts.{fact_seen};
+
+use filing_version::{Change, Got, RepoVersion};
+use oim_fact::{Allowed, Fact, Names};
+use std::alloc::{AllocError, Global};
+use std::marker::Model;
+use std::sync::Arc;
+
+/// What is staged, and a version that has some of it. What it does not have yet is laid over it all at once, when a cell or a page is asked for; what stands at an identifier is told by both. Contracts see the copy with all that is staged, and the change.
+#[derive(Drop)]
+pub(crate) struct Staging {
+    /// The version of the opening with what is no more pending.
+    version: Arc<RepoVersion>,
+    /// What the version does not have yet, where that is not all that is staged.
+    pending: Option<Change>,
+    change: Change,
+}
+
+impl Model for Staging {
+    ghost use Rattle.filing_model.specs.Repository.{Repository};
+    ghost use Rattle.filing_model.specs.Changes.{Change as PlainChange};
+
+    ghost Value = { Repository × PlainChange };
+
+    ghost use Rattle.std.specs.Prelude.{unwrap_or};
+    ghost use Rattle.std.specs.Arc.{arc_value};
+    ghost use Rattle.filing_model.specs.Changes.{laid_over};
+    ghost use Rattle.filing_version.specs.Filed.{repository_in};
+
+    ghost view = { λ s. (laid_over (unwrap_or s.pending s.change) (repository_in (arc_value s.version)), s.change) };
+}
+
+/// What is pending, where that is not all that is staged, or all.
+fn pending_of<'a>(pending: &'a Option<Change>, change: &'a Change) -> &'a Change
+    ensures { result.now ≡ unwrap_or pending.now change.now }
+{
+    pending.as_ref().unwrap_or(change)
+}
+
+/// What stands where a fact is put, or where one is removed.
+fn got_put(put: Option<&Arc<Fact>>) -> Got<'_>
+    ensures { got_of result ≡ Some (fact_seen put.entry) }
+{
+    match put {
+        None => Got::Absent,
+        Some(fact) => Got::Found(fact),
+    }
+}
+
+/// What stands at an identifier of a version with a change laid over it.
+fn got<'a>(version: &'a RepoVersion, pending: &'a Change, report: &str, id: &str) -> Got<'a>
+    ensures { got_of result ≡ option_map (λ r. fact_in r id.now)
+        (report_at (laid_over pending.now (repository_in version.now)) report.now) }
+{
+    match version.get(report, id) {
+        Got::NoReport => Got::NoReport,
+        there => match pending.staged(report, id) {
+            None => there,
+            Some(put) => got_put(put),
+        },
+    }
+}
+
+/// The value that a report of a version with a change laid over it declares, or none where it is not there.
+#[tactic(auto, using(crate::proofs::PendingChanges::value_laid))]
+fn value_of(version: &RepoVersion, pending: &Change, report: &str) -> Option<Allowed>
+    ensures { result ≡ option_map (λ r. r.allowed)
+        (report_at (laid_over pending.now (repository_in version.now)) report.now) }
+{
+    let before = version.allowed(report)?;
+    Some(pending.declared(report).unwrap_or(before))
+}
+
+/// A version with a change laid over it, or another owner of the same where the change is of nothing.
+fn laid(
+    alloc: Global,
+    version: &Arc<RepoVersion>,
+    pending: &Change,
+) -> Result<Arc<RepoVersion>, AllocError>
+    ensures { IfOk result (λ v. repository_in (arc_value v)
+        ≡ laid_over pending.now (repository_in (arc_value version.now))) }
+{
+    if pending.is_empty() {
+        return Arc::try_clone(version);
+    }
+    let changed = version.with_change(alloc, pending)?;
+    Ok(Arc::new(alloc, changed)?)
+}
+
+impl Staging {
+    /// Nothing is staged over this version.
+    pub(crate) fn new(alloc: Global, version: Arc<RepoVersion>) -> Staging
+        ensures { result ≡ (repository_in (arc_value version), empty) }
+    {
+        Staging {
+            version,
+            pending: None,
+            change: Change::new(alloc),
+        }
+    }
+
+    /// What is staged.
+    pub(crate) fn change(&self) -> &Change
+        ensures { result.now ≡ self.now.1 }
+    {
+        &self.change
+    }
+
+    /// What stands at an identifier. It takes no memory, nor do the two below.
+    pub(crate) fn get(&self, report: &str, id: &str) -> Got<'_>
+        ensures { got_of result ≡ option_map (λ r. fact_in r id.now) (report_at self.now.0 report.now) }
+    {
+        let pending = pending_of(&self.pending, &self.change);
+        got(&self.version, pending, report, id)
+    }
+
+    /// The prefixes of a report with its numeric table, or none where it is not there.
+    pub(crate) fn names(&self, report: &str) -> Option<&Names>
+        ensures { option_map (λ n. n.now) result ≡ option_map (λ r. r.names) (report_at self.now.0 report.now) }
+    {
+        self.version.names(report)
+    }
+
+    /// The allowed duplicates that a report declares, or none where it is not there.
+    pub(crate) fn allowed(&self, report: &str) -> Option<Allowed>
+        ensures { result ≡ option_map (λ r. r.allowed) (report_at self.now.0 report.now) }
+    {
+        let pending = pending_of(&self.pending, &self.change);
+        value_of(&self.version, pending, report)
+    }
+
+    /// A version with all that is staged.
+    pub(crate) fn copy(&self, alloc: Global) -> Result<Arc<RepoVersion>, AllocError>
+        ensures { IfOk result (λ v. repository_in (arc_value v) ≡ self.now.0) }
+    {
+        let pending = pending_of(&self.pending, &self.change);
+        laid(alloc, &self.version, pending)
+    }
+
+    /// Lays what is pending over the version, so that cells and pages are looked up in it. It changes nothing that is staged.
+    pub(crate) fn lay(&mut self, alloc: Global) -> Result<(), AllocError>
+        ensures { self.new ≡ self.old }
+    {
+        if !pending_of(&self.pending, &self.change).is_empty() {
+            let copy = self.copy(alloc)?;
+            self.version = copy;
+            self.pending = Some(Change::new(alloc));
+        }
+        Ok(())
+    }
+
+    /// The same with a fact put, or removed, at an identifier.
+    pub(crate) fn with_fact(
+        &self,
+        report: &str,
+        id: String,
+        fact: Option<Arc<Fact>>,
+    ) -> Result<Staging, AllocError>
+        ensures { IfOk result (λ s. s ≡ (
+          with_fact_at self.now.0 report.now (string_bytes id) (option_map arc_value fact),
+          with_change self.now.1 report.now (string_bytes id) (option_map arc_value fact),
+        )) }
+    {
+        let version = Arc::try_clone(&self.version)?;
+        let (pending, change) = match &self.pending {
+            None => (None, self.change.with_fact(report, id, fact)?),
+            Some(pending) => {
+                let (pending, change) = pending.both_with_fact(&self.change, report, id, fact)?;
+                (Some(pending), change)
+            }
+        };
+        Ok(Staging {
+            version,
+            pending,
+            change,
+        })
+    }
+
+    /// The same with a value declared.
+    pub(crate) fn declaring(&self, report: &str, allowed: Allowed) -> Result<Staging, AllocError>
+        ensures { IfOk result (λ s. s ≡ (declaring_at self.now.0 report.now allowed, with_declared self.now.1 report.now allowed)) }
+    {
+        let version = Arc::try_clone(&self.version)?;
+        let pending = match &self.pending {
+            None => None,
+            Some(pending) => Some(pending.declaring(report, allowed)?),
+        };
+        let change = self.change.declaring(report, allowed)?;
+        Ok(Staging {
+            version,
+            pending,
+            change,
+        })
+    }
+}
