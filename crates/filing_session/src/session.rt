@@ -101,7 +101,12 @@ fn made(alloc: Global, staging: &Staging, call: Call) -> Result<Ready, AllocErro
 }
 
 /// Makes the growths of a call.
-fn effect(alloc: Global, kind: Kind, staging: &Staging, call: Call) -> Result<Ready, AllocError>
+pub(crate) fn effect(
+    alloc: Global,
+    kind: Kind,
+    staging: &Staging,
+    call: Call,
+) -> Result<Ready, AllocError>
     ensures { IfOk result (λ r. r ≡ effect_of kind (call_of call) staging.now.0 staging.now.1) }
 {
     if may_make(kind, &call) {

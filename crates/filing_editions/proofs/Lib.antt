@@ -1,0 +1,5 @@
+pub mod Beginnings
+pub mod Chains
+pub mod Longer
+pub mod Adding
+pub mod Showing

@@ -1,0 +1,3 @@
+-- What contracts of editions cite.
+pub mod Lists
+pub mod Rules

@@ -1,0 +1,34 @@
+//! `Receipt`: what a load or a commit is given that made a version.
+
+ghost use Rattle.std.specs.Prelude.{◌≡◌, ◌+◌, length};
+
+use crate::edition::Edition;
+use crate::law::Naming;
+use std::marker::{Model, PhantomData};
+
+/// What a load or a commit is given that made a version. Contracts see the list of versions that ends with it.
+#[derive(Drop)]
+pub struct Receipt<J: Naming> {
+    pub(crate) edition: Edition,
+    pub(crate) of: PhantomData<J>,
+}
+
+impl<J: Naming> Model for Receipt<J> {
+    ghost use Rattle.std.specs.Prelude.{◌≡◌, List};
+    ghost use Rattle.filing_model.specs.Repository.{Repository};
+
+    ghost Value = { List Repository };
+
+    ghost view = { λ r. r.edition.versions };
+
+    ghost invariant = { λ r. r.edition.book ≡ J.book };
+}
+
+impl<J: Naming> Receipt<J> {
+    /// The number of the version, which is one less than how many versions the list has. It takes no memory.
+    pub fn number(&self) -> u64
+        ensures { result + 1 ≡ length self.now }
+    {
+        self.edition.number()
+    }
+}

@@ -1,0 +1,3 @@
+-- What contracts of the office cite.
+pub mod Answers
+pub mod Tallies

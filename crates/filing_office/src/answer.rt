@@ -1,0 +1,12 @@
+//! `Answer`: what a desk is told of a step.
+
+use filing_editions::{Naming, Receipt};
+use filing_step::Reply;
+
+/// What a desk is told of a step: the session of its entry, the reply, and a receipt where the step made a version.
+#[derive(Drop)]
+pub struct Answer<J: Naming> {
+    pub session: Option<u64>,
+    pub reply: Reply,
+    pub receipt: Option<Receipt<J>>,
+}

@@ -1,0 +1,122 @@
+//! `Office`: a repository that many threads use.
+
+ghost use Rattle.std.specs.Prelude.{◌≡◌, ◌≢◌, ◌^◌, ◌<◌, ◌≤◌, [], ◌∷◌, length, vec_len, All, sum, map, IfOk, OnOk, MatchResult};
+ghost use Rattle.filing_model.specs.Repository.{nothing};
+ghost use Rattle.filing_model.specs.History.{repository};
+ghost use Rattle.filing_office.specs.Tallies.{nothing_taken};
+
+use crate::desk::Desk;
+use crate::fault::FinishFault;
+use crate::locked::Locked;
+use crate::roster::Roster;
+use crate::shared::Shared;
+use filing_core::Core;
+use filing_editions::{Naming, OpenFault, Press, Publisher, Reviewer};
+use std::alloc::{AllocError, Global};
+use std::sync::ledger::{Blank, Ledger, Share};
+use std::sync::{Mutex, Wait};
+
+/// A repository that many threads use: desks take steps under its lock, and reviewers read what is published under none. It is not `Drop`: end it by `finish` or `give_up`.
+pub struct Office<L: Ledger + Naming, M: Ledger> {
+    pub(crate) locked: Mutex<Locked<L, M>>,
+    steps: Roster<L>,
+    receipts: Roster<M>,
+    ghost alike: { steps.desks ≡ receipts.desks },
+}
+
+/// What an office is opened with: itself, its desks and its reviewers.
+pub struct Opened<L: Ledger + Naming, M: Ledger> {
+    pub office: Office<L, M>,
+    pub desks: Vec<Desk<L, M>>,
+    pub reviewers: Vec<Reviewer<L>>,
+}
+
+impl<L: Ledger + Naming, M: Ledger> Office<L, M> {
+    /// Opens an office over an empty history. Steps and receipts are counted in two ledgers, each of one part a desk.
+    pub fn open<R: Wait>(
+        rt: &R,
+        alloc: Global,
+        press: Press,
+        desks: usize,
+        reviewers: usize,
+        steps: Blank,
+        receipts: Blank,
+    ) -> Result<Opened<L, M>, OpenFault>
+        requires book { press.seen.book ≡ L.book }
+        requires some_desks { (0 < desks) × (desks ≤ 16) }
+        requires some_reviewers { (0 < reviewers) × (reviewers ≤ 16) }
+        requires steps { (steps.name ≡ L.name) × (steps.parts ≡ L.parts) × (steps.parts ≡ desks) }
+        requires receipts { (receipts.name ≡ M.name) × (receipts.parts ≡ M.parts) × (receipts.parts ≡ desks) }
+        ensures desks { IfOk result (λ o. (vec_len o.desks ≡ desks) × All (λ d. d ≡ nothing_taken) o.desks.items) }
+        ensures reviewers { IfOk result (λ o. (vec_len o.reviewers ≡ reviewers) × All (λ r. r ≡ nothing ∷ []) o.reviewers.items) }
+    {
+        let core = Core::new(alloc)?;
+        let (steps, mut all_steps) = steps.open::<L>();
+        let (receipts, mut all_receipts) = receipts.open::<M>();
+        let seats = hand_out(alloc, desks, &mut all_steps, &mut all_receipts)?;
+        let (publisher, reviewers) = Publisher::open(rt, alloc, press, reviewers)?;
+        let shared = Shared { core, publisher };
+        let locked = Locked::new(shared, steps, receipts, all_steps, all_receipts);
+        Ok(Opened {
+            office: Office {
+                locked: Mutex::new(locked),
+                steps: Roster::of(desks),
+                receipts: Roster::of(desks),
+            },
+            desks: seats,
+            reviewers,
+        })
+    }
+
+    /// Ends the office with all its desks. It waits for the readers of reviews that are being opened; reviews that are kept go on answering.
+    pub fn finish<R: Wait>(self, rt: &R, desks: Vec<Desk<L, M>>) -> Result<Core, FinishFault<L, M>>
+        ensures counted { MatchResult result (λ c. length c.history ≡ sum (map (λ d. d.steps) desks.items)) (λ f. f.desks ≡ desks) }
+        ensures numbered { IfOk result (λ c. (repository c.history).count ≡ sum (map (λ d. d.receipts) desks.items)) }
+        ensures missing { MatchResult result (λ c. vec_len desks ≡ L.parts) (λ f. vec_len desks ≢ L.parts) }
+    {
+        if desks.len() != self.steps.desks() {
+            return Err(FinishFault {
+                office: self,
+                desks,
+            });
+        }
+        let Office {
+            locked,
+            steps: _steps,
+            receipts: _receipts,
+        } = self;
+        Ok(locked.into_inner().close(rt, desks))
+    }
+
+    /// Ends an office whose desks are gone. What publishes is taken back, and the core is dropped.
+    pub fn give_up<R: Wait>(self, rt: &R) {
+        let Office {
+            locked,
+            steps: _steps,
+            receipts: _receipts,
+        } = self;
+        locked.into_inner().give_up(rt);
+    }
+}
+
+/// So many desks, each with one part of both ledgers.
+fn hand_out<L: Ledger, M: Ledger>(
+    alloc: Global,
+    desks: usize,
+    steps: &mut Share<L>,
+    receipts: &mut Share<M>,
+) -> Result<Vec<Desk<L, M>>, AllocError>
+    requires steps { (steps.old.parts ≡ desks) × (steps.old.amount ≡ 0) }
+    requires receipts { (receipts.old.parts ≡ desks) × (receipts.old.amount ≡ 0) }
+    ensures desks { IfOk result (λ v. (vec_len v ≡ desks) × All (λ d. d ≡ nothing_taken) v.items) }
+    ensures no_parts { OnOk result ((steps.new.parts ≡ 0) × (receipts.new.parts ≡ 0)) }
+{
+    let mut seats = Vec::with_capacity(alloc, desks)?;
+    for _ in 0..desks {
+        seats.push(Desk {
+            steps: steps.split_off(1, 0),
+            receipts: receipts.split_off(1, 0),
+        })?;
+    }
+    Ok(seats)
+}

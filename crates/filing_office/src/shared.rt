@@ -1,0 +1,132 @@
+//! `Shared`: what the lock lends to a step, and the step on it.
+
+ghost use Rattle.std.specs.Prelude.{◌≡◌, ◌∷◌, ◌++◌, [], true, false, Some, option_map, IfOk, OnOk, OnErr};
+ghost use Rattle.std.specs.Option.{option_map_or};
+ghost use Rattle.filing_model.specs.History.{Entry, History};
+ghost use Rattle.filing_model.specs.Versions.{IsChain};
+ghost use Rattle.filing_version.specs.Filed.{StampedReports, repository_in};
+ghost use Rattle.filing_step.specs.Steps.{step_of};
+ghost use Rattle.filing_office.specs.Answers.{ApplyAnswers};
+
+use crate::answer::Answer;
+use filing_core::{Core, CoreFault, Prepared, Step};
+use filing_editions::{Issue, Naming, Publisher, Receipt};
+use std::alloc::{AllocError, Global};
+use std::marker::Model;
+use std::sync::Wait;
+
+/// What the lock lends to a step: the core, and what publishes its versions. The list that is published is that of the versions of the history. Contracts see the history, newest entry first. It is not `Drop`, as what publishes is not.
+pub struct Shared<J: Naming> {
+    pub(crate) core: Core,
+    pub(crate) publisher: Publisher<J>,
+}
+
+impl<J: Naming> Model for Shared<J> {
+    ghost use Rattle.std.specs.Prelude.{◌≡◌};
+    ghost use Rattle.filing_model.specs.History.{History};
+    ghost use Rattle.filing_model.specs.Versions.{versions};
+
+    ghost Value = { History };
+
+    ghost view = { λ s. s.core.history };
+
+    ghost invariant = { λ s. s.publisher ≡ versions s.core.history };
+}
+
+/// Publishes the version of a prepared step, where it makes one.
+fn publish_next<J: Naming, R: Wait>(
+    rt: &R,
+    publisher: &mut Publisher<J>,
+    prepared: &Prepared,
+) -> Result<Option<Receipt<J>>, AllocError>
+    requires { (v : StampedReports) → prepared.now.next ≡ Some v → IsChain (publisher.old ++ repository_in v ∷ []) }
+    ensures published { OnOk result (publisher.new ≡ publisher.old ++ option_map_or (λ v. repository_in v ∷ []) prepared.now.next []) }
+    ensures told { IfOk result (λ r. r ≡ option_map (λ _. publisher.new) prepared.now.next) }
+    ensures err { OnErr result (publisher.new ≡ publisher.old) }
+{
+    match prepared.next() {
+        None => Ok(None),
+        Some(version) => {
+            let issue = Issue::of(version)?;
+            Ok(Some(publisher.publish(rt, issue)))
+        }
+    }
+}
+
+/// Takes one step under the lock. A version that it makes is published before the answer. All growths are made before the first change, and publishing cannot fail.
+pub fn apply_in<J: Naming, R: Wait>(
+    rt: &R,
+    shared: &mut Shared<J>,
+    alloc: Global,
+    session: Option<u64>,
+    step: Step,
+) -> Result<Answer<J>, CoreFault>
+    ensures { ApplyAnswers shared.old shared.new session (step_of step) result }
+{
+    match step {
+        Step::Load(_, _) | Step::Commit => shared.publish(rt, alloc, session, step),
+        step => shared.enter(alloc, session, step),
+    }
+}
+
+impl<J: Naming> Shared<J> {
+    ghost use Rattle.filing_core.specs.Prepared.{is_load_or_commit};
+
+    /// The session of the newest entry.
+    fn last_session(&self) -> Option<u64>
+        ensures { (older : History) (e : Entry) → self.now ≡ e ∷ older → result ≡ e.session }
+    {
+        match self.core.history().last() {
+            None => None,
+            Some(entry) => entry.session,
+        }
+    }
+
+    /// Enters a step that makes no version.
+    fn enter(
+        &mut self,
+        alloc: Global,
+        session: Option<u64>,
+        step: Step,
+    ) -> Result<Answer<J>, CoreFault>
+        requires { is_load_or_commit (step_of step) ≡ false }
+        ensures { ApplyAnswers self.old self.new session (step_of step) result }
+    {
+        let reply = self.core.step(alloc, session, step)?;
+        Ok(Answer {
+            session: self.last_session(),
+            reply,
+            receipt: None,
+        })
+    }
+
+    /// Enters a load or a commit, and publishes the version that it makes.
+    fn publish<R: Wait>(
+        &mut self,
+        rt: &R,
+        alloc: Global,
+        session: Option<u64>,
+        step: Step,
+    ) -> Result<Answer<J>, CoreFault>
+        requires { is_load_or_commit (step_of step) ≡ true }
+        ensures { ApplyAnswers self.old self.new session (step_of step) result }
+    {
+        let prepared = self.core.prepare(alloc, session, step)?;
+        let receipt = publish_next(rt, &mut self.publisher, &prepared)?;
+        let reply = self.core.settle(prepared);
+        Ok(Answer {
+            session: self.last_session(),
+            reply,
+            receipt,
+        })
+    }
+
+    /// Takes back what publishes, and gives the core.
+    pub(crate) fn close<R: Wait>(self, rt: &R) -> Core
+        ensures { result.history ≡ self }
+    {
+        let Shared { core, publisher } = self;
+        publisher.give_up(rt);
+        core
+    }
+}
