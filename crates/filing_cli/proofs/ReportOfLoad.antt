@@ -7,10 +7,9 @@ use Rattle.serde_json.specs.Find.{at, as_str, as_object}
 use Rattle.filing_model.specs.Text.{text_eq}
 use Rattle.std.specs.Option.{option_map_or}
 use Rattle.filing_model.specs.Text.{Text}
-use Rattle.filing_model.specs.ReadReport.{allowed_of_word}
 use Rattle.filing_text.specs.ReplyText.{bad_line_text}
 use Rattle.filing_text.specs.Script.{State, Told, report_in, judged_load, judged_line, answered, value_answer}
-use Rattle.filing_text.specs.ScriptLines.{◌>>=◌, Line, Load, Open, Ask, Commit, Close, Export, kind_of_word, text_at, object_at, sought_at, limit_at, ends_at, load_of, open_of, get_of, cell_of, page_of, add_of, remove_of, declared_of, declare_of, commit_of, close_of, export_of, asking_of_word, line_of_word, line_of}
+use Rattle.filing_text.specs.ScriptLines.{◌>>=◌, Asking, Line, Load, Open, Ask, Commit, Close, Export, kind_of_word, text_at, ends_at, load_of, open_of, commit_of, close_of, export_of, asking_at, asking_of_word, line_of_word, line_of}
 
 -- a load has its report as the third part of the value
 abbrev pub HasReport : Data → Option Line → Type 0
@@ -47,30 +46,6 @@ of_load d =
 of_open : (d : Data) → HasReport d (open_of d)
 of_open d = then d (text_at 1 d) _ (λ session. then d (option_and_then kind_of_word (text_at 2 d)) _ (λ kind. then d (ends_at 3 d) _ (λ ended. tt)))
 
-of_get : (d : Data) → HasReport d (get_of d)
-of_get d = then d (text_at 1 d) _ (λ session. then d (text_at 2 d) _ (λ report. then d (text_at 3 d) _ (λ id. then d (ends_at 4 d) _ (λ ended. tt))))
-
-of_cell : (d : Data) → HasReport d (cell_of d)
-of_cell d = then d (text_at 1 d) _ (λ session. then d (text_at 2 d) _ (λ report. then d (object_at 3 d) _ (λ dims. then d (ends_at 4 d) _ (λ ended. tt))))
-
-of_page : (d : Data) → HasReport d (page_of d)
-of_page d = then d (text_at 1 d) _ (λ session. then d (text_at 2 d) _ (λ report. then d (sought_at 3 d) _
-    (λ sought. then d (limit_at 6 d) _ (λ limit. then d (ends_at 7 d) _ (λ ended. tt)))))
-
-of_add : (d : Data) → HasReport d (add_of d)
-of_add d = then d (text_at 1 d) _ (λ session. then d (text_at 2 d) _
-    (λ report. then d (text_at 3 d) _ (λ id. then d (object_at 4 d) _ (λ fact. then d (ends_at 5 d) _ (λ ended. tt)))))
-
-of_remove : (d : Data) → HasReport d (remove_of d)
-of_remove d = then d (text_at 1 d) _ (λ session. then d (text_at 2 d) _ (λ report. then d (text_at 3 d) _ (λ id. then d (ends_at 4 d) _ (λ ended. tt))))
-
-of_declared : (d : Data) → HasReport d (declared_of d)
-of_declared d = then d (text_at 1 d) _ (λ session. then d (text_at 2 d) _ (λ report. then d (ends_at 3 d) _ (λ ended. tt)))
-
-of_declare : (d : Data) → HasReport d (declare_of d)
-of_declare d = then d (text_at 1 d) _ (λ session. then d (text_at 2 d) _
-    (λ report. then d (option_and_then allowed_of_word (text_at 3 d)) _ (λ allowed. then d (ends_at 4 d) _ (λ ended. tt))))
-
 of_commit : (d : Data) → HasReport d (commit_of d)
 of_commit d = then d (text_at 1 d) _ (λ session. then d (ends_at 2 d) _ (λ ended. tt))
 
@@ -81,14 +56,11 @@ of_export : (d : Data) → HasReport d (export_of d)
 of_export d = then d (text_at 1 d) _ (λ name. then d (ends_at 2 d) _ (λ ended. tt))
 
 of_asking_word : (d : Data) (word : Text) → HasReport d (asking_of_word word d)
-of_asking_word d word =
-    either d (text_eq word (codes "get")) _ _ (of_get d)
-    (either d (text_eq word (codes "cell")) _ _ (of_cell d)
-    (either d (text_eq word (codes "page")) _ _ (of_page d)
-    (either d (text_eq word (codes "add")) _ _ (of_add d)
-    (either d (text_eq word (codes "remove")) _ _ (of_remove d)
-    (either d (text_eq word (codes "declared")) _ _ (of_declared d)
-    (either d (text_eq word (codes "declare")) _ _ (of_declare d) tt))))))
+of_asking_word d word = then d (text_at 1 d) _ (λ session. thus d session (asking_at word 2 d))
+  where
+    thus : (d : Data) (session : Text) (o : Option Asking) → HasReport d (o >>= λ asking. Some (Ask session asking))
+    thus d session None = tt
+    thus d session (Some asking) = tt
 
 of_word : (d : Data) (word : Text) → HasReport d (line_of_word word d)
 of_word d word =

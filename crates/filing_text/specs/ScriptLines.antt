@@ -101,69 +101,70 @@ limit_at place d = do
   whole ← as_u64 number
   limit_of whole
 
-abbrev pub get_of : Data → Option Line
-get_of d = do
-  session ← text_at 1 d
-  report ← text_at 2 d
-  id ← text_at 3 d
-  ended ← ends_at 4 d
-  Some (Ask session (Get report id))
+-- each takes its parts from a place of the array on, and has none after them
+abbrev pub get_at : ℕ → Data → Option Asking
+get_at place d = do
+  report ← text_at place d
+  id ← text_at (place + 1) d
+  ended ← ends_at (place + 2) d
+  Some (Get report id)
 
-abbrev pub cell_of : Data → Option Line
-cell_of d = do
-  session ← text_at 1 d
-  report ← text_at 2 d
-  dims ← object_at 3 d
-  ended ← ends_at 4 d
-  Some (Ask session (Cell report dims))
+abbrev pub cell_at : ℕ → Data → Option Asking
+cell_at place d = do
+  report ← text_at place d
+  dims ← object_at (place + 1) d
+  ended ← ends_at (place + 2) d
+  Some (Cell report dims)
 
-abbrev pub sought_at : ℕ → Data → Option Sought
-sought_at place d = do
-  concept ← text_at place d
-  period ← asked_at (place + 1) d
-  after ← nullable_at (place + 2) d
-  Some (record { concept = concept; period = period; after = after })
+abbrev pub page_at : ℕ → Data → Option Asking
+page_at place d = do
+  report ← text_at place d
+  concept ← text_at (place + 1) d
+  period ← asked_at (place + 2) d
+  after ← nullable_at (place + 3) d
+  limit ← limit_at (place + 4) d
+  ended ← ends_at (place + 5) d
+  Some (Page report (record { concept = concept; period = period; after = after }) limit)
 
-abbrev pub page_of : Data → Option Line
-page_of d = do
-  session ← text_at 1 d
-  report ← text_at 2 d
-  sought ← sought_at 3 d
-  limit ← limit_at 6 d
-  ended ← ends_at 7 d
-  Some (Ask session (Page report sought limit))
+abbrev pub add_at : ℕ → Data → Option Asking
+add_at place d = do
+  report ← text_at place d
+  id ← text_at (place + 1) d
+  fact ← object_at (place + 2) d
+  ended ← ends_at (place + 3) d
+  Some (Add report id fact)
 
-abbrev pub add_of : Data → Option Line
-add_of d = do
-  session ← text_at 1 d
-  report ← text_at 2 d
-  id ← text_at 3 d
-  fact ← object_at 4 d
-  ended ← ends_at 5 d
-  Some (Ask session (Add report id fact))
+abbrev pub remove_at : ℕ → Data → Option Asking
+remove_at place d = do
+  report ← text_at place d
+  id ← text_at (place + 1) d
+  ended ← ends_at (place + 2) d
+  Some (Remove report id)
 
-abbrev pub remove_of : Data → Option Line
-remove_of d = do
-  session ← text_at 1 d
-  report ← text_at 2 d
-  id ← text_at 3 d
-  ended ← ends_at 4 d
-  Some (Ask session (Remove report id))
+abbrev pub declared_at : ℕ → Data → Option Asking
+declared_at place d = do
+  report ← text_at place d
+  ended ← ends_at (place + 1) d
+  Some (Declared report)
 
-abbrev pub declared_of : Data → Option Line
-declared_of d = do
-  session ← text_at 1 d
-  report ← text_at 2 d
-  ended ← ends_at 3 d
-  Some (Ask session (Declared report))
+abbrev pub declare_at : ℕ → Data → Option Asking
+declare_at place d = do
+  report ← text_at place d
+  allowed ← option_and_then allowed_of_word (text_at (place + 1) d)
+  ended ← ends_at (place + 2) d
+  Some (Declare report allowed)
 
-abbrev pub declare_of : Data → Option Line
-declare_of d = do
-  session ← text_at 1 d
-  report ← text_at 2 d
-  allowed ← option_and_then allowed_of_word (text_at 3 d)
-  ended ← ends_at 4 d
-  Some (Ask session (Declare report allowed))
+-- by the word, with the parts from a place on
+abbrev pub asking_at : Text → ℕ → Data → Option Asking
+asking_at word place d =
+    if text_eq word (codes "get") then get_at place d
+    else if text_eq word (codes "cell") then cell_at place d
+    else if text_eq word (codes "page") then page_at place d
+    else if text_eq word (codes "add") then add_at place d
+    else if text_eq word (codes "remove") then remove_at place d
+    else if text_eq word (codes "declared") then declared_at place d
+    else if text_eq word (codes "declare") then declare_at place d
+    else None
 
 -- ---- the end of a session, and what is exported
 
@@ -187,17 +188,12 @@ export_of d = do
 
 -- ---- by the first text
 
--- a line that asks something of a session
+-- a line that asks something of the session that it names
 abbrev pub asking_of_word : Text → Data → Option Line
-asking_of_word word d =
-    if text_eq word (codes "get") then get_of d
-    else if text_eq word (codes "cell") then cell_of d
-    else if text_eq word (codes "page") then page_of d
-    else if text_eq word (codes "add") then add_of d
-    else if text_eq word (codes "remove") then remove_of d
-    else if text_eq word (codes "declared") then declared_of d
-    else if text_eq word (codes "declare") then declare_of d
-    else None
+asking_of_word word d = do
+  session ← text_at 1 d
+  asking ← asking_at word 2 d
+  Some (Ask session asking)
 
 -- any line
 abbrev pub line_of_word : Text → Data → Option Line

@@ -32,7 +32,7 @@ fn bad_dims_reply(alloc: Global, fault: Trouble) -> Result<String, AllocError>
 }
 
 /// The period that is asked for, with a text of its own.
-fn own_period(alloc: Global, period: &Period<'_>) -> Result<Asked, AllocError>
+pub fn own_period(alloc: Global, period: &Period<'_>) -> Result<Asked, AllocError>
     ensures { IfOk result (λ asked. asked_of asked ≡ period_view period.now) }
 {
     match period {
@@ -43,7 +43,7 @@ fn own_period(alloc: Global, period: &Period<'_>) -> Result<Asked, AllocError>
 }
 
 /// A text of its own, where there is one.
-fn own_text(alloc: Global, text: Option<&str>) -> Result<Option<String>, AllocError>
+pub fn own_text(alloc: Global, text: Option<&str>) -> Result<Option<String>, AllocError>
     ensures { IfOk result (λ own. text_view own ≡ option_map (λ t. t.now) text.entry) }
 {
     match text {

@@ -9,9 +9,13 @@ mod asked_step;
 mod line;
 mod texts;
 
-pub use asked_step::step_asked;
-pub use line::{Asking, Line, Period, line_of, taken_at};
+pub use asked_step::{own_period, own_text, step_asked};
+pub use line::{
+    Asking, Line, Period, allowed_at, asked_at, asking_at, kind_of_word, line_of, nullable_at,
+    taken_at, text_at,
+};
 pub use texts::{
     bad_fact_reply, bad_line_reply, bad_report_reply, exported_reply, exported_reply_of,
-    name_in_use_reply, no_session_reply, reply_text,
+    name_in_use_reply, no_session_reply, push_asked, push_later, push_number, push_reply,
+    push_word, reply_text,
 };

@@ -1,11 +1,11 @@
 //! `Line`: a line of a script by its kind, read from JSON without a copy of its parts.
 
-ghost use Rattle.std.specs.Prelude.{◌≡◌, codes, is_some, IsSome, Some, option_map, option_copied, option_and_then};
+ghost use Rattle.std.specs.Prelude.{◌≡◌, ◌+◌, ◌<◌, ◌^◌, codes, is_some, IsSome, Some, option_map, option_copied, option_and_then};
 ghost use Rattle.serde_json.specs.Find.{at};
 ghost use Rattle.serde_json.specs.View.{view};
 ghost use Rattle.filing_text.specs.ScriptLines as model;
 ghost use Rattle.filing_model.specs.ReadReport.{allowed_of_word};
-ghost use Rattle.filing_text.specs.LineView.{line_view, period_view};
+ghost use Rattle.filing_text.specs.LineView.{asking_view, line_view, period_view};
 
 use filing_model::{Allowed, Kind, is_same_text};
 use filing_step::Limit;
@@ -97,7 +97,7 @@ pub fn taken_at(value: &mut Value, place: usize) -> Value
 }
 
 /// The text at a place of an array.
-fn text_at(value: &Value, place: usize) -> Option<&str>
+pub fn text_at(value: &Value, place: usize) -> Option<&str>
     ensures { option_map (λ t. t.now) result ≡ model.text_at place (view value.now) }
 {
     value.get(place)?.as_str()
@@ -144,7 +144,7 @@ fn load_of(value: &Value) -> Option<Line<'_>>
 }
 
 /// What a word says that a session is opened for.
-fn kind_of_word(word: &str) -> Option<Kind>
+pub fn kind_of_word(word: &str) -> Option<Kind>
     ensures { result ≡ model.kind_of_word word.now }
 {
     if is_same_text(word, "review") {
@@ -166,7 +166,7 @@ fn open_of(value: &Value) -> Option<Line<'_>>
 }
 
 /// The text or null at a place of an array.
-fn nullable_at(value: &Value, place: usize) -> Option<Option<&str>>
+pub fn nullable_at(value: &Value, place: usize) -> Option<Option<&str>>
     ensures { option_map (option_map (λ t. t.now)) result ≡ model.nullable_at place (view value.now) }
 {
     match value.get(place)? {
@@ -177,7 +177,7 @@ fn nullable_at(value: &Value, place: usize) -> Option<Option<&str>>
 }
 
 /// The period that is asked for at a place of an array.
-fn asked_at(value: &Value, place: usize) -> Option<Period<'_>>
+pub fn asked_at(value: &Value, place: usize) -> Option<Period<'_>>
     ensures { option_map period_view result ≡ model.asked_at place (view value.now) }
 {
     match value.get(place)? {
@@ -196,96 +196,113 @@ fn limit_at(value: &Value, place: usize) -> Option<Limit>
 }
 
 /// The allowed duplicates that a word says, at a place of an array.
-fn allowed_at(value: &Value, place: usize) -> Option<Allowed>
+pub fn allowed_at(value: &Value, place: usize) -> Option<Allowed>
     ensures { result ≡ option_and_then allowed_of_word (model.text_at place (view value.now)) }
 {
     allowed_of_word(text_at(value, place)?)
 }
 
-fn get_of(value: &Value) -> Option<Line<'_>>
-    ensures { option_map line_view result ≡ model.get_of (view value.now) }
+fn get_at(value: &Value, place: usize) -> Option<Asking<'_>>
+    requires { place + 6 < 2 ^ 64 }
+    ensures { option_map asking_view result ≡ model.get_at place (view value.now) }
 {
-    let session = text_at(value, 1)?;
-    let report = text_at(value, 2)?;
-    let id = text_at(value, 3)?;
-    let asking = Asking::Get { report, id };
-    ends_at(value, 4)?;
-    Some(Line::Ask { session, asking })
+    let report = text_at(value, place)?;
+    let id = text_at(value, place + 1)?;
+    ends_at(value, place + 2)?;
+    Some(Asking::Get { report, id })
 }
 
-fn cell_of(value: &Value) -> Option<Line<'_>>
-    ensures { option_map line_view result ≡ model.cell_of (view value.now) }
+fn cell_at(value: &Value, place: usize) -> Option<Asking<'_>>
+    requires { place + 6 < 2 ^ 64 }
+    ensures { option_map asking_view result ≡ model.cell_at place (view value.now) }
 {
-    let session = text_at(value, 1)?;
-    let report = text_at(value, 2)?;
-    let dims = object_at(value, 3)?;
-    let asking = Asking::Cell { report, dims };
-    ends_at(value, 4)?;
-    Some(Line::Ask { session, asking })
+    let report = text_at(value, place)?;
+    let dims = object_at(value, place + 1)?;
+    ends_at(value, place + 2)?;
+    Some(Asking::Cell { report, dims })
 }
 
-fn page_of(value: &Value) -> Option<Line<'_>>
-    ensures { option_map line_view result ≡ model.page_of (view value.now) }
+fn page_at(value: &Value, place: usize) -> Option<Asking<'_>>
+    requires { place + 6 < 2 ^ 64 }
+    ensures { option_map asking_view result ≡ model.page_at place (view value.now) }
 {
-    let session = text_at(value, 1)?;
-    let report = text_at(value, 2)?;
-    let concept = text_at(value, 3)?;
-    let period = asked_at(value, 4)?;
-    let after = nullable_at(value, 5)?;
-    let limit = limit_at(value, 6)?;
-    let asking = Asking::Page {
+    let report = text_at(value, place)?;
+    let concept = text_at(value, place + 1)?;
+    let period = asked_at(value, place + 2)?;
+    let after = nullable_at(value, place + 3)?;
+    let limit = limit_at(value, place + 4)?;
+    ends_at(value, place + 5)?;
+    Some(Asking::Page {
         report,
         concept,
         period,
         after,
         limit,
-    };
-    ends_at(value, 7)?;
-    Some(Line::Ask { session, asking })
+    })
 }
 
-fn add_of(value: &Value) -> Option<Line<'_>>
-    ensures { option_map line_view result ≡ model.add_of (view value.now) }
+fn add_at(value: &Value, place: usize) -> Option<Asking<'_>>
+    requires { place + 6 < 2 ^ 64 }
+    ensures { option_map asking_view result ≡ model.add_at place (view value.now) }
 {
-    let session = text_at(value, 1)?;
-    let report = text_at(value, 2)?;
-    let id = text_at(value, 3)?;
-    let fact = object_at(value, 4)?;
-    let asking = Asking::Add { report, id, fact };
-    ends_at(value, 5)?;
-    Some(Line::Ask { session, asking })
+    let report = text_at(value, place)?;
+    let id = text_at(value, place + 1)?;
+    let fact = object_at(value, place + 2)?;
+    ends_at(value, place + 3)?;
+    Some(Asking::Add { report, id, fact })
 }
 
-fn remove_of(value: &Value) -> Option<Line<'_>>
-    ensures { option_map line_view result ≡ model.remove_of (view value.now) }
+fn remove_at(value: &Value, place: usize) -> Option<Asking<'_>>
+    requires { place + 6 < 2 ^ 64 }
+    ensures { option_map asking_view result ≡ model.remove_at place (view value.now) }
 {
-    let session = text_at(value, 1)?;
-    let report = text_at(value, 2)?;
-    let id = text_at(value, 3)?;
-    let asking = Asking::Remove { report, id };
-    ends_at(value, 4)?;
-    Some(Line::Ask { session, asking })
+    let report = text_at(value, place)?;
+    let id = text_at(value, place + 1)?;
+    ends_at(value, place + 2)?;
+    Some(Asking::Remove { report, id })
 }
 
-fn declared_of(value: &Value) -> Option<Line<'_>>
-    ensures { option_map line_view result ≡ model.declared_of (view value.now) }
+fn declared_at(value: &Value, place: usize) -> Option<Asking<'_>>
+    requires { place + 6 < 2 ^ 64 }
+    ensures { option_map asking_view result ≡ model.declared_at place (view value.now) }
 {
-    let session = text_at(value, 1)?;
-    let report = text_at(value, 2)?;
-    let asking = Asking::Declared { report };
-    ends_at(value, 3)?;
-    Some(Line::Ask { session, asking })
+    let report = text_at(value, place)?;
+    ends_at(value, place + 1)?;
+    Some(Asking::Declared { report })
 }
 
-fn declare_of(value: &Value) -> Option<Line<'_>>
-    ensures { option_map line_view result ≡ model.declare_of (view value.now) }
+fn declare_at(value: &Value, place: usize) -> Option<Asking<'_>>
+    requires { place + 6 < 2 ^ 64 }
+    ensures { option_map asking_view result ≡ model.declare_at place (view value.now) }
 {
-    let session = text_at(value, 1)?;
-    let report = text_at(value, 2)?;
-    let allowed = allowed_at(value, 3)?;
-    let asking = Asking::Declare { report, allowed };
-    ends_at(value, 4)?;
-    Some(Line::Ask { session, asking })
+    let report = text_at(value, place)?;
+    let allowed = allowed_at(value, place + 1)?;
+    ends_at(value, place + 2)?;
+    Some(Asking::Declare { report, allowed })
+}
+
+/// What is asked by a word, with the parts of an array from a place on and none after them.
+pub fn asking_at<'a>(word: &str, value: &'a Value, place: usize) -> Option<Asking<'a>>
+    requires { place + 6 < 2 ^ 64 }
+    ensures { option_map asking_view result ≡ model.asking_at word.now place (view value.now) }
+{
+    if is_same_text(word, "get") {
+        get_at(value, place)
+    } else if is_same_text(word, "cell") {
+        cell_at(value, place)
+    } else if is_same_text(word, "page") {
+        page_at(value, place)
+    } else if is_same_text(word, "add") {
+        add_at(value, place)
+    } else if is_same_text(word, "remove") {
+        remove_at(value, place)
+    } else if is_same_text(word, "declared") {
+        declared_at(value, place)
+    } else if is_same_text(word, "declare") {
+        declare_at(value, place)
+    } else {
+        None
+    }
 }
 
 fn commit_of(value: &Value) -> Option<Line<'_>>
@@ -312,26 +329,14 @@ fn export_of(value: &Value) -> Option<Line<'_>>
     Some(Line::Export { name })
 }
 
-/// A line that asks something of a session, by its word.
+/// A line that asks something of the session that it names, by its word.
 fn asking_of_word<'a>(word: &str, value: &'a Value) -> Option<Line<'a>>
     ensures { option_map line_view result ≡ model.asking_of_word word.now (view value.now) }
 {
-    if is_same_text(word, "get") {
-        get_of(value)
-    } else if is_same_text(word, "cell") {
-        cell_of(value)
-    } else if is_same_text(word, "page") {
-        page_of(value)
-    } else if is_same_text(word, "add") {
-        add_of(value)
-    } else if is_same_text(word, "remove") {
-        remove_of(value)
-    } else if is_same_text(word, "declared") {
-        declared_of(value)
-    } else if is_same_text(word, "declare") {
-        declare_of(value)
-    } else {
-        None
+    let session = text_at(value, 1)?;
+    match asking_at(word, value, 2) {
+        Some(asking) => Some(Line::Ask { session, asking }),
+        None => None,
     }
 }
 

@@ -7,5 +7,6 @@ mod things;
 mod words;
 
 pub use lines::{bad_line_reply, name_in_use_reply, no_session_reply};
-pub use refusals::{bad_fact_reply, bad_report_reply};
-pub use replies::{exported_reply, exported_reply_of, reply_text};
+pub use refusals::{bad_fact_reply, bad_report_reply, push_word};
+pub use replies::{exported_reply, exported_reply_of, push_number, push_reply, reply_text};
+pub use things::{push_asked, push_later};

@@ -40,4 +40,4 @@ pub use reading::{read_report, report_from, report_of};
 pub use report::{Report, ReportParts};
 pub use report_text::{push_report, push_report_of, write_report};
 pub use table::read_table;
-pub use values::json_value;
+pub use values::{json_value, whole_text};

@@ -172,7 +172,7 @@ fn are_members_whole(members: &Map<String, Value>) -> bool
 }
 
 /// The compact text of a value with whole numbers alone.
-pub(crate) fn whole_text(alloc: Global, value: &Value) -> Result<Option<String>, AllocError>
+pub fn whole_text(alloc: Global, value: &Value) -> Result<Option<String>, AllocError>
     ensures text { IfOk result (λ o. option_map string_bytes o
         ≡ (if has_float (view value.now) then None else Some (compact_text (view value.now)))) }
     ensures writable { IfOk result (λ o. IfSome o (λ _. IsWritable (view value.now))) }

@@ -11,7 +11,7 @@ use oim_report::{ReportFault, push_quoted};
 use std::alloc::{AllocError, Global};
 
 /// Appends a word, which has no character to escape, as a JSON text.
-pub(super) fn push_word(out: &mut String, word: &str) -> Result<(), AllocError>
+pub fn push_word(out: &mut String, word: &str) -> Result<(), AllocError>
     ensures { OnOk result (string_bytes out.new ≡ string_bytes out.old ++ word_text word.now) }
 {
     out.push_str("\"")?;

@@ -21,7 +21,7 @@ use oim_report::{Report, allowed_word, push_comma, push_fact, push_quoted, push_
 use std::alloc::{AllocError, Global};
 
 /// Appends a whole number.
-fn push_number(out: &mut String, number: u64) -> Result<(), AllocError>
+pub fn push_number(out: &mut String, number: u64) -> Result<(), AllocError>
     ensures { OnOk result (string_bytes out.new ≡ string_bytes out.old ++ decimal number) }
 {
     write!(out, "{number}")
@@ -132,7 +132,7 @@ fn push_conflict(out: &mut String, number: u64, thing: &Thing) -> Result<(), All
 }
 
 /// Appends the line of a reply.
-pub(crate) fn push_reply(out: &mut String, reply: &Reply) -> Result<(), AllocError>
+pub fn push_reply(out: &mut String, reply: &Reply) -> Result<(), AllocError>
     ensures { OnOk result (string_bytes out.new ≡ string_bytes out.old ++ reply_text (reply_of reply.now)) }
 {
     match reply {

@@ -44,7 +44,8 @@ fn push_cell(out: &mut String, report: &str, dims: &DimSet) -> Result<(), AllocE
     out.push_str("]")
 }
 
-fn push_asked(out: &mut String, asked: &Asked) -> Result<(), AllocError>
+/// Appends the period that is asked for: a text, null for none, true for any.
+pub fn push_asked(out: &mut String, asked: &Asked) -> Result<(), AllocError>
     ensures { OnOk result (string_bytes out.new ≡ string_bytes out.old ++ asked_text (asked_of asked.now)) }
 {
     match asked {
@@ -55,7 +56,7 @@ fn push_asked(out: &mut String, asked: &Asked) -> Result<(), AllocError>
 }
 
 /// Appends a comma and a text that may not be there.
-fn push_later(out: &mut String, text: &Option<String>) -> Result<(), AllocError>
+pub fn push_later(out: &mut String, text: &Option<String>) -> Result<(), AllocError>
     ensures { OnOk result (string_bytes out.new ≡ string_bytes out.old
         ++ (codes "," ++ nullable_text (text_view text.now))) }
 {
