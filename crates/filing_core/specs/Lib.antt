@@ -6,3 +6,4 @@ pub mod Outcomes
 pub mod Prepared
 pub mod Answers
 pub mod Kept
+pub mod Verdicts

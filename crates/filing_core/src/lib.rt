@@ -12,8 +12,10 @@ mod fault;
 mod outcome;
 mod prepared;
 mod sessions;
+mod verdict;
 
 pub use engine::Core;
 pub use fault::CoreFault;
 pub use filing_step::{Entry, Kind, Reply, Step};
 pub use prepared::Prepared;
+pub use verdict::Verdict;
