@@ -11,3 +11,5 @@ pub mod KeptAfter
 pub mod NewestEntry
 pub mod Asking
 pub mod Preparing
+-- ---- entries of others
+pub mod Following

@@ -5,6 +5,8 @@
 //! The words in which steps and replies are said are those of `filing_step`, versions and changes those of `filing_version`, and a session by itself is that of `filing_session`. The crate knows nothing of JSON, of devices, of locks or of threads.
 #![tactic(auto)]
 
+mod check;
+mod compared_replies;
 mod conflict;
 mod disallowed;
 mod engine;
@@ -14,6 +16,7 @@ mod prepared;
 mod sessions;
 mod verdict;
 
+pub use check::check_run;
 pub use engine::Core;
 pub use fault::CoreFault;
 pub use filing_step::{Entry, Kind, Reply, Step};
