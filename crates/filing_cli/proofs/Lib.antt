@@ -1,4 +1,8 @@
--- Names in use, the report of a load, and whole scripts.
+-- ---- names in use, the report of a load, and whole scripts
 pub mod FreedNames
 pub mod ReportOfLoad
 pub mod Scripts
+-- ---- histories
+pub mod JudgedLines
+pub mod HistoryRuns
+pub mod WrittenEntries

@@ -1,2 +1,3 @@
--- What a run over a script leaves.
+-- What a run over a script leaves, and one over a history.
 pub mod ScriptRun
+pub mod HistoryRun

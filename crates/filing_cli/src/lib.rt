@@ -5,6 +5,8 @@
 //! The crate knows nothing of how lines are cut and devices are read (`line_run`), of how a line or a reply is written (`filing_text`), of locks, or of files.
 #![tactic(auto)]
 
+mod history;
+mod judge;
 mod script;
 mod script_machine;
 mod session_names;
@@ -13,6 +15,7 @@ pub use filing_text::{
     bad_fact_reply, bad_line_reply, bad_report_reply, exported_reply, name_in_use_reply,
     no_session_reply, reply_text,
 };
+pub use history::{judge_history, write_history, write_verdict};
 pub use line_run::{
     Failed, FromReader, Machine, MemoryIn, MemoryOut, ScriptFault, Sink, Source, ToWriter,
     is_blank, run, write_all,

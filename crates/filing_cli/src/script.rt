@@ -11,8 +11,8 @@ use oim_fact::NumericTable;
 use std::alloc::Global;
 use std::sync::Arc;
 
-// So many reads are made at most.
-const READS: u64 = 1 << 32;
+/// So many reads are made at most.
+pub(crate) const READS: u64 = 1 << 32;
 
 /// Runs a script: reads reports by the numeric table, takes the step of each line that has one, in their order, and writes a reply to each line that is not blank. It gives back the core with the steps that were taken.
 pub fn run_script<R: Source, W: Sink>(
