@@ -15,16 +15,22 @@ use filing_version::RepoVersion;
 use std::alloc::{AllocError, Global};
 use std::sync::Arc;
 
+fn told(ready: Ready) -> Reply
+    ensures { reply_of result ≡ ready.reply }
+{
+    let Ready {
+        reply,
+        thing: _thing,
+        staged: _staged,
+    } = ready;
+    reply
+}
+
 /// What a review that opens at a version is answered as its first call.
 pub fn reply_at(alloc: Global, version: &Arc<RepoVersion>, call: Call) -> Result<Reply, AllocError>
     ensures { IfOk result (λ r. reply_of r ≡ (answer kind.Review (call_of call) (repository_in (arc_value version.now))).0) }
 {
     let staging = Staging::new(alloc, Arc::try_clone(version)?);
     let ready = effect(alloc, Kind::Review, &staging, call)?;
-    let Ready {
-        reply,
-        thing: _thing,
-        staged: _staged,
-    } = ready;
-    Ok(reply)
+    Ok(told(ready))
 }
