@@ -28,6 +28,34 @@ impl Model for Change {
     ghost view = { λ c. c.reports };
 }
 
+/// A put that needs no more memory. Contracts see the change as it is to be.
+#[derive(Drop)]
+pub struct ReadyPut {
+    change: Change,
+}
+
+impl Model for ReadyPut {
+    ghost use Rattle.filing_model.specs.Changes.{Change as PlainChange};
+
+    ghost Value = { PlainChange };
+
+    ghost view = { λ r. r.change };
+}
+
+/// A declaration that needs no more memory. Contracts see the change as it is to be.
+#[derive(Drop)]
+pub struct ReadyDeclare {
+    change: Change,
+}
+
+impl Model for ReadyDeclare {
+    ghost use Rattle.filing_model.specs.Changes.{Change as PlainChange};
+
+    ghost Value = { PlainChange };
+
+    ghost view = { λ r. r.change };
+}
+
 impl Change {
     /// The change of nothing. It takes no memory.
     pub fn new(alloc: Global) -> Change
@@ -100,6 +128,27 @@ impl Change {
         Ok((this, other.with_put(report, id, put)?))
     }
 
+    /// Makes the growths of `put`. The change stays as it is.
+    pub fn ready(
+        &self,
+        report: &str,
+        id: String,
+        fact: Option<Arc<Fact>>,
+    ) -> Result<ReadyPut, AllocError>
+        ensures { IfOk result (λ next. next
+            ≡ with_change self.now report.now (string_bytes id) (option_map arc_value fact)) }
+    {
+        let change = self.with_fact(report, id, fact)?;
+        Ok(ReadyPut { change })
+    }
+
+    /// Makes a put that is ready. It takes no memory.
+    pub fn take(&mut self, ready: ReadyPut)
+        ensures { self.new ≡ ready }
+    {
+        *self = ready.change;
+    }
+
     /// Puts a fact, or removes what stands there, in the place of an earlier put of the identifier.
     pub fn put(
         &mut self,
@@ -111,7 +160,8 @@ impl Change {
             ≡ with_change self.old report.now (string_bytes id) (option_map arc_value fact)) }
         ensures err { OnErr result (self.new ≡ self.old) }
     {
-        *self = self.with_fact(report, id, fact)?;
+        let ready = self.ready(report, id, fact)?;
+        self.take(ready);
         Ok(())
     }
 
@@ -126,12 +176,28 @@ impl Change {
         self.with_report(report, changed)
     }
 
+    /// Makes the growths of `declare`. The change stays as it is.
+    pub fn ready_declare(&self, report: &str, allowed: Allowed) -> Result<ReadyDeclare, AllocError>
+        ensures { IfOk result (λ next. next ≡ with_declared self.now report.now allowed) }
+    {
+        let change = self.declaring(report, allowed)?;
+        Ok(ReadyDeclare { change })
+    }
+
+    /// Makes a declaration that is ready. It takes no memory.
+    pub fn take_declare(&mut self, ready: ReadyDeclare)
+        ensures { self.new ≡ ready }
+    {
+        *self = ready.change;
+    }
+
     /// Declares a value, in the place of the one that the change declared before.
     pub fn declare(&mut self, report: &str, allowed: Allowed) -> Result<(), AllocError>
         ensures ok { OnOk result (self.new ≡ with_declared self.old report.now allowed) }
         ensures err { OnErr result (self.new ≡ self.old) }
     {
-        *self = self.declaring(report, allowed)?;
+        let ready = self.ready_declare(report, allowed)?;
+        self.take_declare(ready);
         Ok(())
     }
 

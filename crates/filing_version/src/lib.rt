@@ -13,7 +13,7 @@ mod got;
 mod puts;
 mod version;
 
-pub use change::Change;
+pub use change::{Change, ReadyDeclare, ReadyPut};
 pub use entries::Entries;
 pub use filing_index::{Asked, Ids};
 pub use got::Got;

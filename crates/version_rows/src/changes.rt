@@ -1,7 +1,7 @@
 //! Changes: what is put, removed and declared in them, at once and in two parts.
 
 use anyhow::{Result, anyhow};
-use filing_version::{Change, Put};
+use filing_version::{Change, Put, ReadyDeclare, ReadyPut};
 use oim_fact::{Allowed, DimSet, Fact, FactValue};
 use std::alloc::{AllocError, Global};
 use std::sync::Arc;
@@ -214,10 +214,10 @@ fn compare_declared<R: Print + AllocGlobal>(rt: &R, seen: &mut Seen) -> Result<(
     Ok(())
 }
 
-/// The change with a removal, and with a declaration, of one report.
-fn both(alloc: Global, change: &Change) -> Result<(Change, Change), AllocError> {
-    let removal = change.with_fact("r3", String::from_str(alloc, "a")?, None)?;
-    Ok((removal, change.declaring("r3", Allowed::All)?))
+/// A removal and a declaration of one report, ready to be taken.
+fn ready_both(alloc: Global, change: &Change) -> Result<(ReadyPut, ReadyDeclare), AllocError> {
+    let removal = change.ready("r3", String::from_str(alloc, "a")?, None)?;
+    Ok((removal, change.ready_declare("r3", Allowed::All)?))
 }
 
 /// Whether a change has these puts, and declares this for the report of the last.
@@ -230,12 +230,14 @@ fn has_both(
     Ok(change.declared("r3") == declared && has_puts(alloc, change, puts)?)
 }
 
-/// Whether the change stays where others are made of it, and these are as they are to be.
-fn makes_both(alloc: Global, change: &Change) -> Result<bool, AllocError> {
-    let (removal, declaration) = both(alloc, change)?;
+/// Whether the change stays until what is ready is taken, and is then as it was to be.
+fn takes_both(alloc: Global, change: &mut Change) -> Result<bool, AllocError> {
+    let (removal, declaration) = ready_both(alloc, change)?;
     let is_left = has_both(alloc, change, SOME_PUTS, None)?;
-    let is_removed = has_both(alloc, &removal, "r1/a=- r1/b=two r3/a=- ", None)?;
-    let is_declared = has_both(alloc, &declaration, SOME_PUTS, Some(Allowed::All))?;
+    change.take(removal);
+    let is_removed = has_both(alloc, change, "r1/a=- r1/b=two r3/a=- ", None)?;
+    change.take_declare(declaration);
+    let is_declared = has_both(alloc, change, SOME_PUTS, Some(Allowed::All))?;
     Ok(is_left && is_removed && is_declared)
 }
 
@@ -269,17 +271,21 @@ fn is_put_again(alloc: Global) -> Result<bool> {
     puts_again(alloc, &mut change)
 }
 
-/// Whether changes that are made of it leave the change of rows.
-fn is_left(alloc: Global) -> Result<bool> {
-    let change = some_change(alloc, &[])?;
-    Ok(makes_both(alloc, &change)?)
+/// Whether what is ready leaves the change of rows.
+fn is_taken(alloc: Global) -> Result<bool> {
+    let mut change = some_change(alloc, &[])?;
+    Ok(takes_both(alloc, &mut change)?)
 }
 
 fn compare_parts<R: Print + AllocGlobal>(rt: &R, seen: &mut Seen) -> Result<()> {
     let is_put = is_put_again(rt.alloc())?;
     seen.note(rt, "a refused put leaves the change", is_put)?;
-    let is_left = is_left(rt.alloc())?;
-    seen.note(rt, "what is made of a change leaves it", is_left)
+    let is_taken = is_taken(rt.alloc())?;
+    seen.note(
+        rt,
+        "what is ready changes nothing until it is taken",
+        is_taken,
+    )
 }
 
 /// The identifier of a number below 1,000, as the numbers rise.
