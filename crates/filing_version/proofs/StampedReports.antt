@@ -7,7 +7,6 @@ use Rattle.filing_model.specs.Text.{Text, text_eq}
 use Rattle.filing_model.specs.TextMap.{TextMap, get, insert}
 use Rattle.filing_model.specs.Reports.{Report}
 use Rattle.filing_model.specs.Repository.{Repository, report_at, with_fact, with_report_at}
-use Rattle.filing_model.specs.DeclaredValue.{report_declaring}
 use Rattle.filing_model.specs.Dimensions.{Dims}
 use Rattle.filing_model.specs.Facts.{Fact}
 use Rattle.filing_model.specs.Changes.{ReportChange, Change, with_facts, declaring_if, changed, changed_at, least_changed, find_map, first_disallowed, after_change}
