@@ -1,6 +1,7 @@
 //! `Outcome`: what a load or a commit is told, and the version that it makes.
 
 ghost use Rattle.std.specs.Prelude.{◌≡◌, ◌+◌, ◌<◌, ◌^◌, None, true, IfOk};
+ghost use Rattle.std.specs.Arc.{arc_value};
 ghost use Rattle.filing_model.specs.Text.{Text};
 ghost use Rattle.filing_model.specs.TextMap.{get as value_at};
 ghost use Rattle.filing_model.specs.Repository.{report_at};
@@ -19,6 +20,7 @@ use filing_version::{Change, RepoVersion};
 use oim_report::Report;
 use std::alloc::{AllocError, Global};
 use std::marker::Model;
+use std::sync::Arc;
 
 /// A reply, and the version that it leaves, where it leaves another.
 #[derive(Drop)]
@@ -44,21 +46,21 @@ fn told(reply: Reply) -> Outcome
     Outcome { reply, next: None }
 }
 
-/// Of a load. A name that is taken comes first.
+/// Of a load. A name that is taken comes first. A version that it makes shares the report.
 pub(crate) fn load_outcome(
     alloc: Global,
     current: &RepoVersion,
     name: &str,
-    report: &Report,
+    report: &Arc<Report>,
 ) -> Result<Outcome, AllocError>
     requires { (repository_in current.now).count + 1 < 2 ^ 64 }
-    ensures { IfOk result (λ o. Makes o (load_reply (repository_in current.now) name.now report.now)
-        (version_with name.now report.now (version_in current.now))) }
+    ensures { IfOk result (λ o. Makes o (load_reply (repository_in current.now) name.now (arc_value report.now))
+        (version_with name.now (arc_value report.now) (version_in current.now))) }
 {
     if current.allowed(name).is_some() {
         return Ok(told(Reply::NameTaken));
     }
-    let next = current.with_report(alloc, String::from_str(alloc, name)?, report.clone()?)?;
+    let next = current.with_shared_report(alloc, String::from_str(alloc, name)?, report)?;
     match next.disallowed_in(name) {
         None => Ok(Outcome {
             reply: Reply::Loaded(next.number()),

@@ -2,7 +2,7 @@
 use Rattle.std.specs.Prelude.{◌≡◌, ℕ, ◌≤◌, cond, List, [], ◌∷◌, map, None, Some, is_some}
 use Rattle.std.specs.Option.{option_map_or}
 use Rattle.filing_model.specs.Text.{Text}
-use Rattle.filing_model.specs.TextMap.{TextMap, get, insert, from_entries}
+use Rattle.filing_model.specs.TextMap.{TextMap, empty, get, insert, from_entries}
 use Rattle.filing_model.specs.Reports.{Report}
 use Rattle.filing_model.specs.Repository.{Repository}
 use Rattle.filing_model.specs.Changes.{ReportChange, Change, changed}
@@ -94,6 +94,12 @@ version_in v = version_of v.number (mapped filed_of v.reports)
 
 abbrev pub repository_in : StampedReports → Repository
 repository_in v = (version_in v).repository
+
+-- ---- parts of a report
+
+-- the report with no facts
+abbrev pub without_facts : Report → Report
+without_facts r = record r { facts = empty }
 
 -- ---- another report of the same stamps
 

@@ -1,17 +1,14 @@
 //! One report of a version, with the stamps of its parts.
-ghost use Rattle.std.specs.Prelude.{◌≡◌, ◌≤◌, [], ◌∷◌, cond, is_some, map, option_map, string_bytes, T as Holds, IfOk};
+ghost use Rattle.std.specs.Prelude.{◌≡◌, ◌≤◌, [], ◌∷◌, cond, is_some, map, option_map, IfOk};
 ghost use Rattle.std.specs.Arc.{arc_value};
-ghost use Rattle.std.specs.FinMap.Entries.{is_sorted};
-ghost use Rattle.filing_model.specs.Text.{text_cmp};
 ghost use Rattle.std.specs.List.{filter_map};
-ghost use Rattle.filing_model.specs.TextMap.{empty};
 ghost use Rattle.filing_model.specs.DeclaredValue.{report_declaring};
 ghost use Rattle.filing_model.specs.Changes.{changed, declaring_if, least_among, least_changed};
 ghost use Rattle.filing_model.specs.Duplicates.{least_disallowed};
-ghost use Rattle.oim_report.specs.Parts.{facts_view, IsInfo};
+ghost use Rattle.oim_report.specs.Parts.{facts_view};
 ghost use Rattle.filing_index.specs.Moves.{Part, moves_of, stamped_by, with_changes};
 ghost use Rattle.filing_index.specs.Stamps.{stamp_in};
-ghost use Rattle.filing_version.specs.Filed.{filed_of, newly_filed, changed_filed};
+ghost use Rattle.filing_version.specs.Filed.{filed_of, newly_filed, changed_filed, without_facts};
 
 use crate::changed_report::ChangedReport;
 use filing_index::{Facts, Stamps};
@@ -25,7 +22,7 @@ use std::sync::Arc;
 /// A report whose facts stand in indexes, with the number of its load, that of the last commit that declared its value, and those of its parts. Contracts see these.
 #[derive(Drop)]
 pub(crate) struct FiledReport {
-    /// The report without its facts.
+    /// The report as it was loaded, or a copy without facts that declares another value. The facts are those of the indexes.
     front: Arc<Report>,
     facts: Facts,
     loaded: u64,
@@ -47,66 +44,56 @@ impl Model for FiledReport {
     } };
 }
 
-/// Facts as an index holds them.
-fn held_facts(
-    alloc: Global,
-    mut facts: Vec<(String, Arc<Fact>)>,
-) -> Result<Vec<Named<Held>>, AllocError>
-    ensures { IfOk result (λ v. v.items ≡ facts_view facts.items) }
+/// The facts of a report as an index holds them. Facts are shared, identifiers are copied.
+fn held_facts(alloc: Global, report: &Report) -> Result<Vec<Named<Held>>, AllocError>
+    ensures { IfOk result (λ v. v.items ≡ report.now.facts.entries) }
 {
+    let facts = report.facts();
     let mut keyring = Keyring::new(alloc);
     let mut held = Vec::with_capacity(alloc, facts.len())?;
-    while let Some((id, fact)) = facts.pop() {
-        let fact = Held::among(alloc, &mut keyring, fact)?;
-        held.push(Named::new(alloc, id, fact)?)?;
+    for (id, fact) in facts {
+        let fact = Held::among(alloc, &mut keyring, Arc::try_clone(fact)?)?;
+        held.push(Named::new(alloc, id.clone()?, fact)?)?;
     }
-    held.as_mut_slice().reverse();
     Ok(held)
 }
 
-/// The indexes of facts whose identifiers rise.
-fn indexed(alloc: Global, facts: Vec<(String, Arc<Fact>)>) -> Result<Facts, AllocError>
-    requires { Holds (is_sorted text_cmp (facts_view facts.items)) }
-    ensures { IfOk result (λ f. f.entries ≡ facts_view facts.items) }
+/// The indexes of the facts of a report.
+fn indexed(alloc: Global, report: &Report) -> Result<Facts, AllocError>
+    ensures { IfOk result (λ f. f.entries ≡ report.now.facts.entries) }
 {
-    let held = held_facts(alloc, facts)?;
+    let held = held_facts(alloc, report)?;
     Facts::of_sorted(alloc, held)
 }
 
-/// A report of no facts.
-fn front_of(
-    alloc: Global,
-    info: String,
-    names: Names,
-    allowed: Allowed,
-) -> Result<Arc<Report>, AllocError>
-    requires { IsInfo (string_bytes info) names.prefixes allowed }
-    ensures { IfOk result (λ r. arc_value r ≡ record { info = string_bytes info; names = names; allowed = allowed; facts = empty }) }
+/// A copy of a report without its facts.
+fn without_facts(alloc: Global, report: &Report) -> Result<Report, AllocError>
+    ensures { IfOk result (λ r. r ≡ without_facts report.now) }
 {
-    let front = Report::of(ReportParts {
-        info,
-        names,
-        allowed,
+    Ok(Report::of(ReportParts {
+        info: String::from_str(alloc, report.info())?,
+        names: report.names().clone()?,
+        allowed: report.allowed(),
         facts: Vec::new(alloc),
-    });
-    Ok(Arc::new(alloc, front)?)
+    }))
 }
 
-/// A copy of a report that declares this value.
+/// A copy of a report without its facts, which declares this value.
 fn copy_declaring(alloc: Global, front: &Report, allowed: Allowed) -> Result<Report, AllocError>
-    ensures { IfOk result (λ r. r ≡ report_declaring front.now allowed) }
+    ensures { IfOk result (λ r. r ≡ report_declaring (without_facts front.now) allowed) }
 {
-    let copy = front.clone()?;
+    let copy = without_facts(alloc, front)?;
     copy.with_allowed(alloc, allowed)
 }
 
-/// A report that declares this value, where one is given; else another owner of the same.
+/// A report that declares this value, where one is given; else another owner of the same. Which facts it has is not looked at.
 fn declaring(
     alloc: Global,
     front: &Arc<Report>,
     declared: Option<Allowed>,
 ) -> Result<Arc<Report>, AllocError>
-    ensures { IfOk result (λ r. arc_value r ≡ declaring_if declared (arc_value front.now)) }
+    ensures { IfOk result (λ r. without_facts (arc_value r)
+        ≡ without_facts (declaring_if declared (arc_value front.now))) }
 {
     match declared {
         None => Arc::try_clone(front),
@@ -118,18 +105,16 @@ fn declaring(
 }
 
 impl FiledReport {
-    /// A report that is loaded as this version.
-    pub(crate) fn new(alloc: Global, report: Report, number: u64) -> Result<FiledReport, AllocError>
-        ensures { IfOk result (λ f. filed_of f ≡ newly_filed number report) }
+    /// A report that is loaded as this version. All of it is shared but its identifiers.
+    pub(crate) fn new(
+        alloc: Global,
+        report: &Arc<Report>,
+        number: u64,
+    ) -> Result<FiledReport, AllocError>
+        ensures { IfOk result (λ f. filed_of f ≡ newly_filed number (arc_value report.now)) }
     {
-        let ReportParts {
-            info,
-            names,
-            allowed,
-            facts,
-        } = report.into_parts();
-        let facts = indexed(alloc, facts)?;
-        let front = front_of(alloc, info, names, allowed)?;
+        let facts = indexed(alloc, report)?;
+        let front = Arc::try_clone(report)?;
         Ok(FiledReport {
             front,
             facts,

@@ -142,7 +142,25 @@ impl RepoVersion {
         Ok(RepoVersion { number, reports })
     }
 
-    /// The version with one report more, which counts one more and stamps its name.
+    /// The version with one report more, which counts one more and stamps its name. It shares all of the report but its identifiers.
+    pub fn with_shared_report(
+        &self,
+        alloc: Global,
+        name: String,
+        report: &Arc<Report>,
+    ) -> Result<RepoVersion, AllocError>
+        requires new { report_at (repository_in self.now) (string_bytes name) ≡ None }
+        requires few { (repository_in self.now).count + 1 < 2 ^ 64 }
+        ensures { IfOk result (λ v. version_in v
+            ≡ version_with (string_bytes name) (arc_value report.now) (version_in self.now)) }
+    {
+        let number = self.number + 1;
+        let filed = FiledReport::new(alloc, report, number)?;
+        let reports = self.reports.with(alloc, name, filed)?;
+        Ok(RepoVersion { number, reports })
+    }
+
+    /// The same with a report that has no other owner.
     pub fn with_report(
         &self,
         alloc: Global,
@@ -153,10 +171,8 @@ impl RepoVersion {
         requires few { (repository_in self.now).count + 1 < 2 ^ 64 }
         ensures { IfOk result (λ v. version_in v ≡ version_with (string_bytes name) report (version_in self.now)) }
     {
-        let number = self.number + 1;
-        let filed = FiledReport::new(alloc, report, number)?;
-        let reports = self.reports.with(alloc, name, filed)?;
-        Ok(RepoVersion { number, reports })
+        let report = Arc::new(alloc, report)?;
+        self.with_shared_report(alloc, name, &report)
     }
 
     /// The version once more, which shares its reports.

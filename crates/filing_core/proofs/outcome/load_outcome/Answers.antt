@@ -1,4 +1,5 @@
 use Rattle.std.proofs.Common.{◌≡◌, ◌∙◌, ap, sym, Some, None, cond, option_map, option_and_then, is_some}
+use Rattle.std.specs.Arc.{arc_value}
 use Rattle.filing_model.specs.Reports.{Report}
 use Rattle.filing_model.specs.Repository.{report_at}
 use Rattle.filing_model.specs.Replies.{Loaded}
@@ -14,9 +15,9 @@ returns-in-None c =
     let v = version_in c.args.current.now in
     let before = repository_in c.args.current.now in
     let name = c.args.name.now in
-    let report = c.args.report.now in
+    let report = arc_value c.args.report.now in
     let made : version_in c.in_ok-next.next ≡ version_with name report v =
-    c.in_ok-next.ensures ∙ (λ i. version_with (c.in_ok-from_str.ensures.ok i) (c.in_ok-clone.ensures.cases i) v) in
+    c.in_ok-next.ensures ∙ (λ i. version_with (c.in_ok-from_str.ensures.ok i) report v) in
     let none : report_at before name ≡ None = absent (report_at before name) (ap is_some (sym c.allowed.ensures) ∙ sym c.is_some.ensures ∙ c.if-is_some.false) in
     let there : report_at (repository_in c.in_ok-next.next) name ≡ Some report = ap (λ (w : Version). report_at w.repository name) made ∙ loaded_there before name report in
     let least = sym (c.in-None.ensures ∙ ap (option_and_then (λ (r : Report). least_disallowed r.allowed r.facts.entries)) there) in
@@ -31,11 +32,11 @@ returns-in_ok-disallowed-in-Some c =
     let v = version_in c.args.current.now in
     let before = repository_in c.args.current.now in
     let name = c.args.name.now in
-    let report = c.args.report.now in
+    let report = arc_value c.args.report.now in
     let dims = c.in-Some.dims.now in
     let next = repository_in c.in_ok-next.next in
     let made : version_in c.in_ok-next.next ≡ version_with name report v =
-    c.in_ok-next.ensures ∙ (λ i. version_with (c.in_ok-from_str.ensures.ok i) (c.in_ok-clone.ensures.cases i) v) in
+    c.in_ok-next.ensures ∙ (λ i. version_with (c.in_ok-from_str.ensures.ok i) report v) in
     let none : report_at before name ≡ None = absent (report_at before name) (ap is_some (sym c.allowed.ensures) ∙ sym c.is_some.ensures ∙ c.if-is_some.false) in
     let there : report_at next name ≡ Some report = ap (λ (w : Version). report_at w.repository name) made ∙ loaded_there before name report in
     let least = sym (c.in-Some.ensures ∙ ap (option_and_then (λ (r : Report). least_disallowed r.allowed r.facts.entries)) there) in

@@ -4,7 +4,7 @@ use Rattle.filing_model.specs.Changes.{declaring_if}
 use Rattle.filing_model.specs.declared.duplicates.Allowed.{Allowed}
 use Rattle.filing_index.specs.Moves.{moves_of, stamped_by, with_changes}
 use Rattle.filing_index.specs.Stamps.{stamp_in}
-use Rattle.filing_version.specs.Filed.{StampedReport, filed_of, changed_filed}
+use Rattle.filing_version.specs.Filed.{StampedReport, filed_of, changed_filed, without_facts}
 use Rattle.filing_version.proofs.StampedReports.{changed_front}
 use Rattle.filing_version.proofs.filed.FiledReport.after.Goals as goal
 use Rattle.filing_version.proofs.filed.FiledReport.after.Goals.{in-Some, in-None}
@@ -15,8 +15,8 @@ returns c =
     let inside = c.self.inside in
     let change = c.args.change.now in
     let stamped : Option Allowed → ℕ = λ o. cond (is_some o) number inside.declared in
-    let front : arc_value c.in_ok-front.front ≡ declaring_if change.declared (arc_value inside.front) =
-    c.in_ok-front.ensures ∙ ap (λ o. declaring_if o (arc_value inside.front)) c.declared-2.ensures in
+    let front : without_facts (arc_value c.in_ok-front.front) ≡ without_facts (declaring_if change.declared (arc_value inside.front)) =
+    c.in_ok-front.ensures ∙ ap (λ o. without_facts (declaring_if o (arc_value inside.front))) c.declared-2.ensures in
     let facts : c.in_ok-facts.facts ≡ with_changes change.facts.entries inside.facts =
     c.in_ok-facts.ensures.facts ∙ (λ i. with_changes (c.facts.ensures i).entries (sym c.self.view_is i).report.facts) in
     let stamps : stamp_in c.in_ok-facts.stamps ≡ stamped_by (moves_of change.facts.entries inside.facts) number (stamp_in inside.stamps) =

@@ -1,19 +1,19 @@
 use Rattle.std.proofs.Common.{◌≡◌, ◌∙◌, ap, sym}
+use Rattle.std.specs.Arc.{arc_value}
+use Rattle.filing_model.specs.Reports.{Report}
 use Rattle.filing_model.specs.TextMap.{from_entries}
 use Rattle.filing_model.proofs.TextMaps.{from_entries-entries}
-use Rattle.oim_report.specs.Parts.{Parts}
 use Rattle.filing_version.proofs.filed.FiledReport.new.Goals as goal
 
 pub returns : goal.returns
 returns c =
-    let parts = c.info.view_is ∙ c.into_parts.ensures.parts in
-    let facts : c.in_ok-facts.facts ≡ c.args.report.facts =
+    let report = arc_value c.args.report.now in
+    let facts : c.in_ok-facts.facts ≡ report.facts =
     sym (from_entries-entries c.in_ok-facts.facts)
-    ∙ ap from_entries (c.in_ok-facts.ensures ∙ ap (λ (p : Parts). p.facts) parts)
-    ∙ from_entries-entries c.args.report.facts in
+    ∙ ap from_entries (c.in_ok-facts.ensures ∙ ap (λ (r : Report). r.facts.entries) c.deref.ensures)
+    ∙ from_entries-entries report.facts in
     (λ i. record {
-      report = ((λ j. record (c.in_ok-front.ensures j) { facts = c.in_ok-facts.facts })
-          ∙ (λ j. record { info = (parts j).info; names = (parts j).names; allowed = (parts j).allowed; facts = facts j })) i;
+      report = record (c.in_ok-front.ensures i) { facts = facts i };
       loaded = c.args.number;
       declared = 0;
       stamp = c.new.ensures i;

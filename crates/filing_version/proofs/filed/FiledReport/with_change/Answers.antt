@@ -3,7 +3,7 @@ use Rattle.std.specs.Arc.{arc_value}
 use Rattle.filing_model.specs.Changes.{declaring_if, changed}
 use Rattle.filing_index.specs.Moves.{with_changes}
 use Rattle.filing_index.specs.Stamps.{stamp_in}
-use Rattle.filing_version.specs.Filed.{StampedReport, filed_of}
+use Rattle.filing_version.specs.Filed.{StampedReport, filed_of, without_facts}
 use Rattle.filing_version.proofs.StampedReports.{changed_front}
 use Rattle.filing_version.proofs.filed.FiledReport.with_change.Goals as goal
 
@@ -11,8 +11,8 @@ pub returns : goal.returns
 returns c =
     let inside = c.self.inside in
     let change = c.args.change.now in
-    let front : arc_value c.in_ok-front.front ≡ declaring_if change.declared (arc_value inside.front) =
-    c.in_ok-front.ensures ∙ ap (λ o. declaring_if o (arc_value inside.front)) c.declared.ensures in
+    let front : without_facts (arc_value c.in_ok-front.front) ≡ without_facts (declaring_if change.declared (arc_value inside.front)) =
+    c.in_ok-front.ensures ∙ ap (λ o. without_facts (declaring_if o (arc_value inside.front))) c.declared.ensures in
     let facts : c.in_ok-facts.facts ≡ with_changes change.facts.entries inside.facts =
     c.in_ok-facts.ensures ∙ (λ i. with_changes (c.facts.ensures i).entries (sym c.self.view_is i).report.facts) in
     let stamps : stamp_in c.in_ok-stamps.stamps ≡ stamp_in inside.stamps =
