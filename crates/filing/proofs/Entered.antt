@@ -3,10 +3,10 @@ use Rattle.std.proofs.Common.{◌≡◌, ◌⊎◌, refl, inl, inr, ap, ap₂, s
 use Rattle.clap.specs.Words.{Row, Text, IsAmong, fault_of, first_of, subcommand_of, takes}
 use Rattle.clap.specs.declared.error.kind.ErrorKind.{ErrorKind}
 use Rattle.clap.specs.declared.error.kind.ErrorKind.TheVariants.{DisplayHelp, DisplayVersion, OutOfMemory}
-use Rattle.filing.specs.Words.{Asks, IsRun, file_asked, program}
+use Rattle.filing.specs.Words.{Asks, IsOrdered, ToRun, ToCheck, asked, program}
 use Rattle.filing.specs.declared.fault.Fault.{Fault}
 use Rattle.filing.specs.declared.words.Order.{Order}
-use Rattle.filing.specs.declared.words.Order.TheVariants.{Run, Shown}
+use Rattle.filing.specs.declared.words.Order.TheVariants.{Run, Check, Shown}
 
 -- two values that are read of one, from each of them
 pub both_read : {A B C : Type 0} (f : A → B) (g : A → C) (o : Option A) (x : B) (y : C)
@@ -17,18 +17,25 @@ both_read {A} {B} {C} f g (Some a) x y first second =
     let some_both : B → C → Option (B × C) = λ b c. Some (b, c) in
     ap₂ some_both (ap (λ (o : Option B). unwrap_or o (f a)) first) (ap (λ (o : Option C). unwrap_or o (g a)) second)
 
--- the file of a run that was entered
-pub file_of_run : (entered : Option (Text × List Row)) (name : Text) (rows : List Row) (file : Option Text)
-    → entered ≡ Some (name, rows) → name ≡ codes "run" → file ≡ first_of (codes "numeric") rows
-    → file_asked entered ≡ Some file
-file_of_run entered name rows file is named read = rw (is, named, read) refl
+-- the files of a run that was entered
+pub files_of_run : (entered : Option (Text × List Row)) (name : Text) (rows : List Row) (table file : Option Text)
+    → entered ≡ Some (name, rows) → name ≡ codes "run" → table ≡ first_of (codes "numeric") rows
+    → file ≡ first_of (codes "history") rows → asked entered ≡ Some (ToRun table file)
+files_of_run entered name rows table file is named table_read file_read = rw (is, named, table_read, file_read) refl
 
--- words of which none is wrong ask for the run that a parse of them entered
-pub asks_run : (words : List Text) (r : Result Order Fault) → fault_of program words ≡ []
-    → IfOk r (IsRun (subcommand_of program words)) → IfOk r (Asks words)
-asks_run words (Ok (Run file)) none run = (none, run)
-asks_run words (Ok Shown) none run = absurd run
-asks_run words (Err fault) none run = tt
+-- the files of a check that was entered
+pub files_of_check : (entered : Option (Text × List Row)) (name : Text) (rows : List Row) (table : Option Text) (file : Text)
+    → entered ≡ Some (name, rows) → name ≡ codes "check" → table ≡ first_of (codes "numeric") rows
+    → Some file ≡ first_of (codes "judged") rows → asked entered ≡ Some (ToCheck table file)
+files_of_check entered name rows table file is named table_read file_read = rw (is, named, table_read, ← file_read) refl
+
+-- words of which none is wrong ask for the command that a parse of them entered
+pub asks_command : (words : List Text) (r : Result Order Fault) → fault_of program words ≡ []
+    → IfOk r (IsOrdered (subcommand_of program words)) → IfOk r (Asks words)
+asks_command words (Ok (Run table file)) none ordered = (none, ordered)
+asks_command words (Ok (Check table file)) none ordered = (none, ordered)
+asks_command words (Ok Shown) none ordered = absurd ordered
+asks_command words (Err fault) none ordered = tt
 
 -- an error by which help is shown is none of memory
 not_taken : (kind : ErrorKind) (taken : Bool) → (taken ≡ true → kind ≡ OutOfMemory) → (kind ≡ DisplayHelp) ⊎ (kind ≡ DisplayVersion)
@@ -49,7 +56,8 @@ answered words kind (inr v) (inr is) = inr (subst (λ (k : ErrorKind). IsAmong k
 pub asks_shown : (words : List Text) (kind : ErrorKind) (r : Result Order Fault)
     → (takes program words ≡ true → kind ≡ OutOfMemory) → (kind ≡ OutOfMemory) ⊎ IsAmong kind (fault_of program words)
     → IfOk r (λ o. o ≡ Shown) → IfOk r (λ _. (kind ≡ DisplayHelp) ⊎ (kind ≡ DisplayVersion)) → IfOk r (Asks words)
-asks_shown words kind (Ok (Run file)) passes fails shown help = cc
+asks_shown words kind (Ok (Run table file)) passes fails shown help = cc
+asks_shown words kind (Ok (Check table file)) passes fails shown help = cc
 asks_shown words kind (Ok Shown) passes fails shown help =
     (not_taken kind (takes program words) passes help, answered words kind help fails)
 asks_shown words kind (Err fault) passes fails shown help = tt

@@ -3,68 +3,99 @@ use Rattle.std.proofs.Common.{◌≡◌, refl, codes, Bool, true, false, List, [
 use Rattle.clap.specs.Words.{Text, fault_of, subcommand_of, takes}
 use Rattle.clap.specs.declared.error.kind.ErrorKind.TheVariants.{DisplayHelp}
 use Rattle.clap.proofs.OnLiterals.{clap_on_literals}
-use Rattle.filing.specs.Words.{file_asked, numeric, program, run}
+use Rattle.filing.specs.Words.{Asked, ToRun, ToCheck, asked, check, history, judged, numeric, program, run}
 
--- the file that a run is asked for with
-abbrev file_by : List Text → Option (Option Text)
-file_by words = file_asked (subcommand_of program (codes "filing" ∷ words))
+-- what is asked for
+abbrev asked_by : List Text → Option Asked
+asked_by words = asked (subcommand_of program (codes "filing" ∷ words))
 
 abbrev is_taken : List Text → Bool
 is_taken words = takes program (codes "filing" ∷ words)
 
 -- `filing run`
-no_file : file_by (codes "run" ∷ []) ≡ Some None
-unfolding clap_on_literals program run numeric
+no_file : asked_by (codes "run" ∷ []) ≡ Some (ToRun None None)
+unfolding clap_on_literals program run check numeric history judged
 no_file = refl
 
 no_file_taken : is_taken (codes "run" ∷ []) ≡ true
-unfolding clap_on_literals program run numeric
+unfolding clap_on_literals program run check numeric history judged
 no_file_taken = refl
 
 -- `filing run --numeric t.txt`
-file_after : file_by (codes "run" ∷ codes "--numeric" ∷ codes "t.txt" ∷ []) ≡ Some (Some (codes "t.txt"))
-unfolding clap_on_literals program run numeric
+file_after : asked_by (codes "run" ∷ codes "--numeric" ∷ codes "t.txt" ∷ []) ≡ Some (ToRun (Some (codes "t.txt")) None)
+unfolding clap_on_literals program run check numeric history judged
 file_after = refl
 
 file_after_taken : is_taken (codes "run" ∷ codes "--numeric" ∷ codes "t.txt" ∷ []) ≡ true
-unfolding clap_on_literals program run numeric
+unfolding clap_on_literals program run check numeric history judged
 file_after_taken = refl
 
 -- `filing run --numeric=t.txt`
-file_attached : file_by (codes "run" ∷ codes "--numeric=t.txt" ∷ []) ≡ Some (Some (codes "t.txt"))
-unfolding clap_on_literals program run numeric
+file_attached : asked_by (codes "run" ∷ codes "--numeric=t.txt" ∷ []) ≡ Some (ToRun (Some (codes "t.txt")) None)
+unfolding clap_on_literals program run check numeric history judged
 file_attached = refl
 
 file_attached_taken : is_taken (codes "run" ∷ codes "--numeric=t.txt" ∷ []) ≡ true
-unfolding clap_on_literals program run numeric
+unfolding clap_on_literals program run check numeric history judged
 file_attached_taken = refl
 
 -- `filing`
 no_command : is_taken [] ≡ false
-unfolding clap_on_literals program run numeric
+unfolding clap_on_literals program run check numeric history judged
 no_command = refl
 
 -- `filing ru`
 cut_command : is_taken (codes "ru" ∷ []) ≡ false
-unfolding clap_on_literals program run numeric
+unfolding clap_on_literals program run check numeric history judged
 cut_command = refl
 
 -- `filing run x`
 stray_word : is_taken (codes "run" ∷ codes "x" ∷ []) ≡ false
-unfolding clap_on_literals program run numeric
+unfolding clap_on_literals program run check numeric history judged
 stray_word = refl
 
 -- `filing run --numeri t.txt`
 cut_name : is_taken (codes "run" ∷ codes "--numeri" ∷ codes "t.txt" ∷ []) ≡ false
-unfolding clap_on_literals program run numeric
+unfolding clap_on_literals program run check numeric history judged
 cut_name = refl
 
 -- `filing run --numeric a --numeric b`
 named_twice : is_taken (codes "run" ∷ codes "--numeric" ∷ codes "a" ∷ codes "--numeric" ∷ codes "b" ∷ []) ≡ false
-unfolding clap_on_literals program run numeric
+unfolding clap_on_literals program run check numeric history judged
 named_twice = refl
 
 -- `filing --help`
 help_shown : fault_of program (codes "filing" ∷ codes "--help" ∷ []) ≡ DisplayHelp ∷ []
-unfolding clap_on_literals program run numeric
+unfolding clap_on_literals program run check numeric history judged
 help_shown = refl
+
+-- `filing run --history h.jsonl --numeric t.txt`
+both_files : asked_by (codes "run" ∷ codes "--history" ∷ codes "h.jsonl" ∷ codes "--numeric" ∷ codes "t.txt" ∷ [])
+    ≡ Some (ToRun (Some (codes "t.txt")) (Some (codes "h.jsonl")))
+unfolding clap_on_literals program run check numeric history judged
+both_files = refl
+
+-- `filing check h.jsonl`
+history_judged : asked_by (codes "check" ∷ codes "h.jsonl" ∷ []) ≡ Some (ToCheck None (codes "h.jsonl"))
+unfolding clap_on_literals program run check numeric history judged
+history_judged = refl
+
+history_judged_taken : is_taken (codes "check" ∷ codes "h.jsonl" ∷ []) ≡ true
+unfolding clap_on_literals program run check numeric history judged
+history_judged_taken = refl
+
+-- `filing check h.jsonl --numeric t.txt`
+judged_by_table : asked_by (codes "check" ∷ codes "h.jsonl" ∷ codes "--numeric" ∷ codes "t.txt" ∷ [])
+    ≡ Some (ToCheck (Some (codes "t.txt")) (codes "h.jsonl"))
+unfolding clap_on_literals program run check numeric history judged
+judged_by_table = refl
+
+-- `filing check`
+nothing_judged : is_taken (codes "check" ∷ []) ≡ false
+unfolding clap_on_literals program run check numeric history judged
+nothing_judged = refl
+
+-- `filing check a b`
+two_judged : is_taken (codes "check" ∷ codes "a" ∷ codes "b" ∷ []) ≡ false
+unfolding clap_on_literals program run check numeric history judged
+two_judged = refl

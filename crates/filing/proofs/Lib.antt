@@ -1,4 +1,8 @@
+-- ---- words
+mod Commands
+mod Program
 mod Entered
 mod Examples
-mod Program
+-- ---- scripts and histories
 mod ScriptRuns
+mod HistoryRuns

@@ -8,8 +8,8 @@ use Rattle.filing.specs.Runs.{WritesScript}
 
 pub script_written : (table : Table) (history : History) (source source' : SourceState) (sink sink' : SinkState) (rest written : Option (List ℕ))
     → source ≡ new_source rest → sink ≡ new_sink written → IsScriptEnded table source source' sink sink' history
-    → WritesScript table rest source'.rest written sink'.written
+    → WritesScript table rest source'.rest written sink'.written history
 script_written table history source source' sink sink' rest written source_is sink_is ended =
-    subst (λ s. WritesScript table s.rest source'.rest written sink'.written) source_is
-    (subst (λ s. WritesScript table source.rest source'.rest s.written sink'.written) sink_is
-    (record { given = ended.given; gave = ended.gave.bytes; at_end = ended.at_end; took = ended.took.bytes }))
+    subst (λ s. WritesScript table s.rest source'.rest written sink'.written history) source_is
+    (subst (λ s. WritesScript table source.rest source'.rest s.written sink'.written history) sink_is
+    (record { given = ended.given; gave = ended.gave.bytes; at_end = ended.at_end; took = ended.took.bytes; history_is = ended.history_is }))

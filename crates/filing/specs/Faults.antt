@@ -40,7 +40,7 @@ status_of (TableLine number) = 2
 status_of TableNotText = 2
 status_of NoMemory = 3
 
--- the status that the program ends with
-abbrev pub status_after : Result (Unit {0}) Fault → ℕ
-status_after (Ok done) = 0
+-- the status that the program ends with: that of what it did, or that of its fault
+abbrev pub status_after : Result ℕ Fault → ℕ
+status_after (Ok status) = status
 status_after (Err fault) = status_of fault

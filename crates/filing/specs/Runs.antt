@@ -1,13 +1,31 @@
 -- What a run of the program leaves of its reader and its writer.
-use Rattle.std.specs.Prelude.{ℕ, List}
+use Rattle.std.specs.Prelude.{◌≡◌, ℕ, List}
 use Rattle.std.specs.declared.option.Option.{Option}
 use Rattle.std.specs.Io.KnownBytes.{Consumes, Appends, IsAtEnd}
 use Rattle.filing_model.specs.Facts.{Table}
-use Rattle.filing_text.specs.Script.{script_output}
+use Rattle.filing_model.specs.History.{History}
+use Rattle.line_run.specs.Lines.{lines_of, spoken}
+use Rattle.filing_text.specs.Script.{script_output, script_history}
+use Rattle.history_text.specs.LinesRead.{LinesDepart}
+use Rattle.filing_core.specs.Verdicts.{departure}
+use Rattle.filing_core.specs.declared.verdict.Verdict.{Verdict}
+use Rattle.filing_cli.specs.HistoryRun.{verdict_text, verdict_status}
 
--- the reader was read to its end, and the output of the script that it gave is what was written and nothing else, as far as the bytes of either are known
-pub record WritesScript (table : Table) (rest rest' written written' : Option (List ℕ)) : Type 0 where
+-- the reader was read to its end, the output of the script that it gave is what was written and nothing else, as far as the bytes of either are known, and the history is the script's
+pub record WritesScript (table : Table) (rest rest' written written' : Option (List ℕ)) (history : History)
+    : Type 0 where
   pub given : List ℕ
   pub gave : Consumes rest rest' given
   pub at_end : IsAtEnd rest'
   pub took : Appends written written' (script_output table given)
+  pub history_is : history ≡ script_history table given
+
+-- the reader was read to its end, and the line of the verdict on its lines is what was written and nothing else, as far as the bytes of either are known; the status is that of the verdict
+pub record WritesVerdict (table : Table) (rest rest' written written' : Option (List ℕ)) (status : ℕ) : Type 0 where
+  pub given : List ℕ
+  pub gave : Consumes rest rest' given
+  pub at_end : IsAtEnd rest'
+  pub verdict : Verdict
+  pub departs : LinesDepart table (spoken (lines_of given)) (departure verdict)
+  pub took : Appends written written' (verdict_text verdict)
+  pub status_is : status ≡ verdict_status verdict

@@ -5,7 +5,7 @@ use Rattle.clap.specs.Words.{App, Row, Rule, Text, IsAmong, fault_of, first_of, 
 use Rattle.clap.specs.declared.builder.action.ArgAction.TheVariants.{Set}
 use Rattle.clap.specs.declared.error.kind.ErrorKind.TheVariants.{DisplayHelp, DisplayVersion}
 use Rattle.filing.specs.declared.words.Order.{Order}
-use Rattle.filing.specs.declared.words.Order.TheVariants.{Run, Shown}
+use Rattle.filing.specs.declared.words.Order.TheVariants.{Run, Check, Shown}
 
 -- `--numeric FILE`
 unfoldable pub numeric : Rule
@@ -15,29 +15,68 @@ numeric = record (new_rule (codes "numeric")) {
   value_names = 1;
 }
 
--- the command `run`, which alone takes `--numeric`
+-- `--history FILE`
+unfoldable pub history : Rule
+history = record (new_rule (codes "history")) {
+  long = Some (codes "history");
+  action = Some Set;
+  value_names = 1;
+}
+
+-- HISTORY, which has to be there
+unfoldable pub judged : Rule
+judged = record (new_rule (codes "judged")) {
+  action = Some Set;
+  value_names = 1;
+  required = true;
+}
+
+-- the command `run`
 unfoldable pub run : App
-run = with_rule (new_app (codes "run")) numeric
+run = with_rule (with_rule (new_app (codes "run")) numeric) history
+
+-- the command `check`
+unfoldable pub check : App
+check = with_rule (with_rule (new_app (codes "check")) numeric) judged
 
 -- the program, which wants a command
 unfoldable pub program : App
 program = let bare = new_app (codes "filing") in
-    with_subcommand (record bare { top = record bare.top { subcommand_required = true } }) run.top
+    let wanting = record bare { top = record bare.top { subcommand_required = true } } in
+    with_subcommand (with_subcommand wanting run.top) check.top
 
--- the file whose numeric table a run is to read, or none, where the command that was entered is `run`
-abbrev pub file_asked : Option (Text × List Row) → Option (Option Text)
-file_asked (Some entered) =
-    if bytes_eq entered.0 (codes "run") then Some (first_of (codes "numeric") entered.1) else None
-file_asked None = None
+-- a run by the numeric table of a file, or by none, whose history goes to a file, or nowhere; or the history of a file that
+-- is to be judged by the numeric table of another, or by none
+pub data Asked : Type 0 where
+  ToRun : Option Text → Option Text → Asked
+  ToCheck : Option Text → Text → Asked
 
--- a run by the numeric table of a file is asked for, or by none
-abbrev pub IsRun : Option (Text × List Row) → Order → Type 0
-IsRun entered (Run file) = file_asked entered ≡ Some (option_map (λ s. s.now) file)
-IsRun entered Shown = ⊥
+-- what `run` and `check` ask for with these arguments
+abbrev pub run_asked : List Row → Option Asked
+run_asked rows = Some (ToRun (first_of (codes "numeric") rows) (first_of (codes "history") rows))
 
--- The words, the program's name before them, ask for this. A run is asked for by words of which none is wrong, and the file is the value of `--numeric`. What is shown is asked for by words that the program does not take, and that clap answers with help.
+abbrev pub check_asked : List Row → Option Asked
+check_asked rows = option_map (ToCheck (first_of (codes "numeric") rows)) (first_of (codes "judged") rows)
+
+-- what the command that was entered asks for
+abbrev pub asked : Option (Text × List Row) → Option Asked
+asked (Some entered) =
+    if bytes_eq entered.0 (codes "run") then run_asked entered.1
+    else (if bytes_eq entered.0 (codes "check") then check_asked entered.1 else None)
+asked None = None
+
+-- the order is what was asked for
+abbrev pub IsOrdered : Option (Text × List Row) → Order → Type 0
+IsOrdered entered (Run table file) =
+    asked entered ≡ Some (ToRun (option_map (λ s. s.now) table) (option_map (λ s. s.now) file))
+IsOrdered entered (Check table file) = asked entered ≡ Some (ToCheck (option_map (λ s. s.now) table) file.now)
+IsOrdered entered Shown = ⊥
+
+-- The words, the program's name before them, ask for this. A command is asked for by words of which none is wrong, with the files that are the values of its arguments. What is shown is asked for by words that the program does not take, and that clap answers with help.
 abbrev pub Asks : List Text → Order → Type 0
-Asks words (Run file) = (fault_of program words ≡ [])
-    × (file_asked (subcommand_of program words) ≡ Some (option_map (λ s. s.now) file))
+Asks words (Run table file) = (fault_of program words ≡ [])
+    × IsOrdered (subcommand_of program words) (Run table file)
+Asks words (Check table file) = (fault_of program words ≡ [])
+    × IsOrdered (subcommand_of program words) (Check table file)
 Asks words Shown = (takes program words ≡ false)
     × (IsAmong DisplayHelp (fault_of program words) ⊎ IsAmong DisplayVersion (fault_of program words))

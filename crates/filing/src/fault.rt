@@ -5,6 +5,7 @@ ghost use Rattle.filing.specs.Faults.{status_of};
 use filing_cli::ScriptFault;
 use filing_model::TableFault;
 use std::alloc::{AllocError, AllocFailed};
+use std::io::{Error, ErrorKind};
 use std::process::ExitCode;
 
 /// Why the program ends with another status than 0.
@@ -47,6 +48,24 @@ impl Fault {
         };
         let _ = told;
         ExitCode::from(self.status())
+    }
+}
+
+/// Why a file could not be opened or read.
+pub(crate) fn read_fault(error: &Error) -> Fault {
+    if error.kind() == ErrorKind::OutOfMemory {
+        Fault::NoMemory
+    } else {
+        Fault::Read
+    }
+}
+
+/// Why a file could not be made or written.
+pub(crate) fn write_fault(error: &Error) -> Fault {
+    if error.kind() == ErrorKind::OutOfMemory {
+        Fault::NoMemory
+    } else {
+        Fault::Write
     }
 }
 

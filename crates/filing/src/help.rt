@@ -1,4 +1,4 @@
-//! What `filing run --help` says of the lines of a script. It is a text that is shown as it stands; no code reads it.
+//! What `filing run --help` says of the lines of a script, and `filing check --help` of verdicts. It is a text that is shown as it stands; no code reads it.
 
 /// Every line by an example, and how reports and replies go in and out.
 pub(crate) const LINES: &str =
@@ -41,9 +41,24 @@ A report's file becomes a load line, a script runs, and replies are picked out a
   jq -c '["load","r1",.]' report.json > script.jsonl
   jq -Rsc '["load","r1",.]' report.json > script.jsonl    the same, with the text kept as it is
   filing run --numeric concepts.txt < script.jsonl > replies.jsonl
+  filing run --history history.jsonl < script.jsonl > replies.jsonl    and what `filing check` judges
   jq -c 'select(.[0] == "conflict" or .[0] == "disallowed")' replies.jsonl
   jq -r 'select(.[0] == "page") | .[1][]' replies.jsonl
   jq 'select(.[0] == "report") | .[1]' replies.jsonl
   grep '[^[:space:]]' script.jsonl | paste -d '\n' - replies.jsonl    each line with its reply below it
 
 Without --numeric no concept is numeric, and a fact with a unit is refused as misplaced."#;
+
+/// What `filing check --help` says of histories and verdicts.
+pub(crate) const VERDICTS: &str =
+    r#"A history has a line for each step of a script, with its session's number and its reply:
+  [null,["load","r1",REPORT],["loaded",1]]
+  [1,["open","amend"],["opened"]]
+  [1,["get","r1","f1"],["none"]]
+
+It is lawful where each reply is the one that the steps before it admit. One line tells the verdict:
+  ["lawful"]         status 0
+  ["departs",2]      status 4: it departs at the third line, blank lines aside. Another reply is due there, or its
+                     session is not open, or the line stands for no step
+
+The numeric table has to be that of the run. The spaces in a line and the order of members are free."#;

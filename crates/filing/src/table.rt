@@ -3,11 +3,10 @@
 ghost use Rattle.std.specs.Prelude.{◌≡◌, [], None, Ok};
 ghost use Rattle.filing.specs.Faults.{IsTableOf};
 
-use crate::fault::Fault;
+use crate::fault::{Fault, read_fault};
 use oim_fact::NumericTable;
 use oim_report::read_table;
 use std::alloc::Global;
-use std::io::ErrorKind;
 use std::rt::Files;
 use std::{fs, str};
 
@@ -25,13 +24,7 @@ fn table_of(alloc: Global, bytes: &[u8]) -> Result<NumericTable, Fault>
 fn bytes_of<R: Files + AllocGlobal>(rt: &R, path: &str) -> Result<Vec<u8>, Fault> {
     match fs::read(rt, path) {
         Ok(bytes) => Ok(bytes),
-        Err(error) => {
-            if error.kind() == ErrorKind::OutOfMemory {
-                Err(Fault::NoMemory)
-            } else {
-                Err(Fault::Read)
-            }
-        }
+        Err(error) => Err(read_fault(&error)),
     }
 }
 

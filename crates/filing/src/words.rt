@@ -1,10 +1,10 @@
-ghost use Rattle.std.specs.Prelude.{◌≡◌, ◌⊎◌, IfOk, map, string_bytes};
-ghost use Rattle.clap.specs.Words.{app_of, kind_of, subcommand_rows_of};
-ghost use Rattle.filing.specs.Words.{Asks, IsRun, program};
+ghost use Rattle.std.specs.Prelude.{◌≡◌, ◌⊎◌, false, IfOk, map, string_bytes};
+ghost use Rattle.clap.specs.Words.{app_of, kind_of, rule_of, subcommand_rows_of};
+ghost use Rattle.filing.specs.Words.{Asks, IsOrdered, numeric, history, judged, run, check, program};
 ghost use Rattle.filing.specs.declared.words.Order.TheVariants.{Shown};
 
 use crate::fault::Fault;
-use crate::help::LINES;
+use crate::help::{LINES, VERDICTS};
 use clap::error::ErrorKind;
 use clap::{Arg, ArgAction, ArgMatches, Command, Error};
 use std::alloc::{AllocError, Global};
@@ -13,40 +13,109 @@ use std::{env, io};
 /// What the words of the command line ask for.
 #[derive(Clone, Copy, Debug, PartialEq, Eq)]
 pub(crate) enum Order<'a> {
-    /// Run the script that comes on standard input, by the numeric table of a file, if one is named.
-    Run { numeric: Option<&'a str> },
+    /// Run the script that comes on standard input, by the numeric table of a file, if one is named. Its history goes to another, if that is named.
+    Run {
+        numeric: Option<&'a str>,
+        history: Option<&'a str>,
+    },
+    /// Judge the history in a file, by the numeric table of a file, if one is named.
+    Check {
+        numeric: Option<&'a str>,
+        history: &'a str,
+    },
     /// Help was asked for, and it was shown.
     Shown,
+}
+
+/// The option that names a numeric table.
+#[tactic(auto, unfolding(crate::specs::Words::numeric))]
+fn numeric_option<'a>(alloc: Global) -> Arg<'a>
+    ensures rule { rule_of result ≡ numeric }
+    ensures local { result.global ≡ false }
+{
+    Arg::new(alloc, "numeric")
+        .long("numeric")
+        .value_name("FILE")
+        .help("The numeric concepts, each on a line: its URI, a space and its local name")
+        .action(ArgAction::Set)
+}
+
+/// The option that names the file to which a history is to be written.
+#[tactic(auto, unfolding(crate::specs::Words::history))]
+fn history_option<'a>(alloc: Global) -> Arg<'a>
+    ensures rule { rule_of result ≡ history }
+    ensures local { result.global ≡ false }
+{
+    Arg::new(alloc, "history")
+        .long("history")
+        .value_name("FILE")
+        .help("Where the history goes once the script has ended: each step with its reply")
+        .action(ArgAction::Set)
+}
+
+/// The file of the history that is to be judged.
+#[tactic(auto, unfolding(crate::specs::Words::judged))]
+fn judged_argument<'a>(alloc: Global) -> Arg<'a>
+    ensures rule { rule_of result ≡ judged }
+    ensures local { result.global ≡ false }
+{
+    Arg::new(alloc, "judged")
+        .value_name("HISTORY")
+        .help("The history that is to be judged, as `run --history` writes it")
+        .action(ArgAction::Set)
+        .required(true)
+}
+
+/// The command that runs a script.
+fn run_command<'a>(alloc: Global) -> Result<Command<'a>, AllocError>
+    ensures { IfOk result (λ c. app_of c ≡ run) }
+{
+    Command::new(alloc, "run")
+        .about("Runs a script of JSON lines from standard input")
+        .after_help(LINES)
+        .arg(numeric_option(alloc))?
+        .arg(history_option(alloc))
+}
+
+/// The command that judges a history.
+fn check_command<'a>(alloc: Global) -> Result<Command<'a>, AllocError>
+    ensures { IfOk result (λ c. app_of c ≡ check) }
+{
+    Command::new(alloc, "check")
+        .about("Judges a history: whether each of its replies is the one that there may be")
+        .after_help(VERDICTS)
+        .arg(numeric_option(alloc))?
+        .arg(judged_argument(alloc))
 }
 
 /// The commands that are there.
 fn command<'a>(alloc: Global) -> Result<Command<'a>, AllocError>
     ensures { IfOk result (λ c. app_of c ≡ program) }
 {
-    let numeric = Arg::new(alloc, "numeric")
-        .long("numeric")
-        .value_name("FILE")
-        .help("The numeric concepts, each on a line: its URI, a space and its local name")
-        .action(ArgAction::Set);
-    let run = Command::new(alloc, "run")
-        .about("Runs a script of JSON lines from standard input")
-        .after_help(LINES)
-        .arg(numeric)?;
     Command::new(alloc, "filing")
         .about("A repository of company filing reports in xBRL-JSON")
         .subcommand_required(true)
         .arg_required_else_help(false)
-        .subcommand(run)
+        .subcommand(run_command(alloc)?)?
+        .subcommand(check_command(alloc)?)
 }
 
-/// What the words that `clap` has taken ask for. It takes none without a command.
+/// What the words that `clap` has taken ask for. It takes none without a command, and no `check` without its file.
 fn ordered<'a>(matches: &ArgMatches<'a>) -> Result<Order<'a>, Fault>
-    ensures { IfOk result (IsRun (subcommand_rows_of matches.now)) }
+    ensures { IfOk result (IsOrdered (subcommand_rows_of matches.now)) }
 {
     match matches.subcommand() {
         Some(("run", run)) => Ok(Order::Run {
             numeric: run.get_str("numeric"),
+            history: run.get_str("history"),
         }),
+        Some(("check", check)) => match check.get_str("judged") {
+            Some(history) => Ok(Order::Check {
+                numeric: check.get_str("numeric"),
+                history,
+            }),
+            None => Err(Fault::Words),
+        },
         _ => Err(Fault::Words),
     }
 }

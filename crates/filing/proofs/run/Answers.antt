@@ -4,4 +4,4 @@ use Rattle.filing.proofs.run.Goals as goal
 pub returns : goal.returns
 returns g c =
     rw (c.into_inner.ensures, c.into_inner-2.ensures)
-    (script_written _ _ _ _ _ _ _ _ c.new-source.ensures c.new-sink.ensures c.in_ok-run_script.ensures.script)
+    (script_written _ _ _ _ _ _ _ _ c.new-source.ensures c.new-sink.ensures c.in_ok-core.ensures.script)

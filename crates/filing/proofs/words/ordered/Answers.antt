@@ -1,14 +1,27 @@
 use Rattle.std.proofs.Common.{◌∙◌, sym, codes, option_map}
 use Rattle.clap.specs.Words.{found_of, rows_of, subcommand_rows_of}
 use Rattle.clap.proofs.WalkLemmas.{first_value-rows}
-use Rattle.filing.proofs.Entered.{both_read, file_of_run}
+use Rattle.filing.proofs.Entered.{both_read, files_of_run, files_of_check}
 use Rattle.filing.proofs.words.ordered.Goals as goal
 
 pub returns-in-Some-run-default : goal.returns-in-Some-run-default
 returns-in-Some-run-default c =
     let met = c.in-Some-run-default in
     let found = found_of met.run'.now in
-    file_of_run (subcommand_rows_of c.args.matches.now) met.field-0-0.now (rows_of found) (option_map (λ s. s.now) c.get_str.result)
+    files_of_run (subcommand_rows_of c.args.matches.now) met.field-0-0.now (rows_of found) (option_map (λ s. s.now) c.get_str.result)
+    (option_map (λ s. s.now) c.get_str-in-Some-run-default.result)
     (both_read _ _ _ _ _ (sym met.ensures.name) (sym met.ensures.rows))
     met.is-run
     (c.get_str.ensures ∙ first_value-rows found (codes "numeric"))
+    (c.get_str-in-Some-run-default.ensures ∙ first_value-rows found (codes "history"))
+
+pub returns-in-Some : goal.returns-in-Some
+returns-in-Some c =
+    let met = c.in-Some-check-default in
+    let found = found_of met.check.now in
+    files_of_check (subcommand_rows_of c.args.matches.now) met.field-0-0.now (rows_of found) (option_map (λ s. s.now) c.get_str-in-Some.result)
+    c.in-Some.history.now
+    (both_read _ _ _ _ _ (sym met.ensures.name) (sym met.ensures.rows))
+    met.is-check
+    (c.get_str-in-Some.ensures ∙ first_value-rows found (codes "numeric"))
+    (c.in-Some.ensures ∙ first_value-rows found (codes "judged"))

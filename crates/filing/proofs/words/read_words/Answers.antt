@@ -1,7 +1,7 @@
 use Rattle.std.proofs.Common.{IfOk, map, string_bytes, subst}
 use Rattle.clap.specs.Words.{app_of}
-use Rattle.filing.specs.Words.{IsRun}
-use Rattle.filing.proofs.Entered.{asks_run, asks_shown}
+use Rattle.filing.specs.Words.{IsOrdered}
+use Rattle.filing.proofs.Entered.{asks_command, asks_shown}
 use Rattle.filing.proofs.Program.{program_enters, program_fails, program_passes, program_takes}
 use Rattle.filing.proofs.words.read_words.Goals as goal
 
@@ -11,8 +11,8 @@ returns-in-Ok g c =
     let line = app_of c.in_ok-command.command in
     let is = c.in_ok-command.ensures in
     let enters = program_enters line words c.in-Ok.matches is c.in-Ok.ensures.ok.2 in
-    asks_run words c.ordered.result (program_takes line words is c.in-Ok.ensures.kinds)
-    (subst (λ entered. IfOk c.ordered.result (IsRun entered)) enters c.ordered.ensures)
+    asks_command words c.ordered.result (program_takes line words is c.in-Ok.ensures.kinds)
+    (subst (λ entered. IfOk c.ordered.result (IsOrdered entered)) enters c.ordered.ensures)
 
 pub returns : goal.returns
 returns g c =
