@@ -1,10 +1,14 @@
-//! Runs the scripts that lie beside it, each with its replies in a file of its own, and tells which replies are not those. It knows scripts and replies as bytes alone.
+//! Runs the scripts that lie beside it, each with its replies and its history in files of their own, and tells which are not those; and judges a history of which a reply was changed. It knows scripts, replies and histories as bytes alone.
 #![tactic(auto)]
 
 ghost use Rattle.std.specs.Prelude.{◌≡◌, ◌≤◌, ◌<◌};
 
+mod histories;
+
 use anyhow::Result;
 use filing_cli::{MemoryIn, MemoryOut, ScriptFault, run_script};
+use filing_core::{Core, Verdict};
+use histories::{is_as_written, verdict_on};
 use oim_fact::NumericTable;
 use oim_report::read_table;
 use std::alloc::Global;
@@ -14,7 +18,7 @@ use std::rt::Files;
 use std::sync::Arc;
 use std::sync::ledger::{Blank, Ledger};
 
-/// Each is a script NAME.jsonl with the replies NAME.replies.
+/// Each is a script NAME.jsonl with the replies NAME.replies and the history NAME.history.
 const NAMES: [&str; 12] = [
     "amendment",
     "duplicates",
@@ -30,12 +34,12 @@ const NAMES: [&str; 12] = [
     "every_reply",
 ];
 
-// So many bytes of replies are written without a growth.
+// So many bytes are written without a growth.
 const ROOM: usize = 65536;
 
 /// How a script ended, beside the replies that it is to have.
 enum Ended {
-    AsWritten,
+    AsWritten(Core),
     /// Memory was wanted at this line, when the first so many bytes of the replies were written.
     NoMemory(u128, usize),
     OtherReplies,
@@ -59,19 +63,19 @@ fn run_beside<L: Ledger, K: Ledger>(
 {
     let mut source: MemoryIn<'_, L> = MemoryIn::new(script, ROOM, source_blank);
     let mut sink: MemoryOut<K> = MemoryOut::new(alloc, ROOM, ROOM, sink_blank)?;
-    let fault = run_script(alloc, &mut source, &mut sink, table).err();
+    let ended = run_script(alloc, &mut source, &mut sink, table);
     let written = sink.written();
-    match fault {
-        None if written == replies => Ok(Ended::AsWritten),
-        Some(ScriptFault::NoMemory(line)) if replies.starts_with(written) => {
+    match ended {
+        Ok(core) if written == replies => Ok(Ended::AsWritten(core)),
+        Err(ScriptFault::NoMemory(line)) if replies.starts_with(written) => {
             Ok(Ended::NoMemory(line, written.len()))
         }
-        None | Some(ScriptFault::NoMemory(_)) => Ok(Ended::OtherReplies),
-        Some(fault) => Err(fault.into()),
+        Ok(_) | Err(ScriptFault::NoMemory(_)) => Ok(Ended::OtherReplies),
+        Err(fault) => Err(fault.into()),
     }
 }
 
-/// Runs the script of this name, and tells how its replies are.
+/// Runs the script of this name, and tells how its replies and its history are.
 fn try_example<R: Files + Print + AllocGlobal>(
     rt: &R,
     table: &Arc<NumericTable>,
@@ -80,6 +84,7 @@ fn try_example<R: Files + Print + AllocGlobal>(
     let alloc = rt.alloc();
     let script = fs::read(rt, format!(in alloc; "{name}.jsonl")?)?;
     let replies = fs::read(rt, format!(in alloc; "{name}.replies")?)?;
+    let history = fs::read(rt, format!(in alloc; "{name}.history")?)?;
     let ended = run_beside::<Brand, Brand>(
         alloc,
         table,
@@ -89,11 +94,27 @@ fn try_example<R: Files + Print + AllocGlobal>(
         Blank::new(1),
     )?;
     match ended {
-        Ended::AsWritten => println!(rt; "{name}: as written")?,
+        Ended::AsWritten(core) => {
+            if is_as_written(alloc, table, &core, history.as_slice())? {
+                println!(rt; "{name}: as written")?
+            } else {
+                println!(rt; "{name}: ANOTHER HISTORY")?
+            }
+        }
         Ended::NoMemory(line, count) => {
             println!(rt; "{name}: no memory at line {line}, after {count} bytes")?
         }
         Ended::OtherReplies => println!(rt; "{name}: OTHER REPLIES")?,
+    }
+    Ok(())
+}
+
+/// Judges the history of `write_skew` in which the refused commit has the reply of one that passes.
+fn try_forged<R: Files + Print + AllocGlobal>(rt: &R, table: &Arc<NumericTable>) -> Result<()> {
+    let lines = fs::read(rt, "forged.history")?;
+    match verdict_on(rt.alloc(), table, lines.as_slice())? {
+        Verdict::Lawful => println!(rt; "forged: LAWFUL")?,
+        Verdict::Departs(place) => println!(rt; "forged: departs at {place}")?,
     }
     Ok(())
 }
@@ -104,5 +125,5 @@ fn main(rt: HostRuntime) -> Result<()> {
     for name in NAMES {
         try_example(&rt, &table, name)?;
     }
-    Ok(())
+    try_forged(&rt, &table)
 }
