@@ -50,11 +50,19 @@ impl Draft {
         self.below(bound) == 0
     }
 
+    /// A place below a bound.
+    pub(crate) fn place_below(&mut self, bound: usize) -> usize
+        requires { 0 < bound }
+        ensures { result < bound }
+    {
+        self.rng.next_u32() as usize % bound
+    }
+
     /// One of some words. A word that stands there more often comes more often.
     pub(crate) fn pick(&mut self, words: &[&'static str]) -> &'static str
         requires { 0 < length words.now }
     {
-        let place = self.rng.next_u32() as usize % words.len();
+        let place = self.place_below(words.len());
         words[place]
     }
 

@@ -1,12 +1,13 @@
-//! Draws scripts, and compares what is written for each with the output that the test oracle computes, byte for byte.
+//! Draws scripts, and compares what is written for each with the output that the test oracle computes, byte for byte; and the verdicts on its history, as it is and with one change, with what the one next reply of all entries says.
 //!
-//! It takes two words, a seed and a number of scripts. Each script is drawn from the seed and its own number. `draft` is a text that grows by what is drawn, `facts`, `reports` and `scripts` say what is drawn, `words` gives the words of a reply, and `tally` counts the replies. Of a large number of scripts it also tells which of `kinds` never came, and whether too few commits were refused.
+//! It takes two words, a seed and a number of scripts. Each script is drawn from the seed and its own number. `draft` is a text that grows by what is drawn, `facts`, `reports` and `scripts` say what is drawn, `words` gives the words of a reply, `tally` counts the replies, and `histories` judges histories. Of a large number of scripts it also tells which of `kinds` never came, and whether too few commits were refused.
 #![tactic(auto)]
 
 ghost use Rattle.std.specs.Prelude.{◌≡◌, ◌≤◌, ◌<◌};
 
 mod draft;
 mod facts;
+mod histories;
 mod kinds;
 mod reports;
 mod scripts;
@@ -16,6 +17,8 @@ mod words;
 use anyhow::{Result, anyhow};
 use draft::Draft;
 use filing_cli::{MemoryIn, MemoryOut, run_script};
+use filing_core::Core;
+use histories::Histories;
 use kinds::KINDS;
 use oim_fact::NumericTable;
 use oim_report::read_table;
@@ -57,7 +60,7 @@ fn first_difference(one: &[u8], other: &[u8]) -> Option<u64> {
     }
 }
 
-/// The reply at which what is written for a script is not what is expected. So many bytes are read at once.
+/// The reply at which what is written for a script is not what is expected, and the core that it leaves. So many bytes are read at once.
 fn departure<L: Ledger, K: Ledger>(
     alloc: Global,
     table: &Arc<NumericTable>,
@@ -66,7 +69,7 @@ fn departure<L: Ledger, K: Ledger>(
     expected: &[u8],
     source_blank: Blank,
     sink_blank: Blank,
-) -> Result<Option<u64>>
+) -> Result<(Option<u64>, Core)>
     requires some { 0 < piece }
     requires source_name { source_blank.name ≡ L.name }
     requires source_parts { source_blank.parts ≡ L.parts }
@@ -77,24 +80,25 @@ fn departure<L: Ledger, K: Ledger>(
 {
     let mut source: MemoryIn<'_, L> = MemoryIn::new(script, piece, source_blank);
     let mut sink: MemoryOut<K> = MemoryOut::new(alloc, ROOM, piece, sink_blank)?;
-    run_script(alloc, &mut source, &mut sink, table)?;
-    Ok(first_difference(sink.written(), expected))
+    let core = run_script(alloc, &mut source, &mut sink, table)?;
+    Ok((first_difference(sink.written(), expected), core))
 }
 
-/// Draws a script, and tells at which reply it differs.
+/// Draws a script, and tells at which reply it differs. Its history is judged too.
 fn try_script(
     alloc: Global,
     table: &Arc<NumericTable>,
     seed: u64,
     number: u64,
     tally: &mut Tally,
+    histories: &mut Histories,
 ) -> Result<Option<u64>> {
     let mut draft = Draft::new(alloc, seed, number);
     draft.put_script(alloc)?;
     let piece = 1 + draft.below(400) as usize;
     let expected = expected_output(alloc, draft.text(), table)?;
     tally.count_all(alloc, draft.text(), &expected)?;
-    departure::<Brand, Brand>(
+    let (departure, core) = departure::<Brand, Brand>(
         alloc,
         table,
         draft.text(),
@@ -102,7 +106,9 @@ fn try_script(
         expected.as_bytes(),
         Blank::new(3),
         Blank::new(1),
-    )
+    )?;
+    histories.try_core(alloc, table, &mut draft, &core)?;
+    Ok(departure)
 }
 
 /// Tries so many scripts, and gives how many differ.
@@ -111,12 +117,13 @@ fn try_scripts<R: Print + AllocGlobal>(
     seed: u64,
     scripts: u64,
     tally: &mut Tally,
+    histories: &mut Histories,
 ) -> Result<u64> {
     let alloc = rt.alloc();
     let table = Arc::new(alloc, read_table(alloc, NUMERIC)?)?;
     let mut differ = 0u64;
     for number in 0..scripts {
-        if let Some(line) = try_script(alloc, &table, seed, number, tally)? {
+        if let Some(line) = try_script(alloc, &table, seed, number, tally, histories)? {
             if differ < TOLD {
                 println!(rt; "seed {seed}, script {number}: differs at reply {line}")?;
             }
@@ -165,11 +172,20 @@ fn tell_lacks<R: Print>(rt: &R, tally: &Tally) -> Result<u64> {
 fn main(rt: HostRuntime) -> Result<()> {
     let (seed, scripts) = read_words(&rt)?;
     let mut tally = Tally::new(rt.alloc());
-    let differ = try_scripts(&rt, seed, scripts, &mut tally)?;
+    let mut histories = Histories::new();
+    let differ = try_scripts(&rt, seed, scripts, &mut tally, &mut histories)?;
     tell_counts(&rt, &tally)?;
     let replies = tally.replies();
     println!(&rt; "{scripts} scripts, {replies} replies, {differ} differ")?;
-    if differ > 0 {
+    let Histories {
+        departing,
+        lawful,
+        otherwise,
+    } = histories;
+    println!(&rt;
+        "{departing} histories with one change depart, {lawful} are lawful, {otherwise} judged otherwise"
+    )?;
+    if differ > 0 || otherwise > 0 {
         return Err(anyhow!("some scripts differ"));
     }
     if scripts >= LARGE && tell_lacks(&rt, &tally)? > 0 {
