@@ -1,5 +1,4 @@
--- ---- names in use, the report of a load, and whole scripts
-pub mod FreedNames
+-- ---- the report of a load, and whole scripts
 pub mod ReportOfLoad
 pub mod Scripts
 -- ---- histories

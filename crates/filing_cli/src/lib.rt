@@ -1,6 +1,6 @@
 //! Scripts: the steps of a core, line by line, between a source and a sink of bytes.
 //!
-//! `script` runs a script: `script_machine` is what answers its lines, each by the step that it takes, with the names in use in `session_names`.
+//! `script` runs a script: `script_machine` is what answers its lines, each by the step that it takes.
 //!
 //! The crate knows nothing of how lines are cut and devices are read (`line_run`), of how a line or a reply is written (`filing_text`), of locks, or of files.
 #![tactic(auto)]
@@ -9,7 +9,6 @@ mod history;
 mod judge;
 mod script;
 mod script_machine;
-mod session_names;
 
 pub use filing_text::{
     bad_fact_reply, bad_line_reply, bad_report_reply, exported_reply, name_in_use_reply,

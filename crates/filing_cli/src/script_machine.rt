@@ -11,9 +11,8 @@ ghost use Rattle.filing_text.specs.LineView.{asking_view};
 ghost use Rattle.filing_text.specs.Script.{Due, start, call_read, report_in, answered, judged_load, judged_open, judged_step, judged_asking, judged_end, judged_export, value_answer};
 ghost use Rattle.filing_cli.specs.ScriptRun.{IsReply, newest_session};
 
-use crate::session_names::SessionNames;
 use filing_core::{Core, CoreFault};
-use filing_step::{Kind, Reply, Step};
+use filing_step::{Kind, Reply, SessionNames, Step};
 use filing_text::{
     Asking, Line, bad_line_reply, bad_report_reply, exported_reply_of, line_of, name_in_use_reply,
     no_session_reply, reply_text, step_asked, taken_at,
@@ -32,7 +31,7 @@ use std::sync::Arc;
 pub(crate) struct ScriptMachine {
     table: Arc<NumericTable>,
     core: Core,
-    names: SessionNames,
+    names: SessionNames<u64>,
 }
 
 impl Model for ScriptMachine {
@@ -76,7 +75,7 @@ impl ScriptMachine {
     fn number_of(&self, session: &str) -> Option<u64>
         ensures { result ≡ get self.now.names session.now }
     {
-        self.names.get(session)
+        self.names.get(session).copied()
     }
 
     /// The session of the newest entry.
@@ -96,7 +95,7 @@ impl ScriptMachine {
     fn put_name(&mut self, alloc: Global, session: &str, number: u64) -> Result<(), AllocError>
         ensures { OnOk result (self.new ≡ record self.old { names = insert self.old.names session.now number }) }
     {
-        self.names.insert(alloc, session, number)
+        self.names.insert(String::from_str(alloc, session)?, number)
     }
 
     fn free_name(&mut self, session: &str)

@@ -5,6 +5,7 @@ pub mod TextMaps
 pub mod MapsOfLists
 pub mod FilteredEntries
 pub mod KeyedMaps
+pub mod KeyedRemovals
 -- ---- numbers and intervals
 pub mod Trimming
 pub mod Numerals

@@ -1,0 +1,11 @@
+use Rattle.std.proofs.Common.{◌∙◌, ap}
+use Rattle.filing_model.specs.TextMap.{remove}
+use Rattle.filing_model.specs.Keyed.{keyed_map}
+use Rattle.filing_model.proofs.KeyedRemovals.{keyed_map_remove_entry}
+use Rattle.filing_step.proofs.session_names.SessionNames.remove.Goals as goal
+
+pub returns : goal.returns
+returns g c =
+    ap (λ es. keyed_map (λ v. v) es) c.remove.ensures.entries
+    ∙ keyed_map_remove_entry (λ v. v) c.self.inside.by_name.entries c.args.name.now c.len.ensures.ordered
+    ∙ ap (λ m. remove m c.args.name.now) c.self.view_is

@@ -1,0 +1,62 @@
+//! `SessionNames`: the names in use.
+
+ghost use Rattle.std.specs.Prelude.{◌≡◌, None, option_copied, OnOk, OnErr};
+ghost use Rattle.filing_model.specs.TextMap.{empty, get, insert, remove};
+
+use std::alloc::{AllocError, Global};
+use std::collections::BTreeMap;
+use std::marker::Model;
+
+/// The names that open sessions are given, with what stands for each of them. Contracts see a finite map from texts.
+#[derive(Drop)]
+pub struct SessionNames<V: Drop> {
+    by_name: BTreeMap<String, V>,
+}
+
+impl<V: Drop> Model for SessionNames<V> {
+    ghost use Rattle.filing_model.specs.TextMap.{TextMap};
+    ghost use Rattle.filing_model.specs.Keyed.{keyed_map};
+
+    ghost Value = { TextMap V };
+
+    ghost view = { λ s. keyed_map (λ v. v) s.by_name.entries };
+}
+
+#[tactic(auto, using(filing_model::proofs::KeyedMaps::get_keyed_map, filing_model::proofs::KeyedMaps::keyed_map_insert_entry))]
+impl<V: Drop> SessionNames<V> {
+    ghost use Rattle.std.specs.Prelude.{string_bytes};
+
+    /// No names. It takes no memory.
+    pub fn new(alloc: Global) -> SessionNames<V>
+        ensures { result ≡ empty }
+    {
+        SessionNames {
+            by_name: BTreeMap::new(alloc),
+        }
+    }
+
+    /// What stands for a name. It takes no memory.
+    pub fn get(&self, name: &str) -> Option<&V>
+        ensures { option_copied result ≡ get self.now name.now }
+    {
+        self.by_name.get(name)
+    }
+
+    /// Puts a name in use; one that is in use stands for another then, and that takes no memory.
+    pub fn insert(&mut self, name: String, value: V) -> Result<(), AllocError>
+        ensures ok { OnOk result (self.new ≡ insert self.old (string_bytes name) value) }
+        ensures err { OnErr result (self.new ≡ self.old) }
+        ensures new { OnErr result (get self.old (string_bytes name) ≡ None) }
+    {
+        self.by_name.insert(name, value)?;
+        Ok(())
+    }
+
+    /// Frees a name. It takes no memory.
+    pub fn remove(&mut self, name: &str)
+        ensures { self.new ≡ remove self.old name.now }
+    {
+        let _ = self.by_name.len();
+        self.by_name.remove(name);
+    }
+}
