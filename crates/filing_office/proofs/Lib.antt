@@ -1,2 +1,6 @@
 pub mod Numbered
 pub mod Publishing
+pub mod ToldSteps
+pub mod TurnNames
+pub mod Learning
+pub mod RunsOn

@@ -1,5 +1,5 @@
 -- How many versions a history has, and which entries make one.
-use Rattle.std.proofs.Common.{◌≡◌, ◌∙◌, ap, sym, refl, subst, ℕ, ◌+◌, arith, Bool, true, false, cond, List, [], ◌∷◌, ◌++◌, Option, Some, None, is_some, length, length-append, append-nil, true≢false}
+use Rattle.std.proofs.Common.{◌≡◌, ◌∙◌, ap, sym, refl, ℕ, ◌+◌, arith, Bool, true, false, cond, [], ◌∷◌, ◌++◌, Option, length, length-append, append-nil, true≢false}
 use Rattle.filing_model.specs.Repository.{Repository}
 use Rattle.filing_model.specs.Replies.{Reply}
 use Rattle.filing_model.specs.Sessions.{solo_copy}

@@ -1,5 +1,5 @@
 -- What the lock's value keeps, and what a step on it is answered.
-use Rattle.std.proofs.Common.{◌≡◌, ◌∙◌, ap, sym, refl, subst, ℕ, ◌+◌, Bool, true, false, cond, List, [], ◌∷◌, ◌++◌, Option, Some, None, is_some, option_map, length, true≢false, arith}
+use Rattle.std.proofs.Common.{◌≡◌, ◌∙◌, ap, sym, refl, subst, ℕ, ◌+◌, Bool, true, false, cond, List, [], ◌∷◌, ◌++◌, Option, Some, None, is_some, option_map, length, arith}
 use Rattle.std.specs.Option.{option_map_or}
 use Rattle.filing_model.specs.Repository.{Repository}
 use Rattle.filing_model.specs.Replies.{Reply}

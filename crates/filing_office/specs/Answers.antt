@@ -1,7 +1,7 @@
 -- What a step under the lock is answered. The project's own.
-use Rattle.std.specs.Prelude.{◌≡◌, ℕ, ◌∷◌, cond, List, Option, Some, None, Result, Ok, Err}
-use Rattle.filing_model.specs.Repository.{Repository}
-use Rattle.filing_model.specs.History.{Step, Entry, History}
+use Rattle.std.specs.Prelude.{◌≡◌, ℕ, cond, Bool, true, false, Option, Some, None, IsSome, IsTrue, Result, Ok, Err}
+use Rattle.filing_model.specs.Replies as reply
+use Rattle.filing_model.specs.History.{Step, Load, Open, Ask, Commit, Close, History}
 use Rattle.filing_model.specs.Lawful.{entered_under}
 use Rattle.filing_model.specs.Versions.{counts, versions}
 use Rattle.filing_step.specs.Steps.{reply_of}
@@ -20,3 +20,26 @@ abbrev pub ApplyAnswers : {J : Type 0} → History → History → Option ℕ �
 ApplyAnswers old new session step (Ok a) = IsTold old new session step a
 ApplyAnswers old new session step (Err NoSession) = IsRefused old new session step
 ApplyAnswers old new session step (Err NoMemory) = IsLeft old new session step
+
+-- ---- whatever the history
+
+abbrev pub is_of_session : Step → Bool
+is_of_session (Load name r) = false
+is_of_session (Open kind) = false
+is_of_session (Ask call) = true
+is_of_session Commit = true
+is_of_session Close = true
+
+-- a load has no session, an opening opens one, and every other step is of the session that it names
+abbrev pub IsToldUnder : {J : Type 0} → Option ℕ → Step → Answer J → Type 0
+IsToldUnder session (Load name r) a = a.session ≡ None
+IsToldUnder session (Open kind) a = IsSome a.session × (reply_of a.reply ≡ reply.Opened)
+IsToldUnder session (Ask call) a = a.session ≡ session
+IsToldUnder session Commit a = a.session ≡ session
+IsToldUnder session Close a = a.session ≡ session
+
+-- only a step of a session can be of one that is not open
+abbrev pub StepTold : {J : Type 0} → Option ℕ → Step → Result (Answer J) CoreFault → Type 0
+StepTold session step (Ok a) = IsToldUnder session step a
+StepTold session step (Err NoSession) = IsTrue (is_of_session step)
+StepTold session step (Err NoMemory) = Unit {0}

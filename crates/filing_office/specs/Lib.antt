@@ -1,3 +1,5 @@
 -- What contracts of the office cite.
 pub mod Answers
 pub mod Tallies
+pub mod Runs
+pub mod Rans

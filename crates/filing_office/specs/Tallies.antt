@@ -1,6 +1,5 @@
 -- What a desk counts. The project's own.
-use Rattle.std.specs.Prelude.{◌≡◌, ℕ, ◌+◌, cond, List, length, Option, Some, None, is_some, option_map, Result, Ok, Err}
-use Rattle.filing_model.specs.Replies.{Reply}
+use Rattle.std.specs.Prelude.{◌≡◌, ℕ, ◌+◌, cond, length, Some, None, is_some, option_map, Result, Ok, Err}
 use Rattle.filing_model.specs.Versions.{counts}
 use Rattle.filing_model.specs.Touches.{number_in}
 use Rattle.filing_step.specs.Steps.{reply_of}

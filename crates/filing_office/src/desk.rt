@@ -1,6 +1,8 @@
 //! `Desk`: what takes steps in one thread.
 
 ghost use Rattle.std.specs.Prelude.{◌≡◌};
+ghost use Rattle.filing_step.specs.Steps.{step_of};
+ghost use Rattle.filing_office.specs.Answers.{StepTold};
 ghost use Rattle.filing_office.specs.Tallies.{Counted};
 
 use crate::answer::Answer;
@@ -41,7 +43,8 @@ impl<L: Ledger + Naming, M: Ledger> Desk<L, M> {
         session: Option<u64>,
         step: Step,
     ) -> Result<Answer<L>, CoreFault>
-        ensures { Counted self.old self.new result }
+        ensures counted { Counted self.old self.new result }
+        ensures told { StepTold session (step_of step) result }
     {
         let mut locked = office.locked.lock(rt);
         let answer = locked.step(rt, alloc, self, session, step);

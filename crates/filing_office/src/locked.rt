@@ -2,6 +2,8 @@
 
 ghost use Rattle.std.specs.Prelude.{◌≡◌, ◌+◌, [], cond, length, vec_len, sum, map};
 ghost use Rattle.filing_model.specs.History.{repository};
+ghost use Rattle.filing_step.specs.Steps.{step_of};
+ghost use Rattle.filing_office.specs.Answers.{StepTold};
 ghost use Rattle.filing_office.specs.Tallies.{Counted};
 
 use crate::answer::Answer;
@@ -72,7 +74,8 @@ impl<L: Ledger + Naming, M: Ledger> Locked<L, M> {
         session: Option<u64>,
         step: Step,
     ) -> Result<Answer<L>, CoreFault>
-        ensures { Counted desk.old desk.new result }
+        ensures counted { Counted desk.old desk.new result }
+        ensures told { StepTold session (step_of step) result }
     {
         let answer = apply_in(rt, &mut self.shared, alloc, session, step)?;
         let received = answer.receipt.is_some();

@@ -1,7 +1,8 @@
-use Rattle.std.proofs.Common.{◌≡◌, ◌∙◌, ◌+◌, ℕ, Bool, cond, ap, sym}
+use Rattle.std.proofs.Common.{◌∙◌, ◌+◌, ℕ, Bool, cond, ap, sym}
 use Rattle.filing_model.specs.History.{repository}
 use Rattle.filing_step.specs.Steps.{step_of}
 use Rattle.filing_office.specs.Answers.{IsTold}
+use Rattle.filing_office.proofs.ToldSteps.{told_of_entered}
 use Rattle.filing_office.proofs.Publishing.{count_told, one_longer, counts_it}
 use Rattle.filing_office.proofs.locked.Locked.step.Goals as goal
 
@@ -21,7 +22,11 @@ invariant_of-self-2 g c =
       no_parts = c.args.self.now.no_parts;
     }
 
-pub returns : goal.returns
-returns g c =
+pub returns-clause-counted : goal.returns-clause-counted
+returns-clause-counted g c =
     counts_it c.args.self.now.shared c.apply_in.new.shared c.args.session (step_of c.args.step) c.in_ok-answer.answer c.in_ok-answer.ensures c.args.desk.now c.count.new.desk
     (c.count.ensures.desk ∙ ap (λ (b : Bool). record { steps = c.args.desk.now.steps + 1; receipts = c.args.desk.now.receipts + cond b 1 0 }) c.is_some-received.ensures)
+
+pub returns-clause-told : goal.returns-clause-told
+returns-clause-told g c =
+    told_of_entered c.args.self.now.shared c.apply_in.new.shared c.args.session (step_of c.args.step) c.in_ok-answer.answer c.in_ok-answer.ensures

@@ -1,0 +1,166 @@
+//! `run_desks`: a thread for each desk.
+
+ghost use Rattle.std.specs.Prelude.{◌≡◌, ◌+◌, ◌∷◌, ◌++◌, ◌<◌, ◌≤◌, [], not, length, map, vec_len, vec_capacity, string_bytes, IfOk};
+ghost use denote.Param.Send.{IsSync};
+ghost use Rattle.filing_step.specs.Steps.{step_of};
+ghost use Rattle.filing_office.specs.declared.outcome.Outcome.{Outcome as Told};
+ghost use Rattle.filing_office.specs.Runs.{Goes, Runs, IsLearnt, is_no_memory};
+ghost use Rattle.filing_office.specs.Rans.{RanOf, EachRan};
+
+use crate::fault::RunFault;
+use crate::office::Office;
+use crate::outcome::Outcome;
+use crate::turn::Turn;
+use crate::work::{DeskStep, Gate, Ran, Work};
+use filing_editions::Naming;
+use std::alloc::{AllocError, Global};
+use std::marker::{Send, Sync};
+use std::sync::Wait;
+use std::sync::ledger::Ledger;
+use std::thread;
+use std::thread::Threads;
+
+/// A work with its place, and room for an outcome of each step.
+#[derive(Drop)]
+struct Job<L: Ledger + Naming, M: Ledger> {
+    place: usize,
+    work: Work<L, M>,
+    outcomes: Vec<Outcome<L>>,
+    ghost empty: { outcomes.items ≡ [] },
+    ghost room: { vec_len work.steps ≤ vec_capacity outcomes },
+}
+
+impl<L: Ledger + Naming, M: Ledger> Job<L, M> {
+    fn of(alloc: Global, place: usize, work: Work<L, M>) -> Result<Job<L, M>, AllocError>
+        ensures { IfOk result (λ job. job.work ≡ work) }
+    {
+        let outcomes = Vec::with_capacity(alloc, work.steps.len())?;
+        Ok(Job {
+            place,
+            work,
+            outcomes,
+        })
+    }
+}
+
+/// The works with their places.
+fn jobs_of<L: Ledger + Naming, M: Ledger>(
+    alloc: Global,
+    works: Vec<Work<L, M>>,
+) -> Result<Vec<Job<L, M>>, AllocError>
+    ensures { IfOk result (λ jobs. map (λ job. job.work) jobs.items ≡ works.items) }
+{
+    let mut jobs = Vec::with_capacity(alloc, works.len())?;
+    for (place, work) in works.into_iter().enumerate() {
+        jobs.push(Job::of(alloc, place, work)?)?;
+    }
+    Ok(jobs)
+}
+
+/// Takes one step between the calls of the gate, and keeps its outcome. Whether the desk goes on.
+fn take_one<L: Ledger + Naming, M: Ledger, G: Gate, R: Wait>(
+    rt: &R,
+    office: &Office<L, M>,
+    alloc: Global,
+    gate: &G,
+    at: (usize, usize),
+    turn: &mut Turn<L, M>,
+    step: DeskStep,
+    outcomes: &mut Vec<Outcome<L>>,
+) -> bool
+    requires learnt { IsLearnt turn.old outcomes.old.items }
+    requires room { vec_len outcomes.old < vec_capacity outcomes.old }
+    ensures goes { (o : Told L) × Goes turn.old.state turn.new.state outcomes.old.items (string_bytes step.name) (step_of step.step) o
+        × (outcomes.new.items ≡ outcomes.old.items ++ o ∷ []) × (result ≡ not (is_no_memory o)) }
+    ensures learnt { IsLearnt turn.new outcomes.new.items }
+    ensures len { vec_len outcomes.new ≡ vec_len outcomes.old + 1 }
+    ensures room { vec_capacity outcomes.new ≡ vec_capacity outcomes.old }
+{
+    let (place, k) = at;
+    gate.before(place, k);
+    let outcome = turn.take(rt, office, alloc, step, outcomes.as_slice());
+    gate.after(place, k);
+    let goes_on = !outcome.is_no_memory();
+    outcomes.push_reserved(outcome);
+    goes_on
+}
+
+/// Takes the steps one after the other, up to the first want of memory.
+fn take_all<L: Ledger + Naming, M: Ledger, G: Gate, R: Wait>(
+    rt: &R,
+    office: &Office<L, M>,
+    alloc: Global,
+    gate: &G,
+    place: usize,
+    turn: &mut Turn<L, M>,
+    steps: Vec<DeskStep>,
+    outcomes: &mut Vec<Outcome<L>>,
+)
+    requires first { (outcomes.old.items ≡ []) × (turn.old.learnt ≡ 0) }
+    requires room { vec_len steps ≤ vec_capacity outcomes.old }
+    ensures { Runs turn.old.state turn.new.state [] steps.items outcomes.new.items }
+{
+    for (k, step) in steps.into_iter().enumerate() {
+        if !take_one(rt, office, alloc, gate, (place, k), turn, step, outcomes) {
+            break;
+        }
+    }
+}
+
+/// Does the work of one desk.
+fn run_desk<L: Ledger + Naming, M: Ledger, G: Gate, R: Wait>(
+    rt: &R,
+    office: &Office<L, M>,
+    alloc: Global,
+    gate: &G,
+    job: Job<L, M>,
+) -> Ran<L, M>
+    ensures { RanOf job.work result }
+{
+    let Job {
+        place,
+        work,
+        mut outcomes,
+    } = job;
+    let Work {
+        desk,
+        reviewer,
+        steps,
+    } = work;
+    let mut turn = Turn::new(alloc, desk, reviewer);
+    take_all(
+        rt,
+        office,
+        alloc,
+        gate,
+        place,
+        &mut turn,
+        steps,
+        &mut outcomes,
+    );
+    let (desk, reviewer) = turn.into_parts();
+    (desk, reviewer, outcomes)
+}
+
+/// Lets each desk take its steps in a thread of its own, and gives the works back in their places. Where no more threads can be made, desks take their steps one after the other. Where memory for a thread or for the outcomes is refused, the desks are gone: end the office by `Office::give_up`.
+pub fn run_desks<
+    L: Ledger + Naming + Send + Sync,
+    M: Ledger + Send + Sync,
+    G: Gate,
+    R: Threads + Wait + Sync,
+>(
+    rt: &R,
+    office: &Office<L, M>,
+    alloc: Global,
+    works: Vec<Work<L, M>>,
+    gate: &G,
+) -> Result<Vec<Ran<L, M>>, RunFault>
+    ensures { IfOk result (λ ran. EachRan works.items ran.items) }
+{
+    let jobs = jobs_of(alloc, works)?;
+    let run = |job: Job<L, M>| -> Ran<L, M>
+        requires { IsSync R.row }
+        ensures { RanOf job.work result }
+    { run_desk(rt, office, alloc, gate, job) };
+    Ok(thread::map_vec(rt, jobs, &run)?)
+}
