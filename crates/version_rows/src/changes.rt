@@ -1,6 +1,6 @@
 //! Changes: what is put, removed and declared in them, at once and in two parts.
 
-use anyhow::{Result, anyhow};
+use anyhow::Result;
 use filing_version::{Change, Put, ReadyDeclare, ReadyPut};
 use oim_fact::{Allowed, DimSet, Fact, FactValue};
 use std::alloc::{AllocError, Global};
@@ -31,52 +31,246 @@ const DECLARED_AGAIN: [Edit<'static>; 3] = [
     Edit::Put("r2", "a", Some("three")),
 ];
 
-/// The puts of that change after further edits.
-struct Further {
-    name: &'static str,
-    edits: &'static [Edit<'static>],
-    puts: &'static str,
+/// What a change is to be.
+#[derive(Clone, Copy)]
+enum Wanted {
+    /// It has these puts.
+    Puts(&'static str),
+    /// In a report under an identifier this text is put, `-` where what stands there is removed.
+    Staged(&'static str, &'static str, Option<&'static str>),
+    /// For a report this is declared.
+    Declared(&'static str, Option<Allowed>),
+    /// It stays where want of memory refuses a put, which is made when it is asked for again.
+    PutAgain,
+    /// It stays until what is ready is taken, and is then as it was to be.
+    Taken,
+    /// It takes hundreds of further puts.
+    Hundreds,
 }
 
-const FURTHER: [Further; 3] = [
-    Further {
-        name: "puts come in byte order",
-        edits: &[],
-        puts: SOME_PUTS,
-    },
-    Further {
-        name: "a later put takes the place of an earlier one",
-        edits: &[
+/// A name, further edits, and what the change is to be after them.
+type Row = (&'static str, &'static [Edit<'static>], Wanted);
+
+const ROWS: [Row; 14] = [
+    ("puts come in byte order", &[], Wanted::Puts(SOME_PUTS)),
+    (
+        "a later put takes the place of an earlier one",
+        &[
             Edit::Put("r1", "b", None),
             Edit::Put("r1", "a", Some("three")),
         ],
-        puts: "r1/a=three r1/b=- r3/a=one ",
-    },
-    Further {
-        name: "a declared value and puts leave one another",
-        edits: &DECLARED_AGAIN,
-        puts: "r1/a=- r1/b=two r2/a=three r3/a=one ",
-    },
-];
-
-/// What is staged in that change: a report, an identifier, and the text that is put there, `-` where it is removed, or none.
-const STAGED: [(&str, &str, Option<&str>); 5] = [
-    ("r1", "a", Some("-")),
-    ("r1", "b", Some("two")),
-    ("r1", "c", None),
-    ("r2", "a", None),
-    ("r4", "a", None),
-];
-
-/// What is declared after further declarations.
-const DECLARED: [(&str, Option<Allowed>); 3] = [
-    ("r1", Some(Allowed::Never)),
-    ("r2", Some(Allowed::All)),
-    ("r3", None),
+        Wanted::Puts("r1/a=three r1/b=- r3/a=one "),
+    ),
+    (
+        "a declared value and puts leave one another",
+        &DECLARED_AGAIN,
+        Wanted::Puts("r1/a=- r1/b=two r2/a=three r3/a=one "),
+    ),
+    ("staged", &[], Wanted::Staged("r1", "a", Some("-"))),
+    ("staged", &[], Wanted::Staged("r1", "b", Some("two"))),
+    ("staged", &[], Wanted::Staged("r1", "c", None)),
+    ("staged", &[], Wanted::Staged("r2", "a", None)),
+    ("staged", &[], Wanted::Staged("r4", "a", None)),
+    (
+        "declared",
+        &DECLARED_AGAIN,
+        Wanted::Declared("r1", Some(Allowed::Never)),
+    ),
+    (
+        "declared",
+        &DECLARED_AGAIN,
+        Wanted::Declared("r2", Some(Allowed::All)),
+    ),
+    ("declared", &DECLARED_AGAIN, Wanted::Declared("r3", None)),
+    ("a refused put leaves the change", &[], Wanted::PutAgain),
+    (
+        "what is ready changes nothing until it is taken",
+        &[],
+        Wanted::Taken,
+    ),
+    ("hundreds of puts are all there", &[], Wanted::Hundreds),
 ];
 
 /// So many facts are put under rising identifiers.
 const NUMBERS: u64 = 300;
+
+/// A fact of these dimensions with a text.
+fn make_fact(alloc: Global, dims: &DimSet, text: &str) -> Result<Arc<Fact>, AllocError> {
+    let value = FactValue::Text(String::from_str(alloc, text)?);
+    let dims = dims.clone()?;
+    let links = None;
+    Ok(Arc::new(alloc, Fact { dims, value, links })?)
+}
+
+/// Puts a fact with a text.
+fn put(
+    alloc: Global,
+    dims: &DimSet,
+    change: &mut Change,
+    report: &str,
+    id: &str,
+    text: &str,
+) -> Result<(), AllocError> {
+    let fact = make_fact(alloc, dims, text)?;
+    change.put(report, String::from_str(alloc, id)?, Some(fact))
+}
+
+/// Makes edits in turn.
+fn make_all(
+    alloc: Global,
+    dims: &DimSet,
+    change: &mut Change,
+    edits: &[Edit<'_>],
+) -> Result<(), AllocError> {
+    for edit in edits {
+        match *edit {
+            Edit::Put(report, id, Some(text)) => put(alloc, dims, change, report, id, text)?,
+            Edit::Put(report, id, None) => {
+                change.put(report, String::from_str(alloc, id)?, None)?;
+            }
+            Edit::Declare(report, allowed) => change.declare(report, allowed)?,
+        }
+    }
+    Ok(())
+}
+
+/// The text of a fact, or `-` where it is removed.
+fn text_of(fact: Option<&Arc<Fact>>) -> &str {
+    match fact {
+        None => "-",
+        Some(fact) => match &fact.value {
+            FactValue::Text(text) => text,
+            FactValue::Nil | FactValue::Number { .. } => "",
+        },
+    }
+}
+
+/// The puts of a change, one after another.
+fn puts_text(alloc: Global, change: &Change) -> Result<String, AllocError> {
+    let mut texts = String::new(alloc);
+    for (report, id, fact) in change.puts() {
+        let text = text_of(fact);
+        write!(texts, "{report}/{id}={text} ")?;
+    }
+    Ok(texts)
+}
+
+/// Whether a change has these puts.
+fn has_puts(alloc: Global, change: &Change, puts: &str) -> Result<bool, AllocError> {
+    let texts = puts_text(alloc, change)?;
+    Ok(texts.as_str() == puts)
+}
+
+/// Whether what is put at an identifier has this text.
+fn has_staged(change: &Change, report: &str, id: &str, text: Option<&str>) -> bool {
+    match change.staged(report, id) {
+        Some(fact) => text == Some(text_of(fact)),
+        None => text.is_none(),
+    }
+}
+
+/// Whether a change has these puts, and declares this for the report of the last.
+fn has_both(
+    alloc: Global,
+    change: &Change,
+    puts: &str,
+    declared: Option<Allowed>,
+) -> Result<bool, AllocError> {
+    Ok(change.declared("r3") == declared && has_puts(alloc, change, puts)?)
+}
+
+/// Whether the change stays until a removal and a declaration that are ready are taken, and is then as it was to be.
+fn takes_both(
+    alloc: Global,
+    change: &mut Change,
+    removal: ReadyPut,
+    declaration: ReadyDeclare,
+) -> Result<bool, AllocError> {
+    let is_left = has_both(alloc, change, SOME_PUTS, None)?;
+    change.take(removal);
+    let is_removed = has_both(alloc, change, "r1/a=- r1/b=two r3/a=- ", None)?;
+    change.take_declare(declaration);
+    let is_declared = has_both(alloc, change, SOME_PUTS, Some(Allowed::All))?;
+    Ok(is_left && is_removed && is_declared)
+}
+
+/// The same of both made ready for one report.
+fn is_taken(alloc: Global, change: &mut Change) -> Result<bool, AllocError> {
+    let declaration = change.ready_declare("r3", Allowed::All)?;
+    let removal = change.ready("r3", String::from_str(alloc, "a")?, None)?;
+    takes_both(alloc, change, removal, declaration)
+}
+
+/// Puts a fact, once more where want of memory refused it. Whether that left the change.
+fn put_at_last(alloc: Global, dims: &DimSet, change: &mut Change) -> Result<bool, AllocError> {
+    if put(alloc, dims, change, "r3", "b", "four").is_ok() {
+        return Ok(true);
+    }
+    let is_left = has_puts(alloc, change, SOME_PUTS)?;
+    put(alloc, dims, change, "r3", "b", "four")?;
+    Ok(is_left)
+}
+
+/// Whether a refused put leaves the change, and is made when it is asked for again.
+fn is_put_again(alloc: Global, dims: &DimSet, change: &mut Change) -> Result<bool, AllocError> {
+    let is_left = put_at_last(alloc, dims, change)?;
+    let is_put = has_puts(alloc, change, "r1/a=- r1/b=two r3/a=one r3/b=four ")?;
+    Ok(is_left && is_put)
+}
+
+/// Puts a fact under the identifier of a number below 1,000, which is its text too. Identifiers rise as the numbers do.
+fn put_number(
+    alloc: Global,
+    dims: &DimSet,
+    change: &mut Change,
+    number: u64,
+) -> Result<(), AllocError> {
+    let id = format!(in alloc; "{number:03}")?;
+    put(alloc, dims, change, "r4", &id, &id)
+}
+
+/// The puts of that change and of all numbers.
+fn numbers_text(alloc: Global) -> Result<String, AllocError> {
+    let mut texts = String::from_str(alloc, SOME_PUTS)?;
+    for number in 0..NUMBERS {
+        write!(texts, "r4/{number:03}={number:03} ")?;
+    }
+    Ok(texts)
+}
+
+/// Whether the change has hundreds of further puts once they are made.
+fn has_hundreds(alloc: Global, dims: &DimSet, change: &mut Change) -> Result<bool, AllocError> {
+    for turn in 0..NUMBERS {
+        put_number(alloc, dims, change, turn.wrapping_mul(7) % NUMBERS)?;
+    }
+    let expected = numbers_text(alloc)?;
+    has_puts(alloc, change, &expected)
+}
+
+/// Whether a change is as it is to be.
+fn is_as_wanted(
+    alloc: Global,
+    dims: &DimSet,
+    change: &mut Change,
+    wanted: Wanted,
+) -> Result<bool, AllocError> {
+    match wanted {
+        Wanted::Puts(puts) => has_puts(alloc, change, puts),
+        Wanted::Staged(report, id, text) => Ok(has_staged(change, report, id, text)),
+        Wanted::Declared(report, allowed) => Ok(change.declared(report) == allowed),
+        Wanted::PutAgain => is_put_again(alloc, dims, change),
+        Wanted::Taken => is_taken(alloc, change),
+        Wanted::Hundreds => has_hundreds(alloc, dims, change),
+    }
+}
+
+/// Whether the change of a row is as it is to be.
+fn is_as_written(alloc: Global, dims: &DimSet, row: &Row) -> Result<bool, AllocError> {
+    let mut change = Change::new(alloc);
+    make_all(alloc, dims, &mut change, &SOME)?;
+    make_all(alloc, dims, &mut change, row.1)?;
+    is_as_wanted(alloc, dims, &mut change, row.2)
+}
 
 /// How many answers were looked at, and how many of them differ.
 #[derive(Clone, Copy)]
@@ -97,247 +291,16 @@ impl Seen {
     }
 }
 
-/// The dimensions of all facts.
-fn dims(alloc: Global) -> Result<DimSet> {
-    let mut pairs = Vec::new(alloc);
-    let concept = String::from_str(alloc, "ex:Name")?;
-    pairs.push((String::from_str(alloc, "concept")?, Some(concept)))?;
-    match DimSet::of(pairs) {
-        Ok(dims) => Ok(dims),
-        Err(_) => Err(anyhow!("no dimension set")),
-    }
-}
-
-/// A fact of one concept with this text.
-fn make_fact(alloc: Global, text: &str) -> Result<Arc<Fact>> {
-    let dims = dims(alloc)?;
-    let value = FactValue::Text(String::from_str(alloc, text)?);
-    let links = None;
-    Ok(Arc::new(alloc, Fact { dims, value, links })?)
-}
-
-/// Puts a fact with a text, or removes what stands there.
-fn put(
-    alloc: Global,
-    change: &mut Change,
-    report: &str,
-    id: &str,
-    text: Option<&str>,
-) -> Result<()> {
-    let fact = match text {
-        None => None,
-        Some(text) => Some(make_fact(alloc, text)?),
-    };
-    Ok(change.put(report, String::from_str(alloc, id)?, fact)?)
-}
-
-/// Makes edits in turn.
-fn make_all(alloc: Global, change: &mut Change, edits: &[Edit<'_>]) -> Result<()> {
-    for edit in edits {
-        match *edit {
-            Edit::Put(report, id, text) => put(alloc, change, report, id, text)?,
-            Edit::Declare(report, allowed) => change.declare(report, allowed)?,
-        }
-    }
-    Ok(())
-}
-
-/// That change after further edits.
-fn some_change(alloc: Global, further: &[Edit<'_>]) -> Result<Change> {
-    let mut change = Change::new(alloc);
-    make_all(alloc, &mut change, &SOME)?;
-    make_all(alloc, &mut change, further)?;
-    Ok(change)
-}
-
-/// The text of a fact, or `-` where it is removed.
-fn text_of(fact: Option<&Arc<Fact>>) -> &str {
-    match fact {
-        None => "-",
-        Some(fact) => match &fact.value {
-            FactValue::Text(text) => text,
-            FactValue::Nil | FactValue::Number { .. } => "",
-        },
-    }
-}
-
-fn push_put(texts: &mut String, put: Put<'_>) -> Result<(), AllocError> {
-    let (report, id, fact) = put;
-    for text in [report, "/", id, "=", text_of(fact), " "] {
-        texts.push_str(text)?;
-    }
-    Ok(())
-}
-
-/// The puts of a change, one after another.
-fn puts_text(alloc: Global, change: &Change) -> Result<String, AllocError> {
-    let mut texts = String::new(alloc);
-    for put in change.puts() {
-        push_put(&mut texts, put)?;
-    }
-    Ok(texts)
-}
-
-/// Whether a change has these puts.
-fn has_puts(alloc: Global, change: &Change, puts: &str) -> Result<bool, AllocError> {
-    let texts = puts_text(alloc, change)?;
-    Ok(texts.as_str() == puts)
-}
-
-/// Whether the change has its puts after further edits.
-fn has_further(alloc: Global, further: &Further) -> Result<bool> {
-    let change = some_change(alloc, further.edits)?;
-    Ok(has_puts(alloc, &change, further.puts)?)
-}
-
-fn compare_further<R: Print + AllocGlobal>(rt: &R, seen: &mut Seen) -> Result<()> {
-    for further in &FURTHER {
-        let is_same = has_further(rt.alloc(), further)?;
-        seen.note(rt, further.name, is_same)?;
-    }
-    Ok(())
-}
-
-fn compare_staged<R: Print + AllocGlobal>(rt: &R, seen: &mut Seen) -> Result<()> {
-    let change = some_change(rt.alloc(), &[])?;
-    for (report, id, text) in STAGED {
-        seen.note(rt, "staged", change.staged(report, id).map(text_of) == text)?;
-    }
-    Ok(())
-}
-
-fn compare_declared<R: Print + AllocGlobal>(rt: &R, seen: &mut Seen) -> Result<()> {
-    let change = some_change(rt.alloc(), &DECLARED_AGAIN)?;
-    for (report, allowed) in DECLARED {
-        seen.note(rt, "declared", change.declared(report) == allowed)?;
-    }
-    Ok(())
-}
-
-/// A removal and a declaration of one report, ready to be taken.
-fn ready_both(alloc: Global, change: &Change) -> Result<(ReadyPut, ReadyDeclare), AllocError> {
-    let removal = change.ready("r3", String::from_str(alloc, "a")?, None)?;
-    Ok((removal, change.ready_declare("r3", Allowed::All)?))
-}
-
-/// Whether a change has these puts, and declares this for the report of the last.
-fn has_both(
-    alloc: Global,
-    change: &Change,
-    puts: &str,
-    declared: Option<Allowed>,
-) -> Result<bool, AllocError> {
-    Ok(change.declared("r3") == declared && has_puts(alloc, change, puts)?)
-}
-
-/// Whether the change stays until what is ready is taken, and is then as it was to be.
-fn takes_both(alloc: Global, change: &mut Change) -> Result<bool, AllocError> {
-    let (removal, declaration) = ready_both(alloc, change)?;
-    let is_left = has_both(alloc, change, SOME_PUTS, None)?;
-    change.take(removal);
-    let is_removed = has_both(alloc, change, "r1/a=- r1/b=two r3/a=- ", None)?;
-    change.take_declare(declaration);
-    let is_declared = has_both(alloc, change, SOME_PUTS, Some(Allowed::All))?;
-    Ok(is_left && is_removed && is_declared)
-}
-
-/// Puts a fact that is there.
-fn put_fact(alloc: Global, change: &mut Change, fact: &Arc<Fact>) -> Result<(), AllocError> {
-    let id = String::from_str(alloc, "b")?;
-    change.put("r3", id, Some(fact.clone()?))
-}
-
-/// Puts a fact, once more where want of memory refused it. Whether that left the change.
-fn put_at_last(alloc: Global, change: &mut Change, fact: &Arc<Fact>) -> Result<bool, AllocError> {
-    if put_fact(alloc, change, fact).is_ok() {
-        return Ok(true);
-    }
-    let is_left = has_puts(alloc, change, SOME_PUTS)?;
-    put_fact(alloc, change, fact)?;
-    Ok(is_left)
-}
-
-/// Whether a refused put leaves the change, and is made when it is asked for again.
-fn puts_again(alloc: Global, change: &mut Change) -> Result<bool> {
-    let fact = make_fact(alloc, "four")?;
-    let is_left = put_at_last(alloc, change, &fact)?;
-    let is_put = has_puts(alloc, change, "r1/a=- r1/b=two r3/a=one r3/b=four ")?;
-    Ok(is_left && is_put)
-}
-
-/// Whether a put that is refused memory leaves the change of rows.
-fn is_put_again(alloc: Global) -> Result<bool> {
-    let mut change = some_change(alloc, &[])?;
-    puts_again(alloc, &mut change)
-}
-
-/// Whether what is ready leaves the change of rows.
-fn is_taken(alloc: Global) -> Result<bool> {
-    let mut change = some_change(alloc, &[])?;
-    Ok(takes_both(alloc, &mut change)?)
-}
-
-fn compare_parts<R: Print + AllocGlobal>(rt: &R, seen: &mut Seen) -> Result<()> {
-    let is_put = is_put_again(rt.alloc())?;
-    seen.note(rt, "a refused put leaves the change", is_put)?;
-    let is_taken = is_taken(rt.alloc())?;
-    seen.note(
-        rt,
-        "what is ready changes nothing until it is taken",
-        is_taken,
-    )
-}
-
-/// The identifier of a number below 1,000, as the numbers rise.
-fn identifier(alloc: Global, number: u64) -> Result<String, AllocError> {
-    format!(in alloc; "{number:03}")
-}
-
-/// Puts a fact under the identifier of a number, which is its text too.
-fn put_number(alloc: Global, change: &mut Change, number: u64) -> Result<()> {
-    let id = identifier(alloc, number)?;
-    put(alloc, change, "r1", &id, Some(&id))
-}
-
-/// Whether a put is that of a number.
-fn is_number(alloc: Global, put: Put<'_>, number: u64) -> Result<bool, AllocError> {
-    let (_, id, fact) = put;
-    let expected = identifier(alloc, number)?;
-    Ok(expected.as_str() == id && expected.as_str() == text_of(fact))
-}
-
-/// Whether the puts of a change are those of all numbers.
-fn has_numbers(alloc: Global, change: &Change) -> Result<bool, AllocError> {
-    let mut next = 0u64;
-    for put in change.puts() {
-        if !is_number(alloc, put, next)? {
-            return Ok(false);
-        }
-        next = next.wrapping_add(1);
-    }
-    Ok(next == NUMBERS)
-}
-
-fn compare_numbers<R: Print + AllocGlobal>(rt: &R, seen: &mut Seen) -> Result<()> {
-    let mut change = Change::new(rt.alloc());
-    for turn in 0..NUMBERS {
-        put_number(rt.alloc(), &mut change, turn.wrapping_mul(7) % NUMBERS)?;
-    }
-    let is_same = has_numbers(rt.alloc(), &change)?;
-    seen.note(rt, "hundreds of puts are all there", is_same)
-}
-
-/// Compares changes with what is written of them.
-pub(crate) fn compare_changes<R: Print + AllocGlobal>(rt: &R) -> Result<()> {
+/// Compares changes with what is written of them. Their facts have these dimensions.
+pub(crate) fn compare_changes<R: Print + AllocGlobal>(rt: &R, dims: &DimSet) -> Result<()> {
     let mut seen = Seen {
         answers: 0,
         differing: 0,
     };
-    compare_further(rt, &mut seen)?;
-    compare_staged(rt, &mut seen)?;
-    compare_declared(rt, &mut seen)?;
-    compare_parts(rt, &mut seen)?;
-    compare_numbers(rt, &mut seen)?;
+    for row in &ROWS {
+        let is_same = is_as_written(rt.alloc(), dims, row)?;
+        seen.note(rt, row.0, is_same)?;
+    }
     let (answers, differing) = (seen.answers, seen.differing);
     println!(rt; "changes: {answers} answers, {differing} differ")?;
     Ok(())

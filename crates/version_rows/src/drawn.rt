@@ -9,6 +9,24 @@ use std::alloc::{AllocError, Global};
 /// How many scripts are drawn.
 const SCRIPTS: u64 = 24;
 
+/// A word of a line that is drawn.
+#[derive(Clone, Copy)]
+enum Word {
+    Report,
+    Id,
+    /// An identifier, or that none is given.
+    Bound,
+    Fact,
+    Allowed,
+    Concept,
+    Period,
+    /// The number of a version.
+    Number,
+}
+
+/// The first word of a line, and those behind it.
+type Shape = (&'static str, &'static [Word]);
+
 /// The kinds of lines that are answered.
 const KINDS: [&str; 13] = [
     "commit",
@@ -25,6 +43,37 @@ const KINDS: [&str; 13] = [
     "stamp-range",
     "stamp-policy",
 ];
+
+const RANGE: [Word; 5] = [
+    Word::Report,
+    Word::Concept,
+    Word::Period,
+    Word::Bound,
+    Word::Bound,
+];
+
+/// What is drawn between commits, as often as its line stands here.
+const BETWEEN: [Shape; 13] = [
+    ("at", &[Word::Number]),
+    ("at", &[Word::Number]),
+    ("get", &[Word::Report, Word::Id]),
+    ("cell", &[Word::Report, Word::Fact]),
+    ("query", &RANGE),
+    ("allowed", &[Word::Report]),
+    ("report", &[Word::Report]),
+    ("disallowed", &[Word::Report]),
+    ("stamp-report", &[Word::Report]),
+    ("stamp-id", &[Word::Report, Word::Id]),
+    ("stamp-cell", &[Word::Report, Word::Fact]),
+    ("stamp-range", &RANGE),
+    ("stamp-policy", &[Word::Report]),
+];
+
+const PUT: Shape = ("put", &[Word::Report, Word::Id, Word::Fact]);
+
+const REMOVE: Shape = ("remove", &[Word::Report, Word::Id]);
+
+const DECLARE: Shape = ("declare", &[Word::Report, Word::Allowed]);
 
 const REPORTS: [&str; 4] = ["r1", "r2", "r3", "r4"];
 
@@ -61,20 +110,33 @@ impl Drawn {
         (self.state >> 33) % bound.max(1)
     }
 
-    /// One of some words.
-    fn word(&mut self, words: &[&'static str]) -> &'static str {
-        let place = self.below(words.len() as u64) as usize;
-        words.get(place).map_or("", |word| *word)
+    /// One of some.
+    fn one_of<'a, T>(&mut self, all: &'a [T]) -> Option<&'a T> {
+        let place = self.below(all.len() as u64) as usize;
+        all.get(place)
     }
 
-    fn fact<'a>(&mut self, pool: &Pool<'a>) -> &'a str {
-        let place = self.below(pool.len() as u64) as usize;
-        pool.name(place)
+    /// One of some words.
+    fn word(&mut self, words: &[&'static str]) -> &'static str {
+        match self.one_of(words) {
+            Some(word) => *word,
+            None => "",
+        }
+    }
+
+    /// The name of a fact.
+    fn fact<'a>(&mut self, pool: &'a Pool) -> &'a str {
+        match self.one_of(&pool.facts) {
+            Some(named) => named.name.as_str(),
+            None => "",
+        }
     }
 
     fn allowed(&mut self) -> &'static str {
-        let place = self.below(4) as usize;
-        ALLOWED.get(place).map_or("", |named| named.0)
+        match self.one_of(&ALLOWED) {
+            Some(named) => named.0,
+            None => "",
+        }
     }
 
     /// The first report most often.
@@ -86,81 +148,72 @@ impl Drawn {
         }
     }
 
-    fn put_fact(&mut self, pool: &Pool<'_>, report: &str) -> Result<(), AllocError> {
+    fn put_id(&mut self) -> Result<(), AllocError> {
         let id = self.below(self.ids);
-        let fact = self.fact(pool);
-        writeln!(self.text, "put {report} f{id:03} {fact}")
+        write!(self.text, "f{id:03}")
+    }
+
+    /// Draws a word of a line about a report.
+    fn put_word(&mut self, pool: &Pool, report: &str, word: Word) -> Result<(), AllocError> {
+        let drawn = match word {
+            Word::Report => report,
+            Word::Fact => self.fact(pool),
+            Word::Allowed => self.allowed(),
+            Word::Concept => self.word(&CONCEPTS),
+            Word::Period => self.word(&PERIODS),
+            Word::Bound if self.below(3) == 0 => "-",
+            Word::Bound | Word::Id => return self.put_id(),
+            Word::Number => {
+                let number = self.below(14);
+                return write!(self.text, "{number}");
+            }
+        };
+        self.text.push_str(drawn)
+    }
+
+    /// Draws a line about a report.
+    fn put_line(&mut self, pool: &Pool, report: &str, shape: Shape) -> Result<(), AllocError> {
+        self.text.push_str(shape.0)?;
+        for word in shape.1 {
+            self.text.push_str(" ")?;
+            self.put_word(pool, report, *word)?;
+        }
+        self.text.push_str("\n")
     }
 
     fn put_load(
         &mut self,
-        pool: &Pool<'_>,
+        pool: &Pool,
         report: &str,
         allowed: &str,
         most: u64,
     ) -> Result<(), AllocError> {
         for _ in 0..self.below(most) {
-            self.put_fact(pool, report)?;
+            self.put_line(pool, report, PUT)?;
         }
         writeln!(self.text, "load {report} {allowed}")
     }
 
-    fn put_edit(&mut self, pool: &Pool<'_>) -> Result<(), AllocError> {
+    fn put_edit(&mut self, pool: &Pool) -> Result<(), AllocError> {
         let report = self.report();
-        match self.below(12) {
-            0 => {
-                let allowed = self.allowed();
-                writeln!(self.text, "declare {report} {allowed}")
-            }
-            1..=4 => {
-                let id = self.below(self.ids);
-                writeln!(self.text, "remove {report} f{id:03}")
-            }
-            _ => self.put_fact(pool, report),
-        }
+        let shape = match self.below(12) {
+            0 => DECLARE,
+            1..=4 => REMOVE,
+            _ => PUT,
+        };
+        self.put_line(pool, report, shape)
     }
 
-    /// An identifier, or that none is given, behind a space.
-    fn put_bound(&mut self) -> Result<(), AllocError> {
-        if self.below(3) == 0 {
-            return self.text.push_str(" -");
-        }
-        let id = self.below(self.ids);
-        write!(self.text, " f{id:03}")
-    }
-
-    fn put_range(&mut self, kind: &str, report: &str) -> Result<(), AllocError> {
-        let concept = self.word(&CONCEPTS);
-        let period = self.word(&PERIODS);
-        write!(self.text, "{kind} {report} {concept} {period}")?;
-        self.put_bound()?;
-        self.put_bound()?;
-        self.text.push_str("\n")
-    }
-
-    fn put_question(&mut self, pool: &Pool<'_>) -> Result<(), AllocError> {
+    fn put_question(&mut self, pool: &Pool) -> Result<(), AllocError> {
         let report = self.report();
-        let kind = self.word(&KINDS);
-        match kind {
-            "commit" | "try" => {
-                let number = self.below(14);
-                writeln!(self.text, "at {number}")
-            }
-            "get" | "stamp-id" => {
-                let id = self.below(self.ids);
-                writeln!(self.text, "{kind} {report} f{id:03}")
-            }
-            "cell" | "stamp-cell" => {
-                let fact = self.fact(pool);
-                writeln!(self.text, "{kind} {report} {fact}")
-            }
-            "query" | "stamp-range" => self.put_range(kind, report),
-            _ => writeln!(self.text, "{kind} {report}"),
+        match self.one_of(&BETWEEN) {
+            Some(shape) => self.put_line(pool, report, *shape),
+            None => Ok(()),
         }
     }
 
     /// A commit of up to so many edits, and questions.
-    fn put_commit(&mut self, pool: &Pool<'_>, word: &str, most: u64) -> Result<(), AllocError> {
+    fn put_commit(&mut self, pool: &Pool, word: &str, most: u64) -> Result<(), AllocError> {
         for _ in 0..self.below(most).wrapping_add(1) {
             self.put_edit(pool)?;
         }
@@ -171,47 +224,47 @@ impl Drawn {
         Ok(())
     }
 
-    /// Loads, and many commits. In each second script only what is allowed is kept, and changes are small.
-    fn put_script(&mut self, pool: &Pool<'_>, number: u64) -> Result<(), AllocError> {
+    /// So many commits. In each second script only what is allowed is kept, and changes are small.
+    fn put_commits(&mut self, pool: &Pool, number: u64, count: u64) -> Result<(), AllocError> {
         let (word, most) = if number % 2 == 0 {
             ("commit", 40)
         } else {
             ("try", 5)
         };
+        for _ in 0..count {
+            self.put_commit(pool, word, most)?;
+        }
+        Ok(())
+    }
+
+    /// Loads, and many commits.
+    fn put_script(&mut self, pool: &Pool, number: u64) -> Result<(), AllocError> {
         if number % 4 == 1 {
             self.put_load(pool, "r1", "consistent", 3)?;
         } else {
             self.put_load(pool, "r1", "all", 300)?;
         }
-        self.put_commit(pool, word, most)?;
+        self.put_commits(pool, number, 1)?;
         let allowed = self.allowed();
         self.put_load(pool, "r2", allowed, 3)?;
-        for _ in 0..5u64 {
-            self.put_commit(pool, word, most)?;
-        }
+        self.put_commits(pool, number, 5)?;
         self.put_load(pool, "r3", "complete", 2)?;
-        for _ in 0..3u64 {
-            self.put_commit(pool, word, most)?;
-        }
-        Ok(())
+        self.put_commits(pool, number, 3)
     }
 }
 
-/// How many answers there were of each kind, and how many of them told something.
+/// How many answers of a kind there were, and how many of them told something.
+#[derive(Clone, Copy)]
+struct Count {
+    asked: u64,
+    telling: u64,
+}
+
+/// The counts of all kinds, and how many answers differed.
 #[derive(Clone, Copy)]
 struct Tally {
-    asked: [u64; 13],
-    telling: [u64; 13],
+    counts: [Count; 13],
     differing: u64,
-}
-
-/// Counts one more of a kind.
-fn count(counts: &mut [u64; 13], kind: &str) {
-    for (count, other) in counts.iter_mut().zip(KINDS.iter()) {
-        if *other == kind {
-            *count = count.wrapping_add(1);
-        }
-    }
 }
 
 /// Whether an answer is not that there is nothing.
@@ -221,62 +274,59 @@ fn tells_something(told: &str) -> bool {
 
 impl Tally {
     fn take(&mut self, kind: &str, session: &Session<'_>) {
-        count(&mut self.asked, kind);
-        if tells_something(&session.told) {
-            count(&mut self.telling, kind);
+        for (count, other) in self.counts.iter_mut().zip(KINDS) {
+            if other == kind {
+                count.asked = count.asked.wrapping_add(1);
+                let telling = u64::from(tells_something(&session.told));
+                count.telling = count.telling.wrapping_add(telling);
+            }
         }
-        if !session.agrees() {
-            self.differing = self.differing.wrapping_add(1);
-        }
+        let differing = u64::from(!session.agrees());
+        self.differing = self.differing.wrapping_add(differing);
     }
 }
 
 /// Takes the lines of a script, and compares each answer.
-fn compare_script<R: Print + AllocGlobal>(
+fn compare_script<'a, R: Print + AllocGlobal>(
     rt: &R,
-    pool: &Pool<'_>,
+    pool: &'a Pool,
     number: u64,
-    script: &str,
+    script: &'a str,
     tally: &mut Tally,
 ) -> Result<()> {
     let mut session = Session::new(rt.alloc())?;
-    for line in script.split('\n') {
-        if !line.is_empty() {
-            session.take(rt.alloc(), pool, line)?;
-            tally.take(kind_of(line), &session);
-            tell_difference(rt, number, line, &session)?;
+    for line in script.lines() {
+        session.take(rt.alloc(), pool, line)?;
+        tally.take(kind_of(line), &session);
+        if !session.agrees() {
+            println!(rt; "script {number}")?;
+            session.tell(rt, "drawn", line)?;
         }
-    }
-    Ok(())
-}
-
-/// Tells a line whose answers differ.
-fn tell_difference<R: Print>(rt: &R, number: u64, line: &str, session: &Session<'_>) -> Result<()> {
-    if !session.agrees() {
-        let told = session.told.as_str();
-        let slowly = session.told_slowly.as_str();
-        println!(rt; "script {number}: {line}: {told}, slowly {slowly}")?;
     }
     Ok(())
 }
 
 /// Draws scripts, and compares each answer.
-pub(crate) fn compare_drawn<R: Print + AllocGlobal>(
+pub(crate) fn compare_drawn<'a, R: Print + AllocGlobal>(
     rt: &R,
-    pool: &Pool<'_>,
+    pool: &'a Pool,
     seed: u64,
 ) -> Result<()> {
+    let none = Count {
+        asked: 0,
+        telling: 0,
+    };
     let mut tally = Tally {
-        asked: [0; 13],
-        telling: [0; 13],
+        counts: [none; 13],
         differing: 0,
     };
     for number in 0..SCRIPTS {
         let mut drawn = Drawn::new(rt.alloc(), seed.wrapping_add(number));
         drawn.put_script(pool, number)?;
-        compare_script(rt, pool, number, &drawn.text, &mut tally)?;
+        compare_script(rt, &*pool, number, &drawn.text, &mut tally)?;
     }
-    for ((kind, asked), telling) in KINDS.iter().zip(tally.asked).zip(tally.telling) {
+    for (kind, count) in KINDS.iter().zip(tally.counts) {
+        let Count { asked, telling } = count;
         println!(rt; "{kind}: {asked} drawn, of {telling} something is told")?;
     }
     let differing = tally.differing;

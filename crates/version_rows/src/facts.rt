@@ -1,8 +1,9 @@
 //! The facts of which rows and drawn lines speak, by their names.
 
-use anyhow::{Result, anyhow};
-use oim_fact::{DimSet, Fact, Names, NumericTable, fit};
+use anyhow::Result;
+use oim_fact::{Fact, Names, NumericTable, fit};
 use oim_report::{json_value, raw_fact, read_report, read_table};
+use serde_json::Value;
 use std::alloc::Global;
 use std::sync::Arc;
 
@@ -13,73 +14,64 @@ const NUMERIC: &str = "http://e.org/t Assets";
 const FITTED: &str =
     r#"{"documentInfo":{"documentType":"https://xbrl.org/2021/xbrl-json","namespaces":{"ex":"http://e.org/t"}}}"#;
 
-/// Facts, each with its name and its JSON text.
+/// A fact with its name and its JSON text.
 #[derive(Drop)]
-pub(crate) struct Pool<'a> {
-    lines: Vec<(&'a str, &'a str)>,
-    facts: Vec<Arc<Fact>>,
+pub(crate) struct Named {
+    pub(crate) name: String,
+    pub(crate) text: String,
+    pub(crate) fact: Arc<Fact>,
+}
+
+/// The facts in the order of their text, and the table by which reports are read.
+#[derive(Drop)]
+pub(crate) struct Pool {
+    pub(crate) facts: Vec<Named>,
     pub(crate) table: Arc<NumericTable>,
 }
 
 /// The fact of a text.
 fn read_fact(alloc: Global, names: &Names, text: &str) -> Result<Arc<Fact>> {
-    match json_value(alloc, text.as_bytes())? {
-        Some(value) => Ok(Arc::new(alloc, fit(names, raw_fact(alloc, &value)?)?)?),
-        None => Err(anyhow!("no fact: {text}")),
-    }
+    let value = json_value(alloc, text.as_bytes())?.unwrap_or(Value::Null);
+    let raw = raw_fact(alloc, &value)?;
+    Ok(Arc::new(alloc, fit(names, raw)?)?)
 }
 
-impl<'a> Pool<'a> {
-    fn new(alloc: Global) -> Result<Pool<'a>> {
-        let table = Arc::new(alloc, read_table(alloc, NUMERIC)?)?;
-        Ok(Pool {
-            lines: Vec::new(alloc),
-            facts: Vec::new(alloc),
-            table,
-        })
-    }
+/// A fact of its name and its text.
+fn read_named(alloc: Global, names: &Names, name: &str, text: &str) -> Result<Named> {
+    Ok(Named {
+        name: String::from_str(alloc, name)?,
+        text: String::from_str(alloc, text)?,
+        fact: read_fact(alloc, names, text)?,
+    })
+}
 
-    fn push(&mut self, alloc: Global, names: &Names, name: &'a str, text: &'a str) -> Result<()> {
-        let fact = read_fact(alloc, names, text)?;
-        self.lines.push((name, text))?;
-        self.facts.push(fact)?;
-        Ok(())
+/// The facts of a text, each on a line with its name before it.
+fn read_facts(alloc: Global, names: &Names, text: &str) -> Result<Vec<Named>> {
+    let mut facts = Vec::new(alloc);
+    for line in text.lines() {
+        if let Some((name, fact)) = line.split_once(' ') {
+            facts.push(read_named(alloc, names, name, fact)?)?;
+        }
     }
+    Ok(facts)
+}
 
+impl Pool {
     /// The facts of a text, each on a line with its name before it.
-    pub(crate) fn read(alloc: Global, text: &'a str) -> Result<Pool<'a>> {
-        let mut pool = Pool::new(alloc)?;
-        let report = read_report(alloc, FITTED.as_bytes(), &pool.table)?;
-        for line in text.split('\n') {
-            if let Some((name, fact)) = line.split_once(' ') {
-                pool.push(alloc, report.names(), name, fact)?;
+    pub(crate) fn read(alloc: Global, text: &str) -> Result<Pool> {
+        let table = Arc::new(alloc, read_table(alloc, NUMERIC)?)?;
+        let report = read_report(alloc, FITTED.as_bytes(), &table)?;
+        let facts = read_facts(alloc, report.names(), text)?;
+        Ok(Pool { facts, table })
+    }
+
+    /// The fact of this name.
+    pub(crate) fn find(&self, name: &str) -> Option<&Named> {
+        for named in &self.facts {
+            if named.name.as_str() == name {
+                return Some(named);
             }
         }
-        Ok(pool)
-    }
-
-    pub(crate) fn len(&self) -> usize {
-        self.lines.len()
-    }
-
-    /// The place of the fact of this name.
-    pub(crate) fn find(&self, name: &str) -> Option<usize> {
-        self.lines.iter().position(|line| line.0 == name)
-    }
-
-    pub(crate) fn name(&self, place: usize) -> &'a str {
-        self.lines.get(place).map_or("", |line| line.0)
-    }
-
-    pub(crate) fn text(&self, place: usize) -> &'a str {
-        self.lines.get(place).map_or("", |line| line.1)
-    }
-
-    pub(crate) fn fact(&self, place: usize) -> Option<&Arc<Fact>> {
-        self.facts.get(place)
-    }
-
-    pub(crate) fn dims(&self, place: usize) -> Option<&DimSet> {
-        Some(&self.fact(place)?.dims)
+        None
     }
 }

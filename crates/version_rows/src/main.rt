@@ -1,6 +1,6 @@
 //! Compares what versions answer with what is written in worked rows, and with what plain lists answer slowly.
 //!
-//! `line` says what the lines of `data/versions.rows` and of drawn scripts are, and `facts` of which facts they speak. `versions` answers by versions, of which `draft` makes changes; `slow` answers by `plain` lists of the facts and by the list of all `touches`, and `telling` puts both into words. `session` has both take each line, `rows` compares them with what is written, and `drawn` draws scripts. `changes` compares changes with what is written of them.
+//! `line` says what the lines of `data/versions.rows` and of drawn scripts are, and `facts` of which facts they speak. `versions` answers by versions, of which `draft` makes changes; `slow` answers by `plain` lists of the facts and of what each step touched, and `telling` puts both into words. `session` has both take each line, `rows` compares them with what is written, and `drawn` draws scripts. `changes` compares changes with what is written of them.
 #![tactic(auto)]
 
 mod changes;
@@ -13,7 +13,6 @@ mod rows;
 mod session;
 mod slow;
 mod telling;
-mod touches;
 mod versions;
 
 use anyhow::Result;
@@ -34,8 +33,10 @@ fn read_seed(rt: &HostRuntime) -> Result<u64> {
 }
 
 fn compare(rt: &HostRuntime, facts: &str, rows: &str) -> Result<()> {
-    compare_changes(rt)?;
     let pool = Pool::read(rt.alloc(), facts)?;
+    if let Some(named) = pool.facts.first() {
+        compare_changes(rt, &named.fact.dims)?;
+    }
     compare_rows(rt, &pool, "versions", rows)?;
     compare_drawn(rt, &pool, read_seed(rt)?)
 }

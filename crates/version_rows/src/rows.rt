@@ -18,18 +18,10 @@ fn is_told(session: &Session<'_>, answer: &str) -> bool {
     session.told.as_str() == answer && session.told_slowly.as_str() == answer
 }
 
-/// Tells how an answer differs.
-fn tell_difference<R: Print>(rt: &R, title: &str, line: &str, session: &Session<'_>) -> Result<()> {
-    let told = session.told.as_str();
-    let slowly = session.told_slowly.as_str();
-    println!(rt; "{title}: {line}: {told}, slowly {slowly}")?;
-    Ok(())
-}
-
 /// Takes a line of a sheet, and compares what was answered where it is an answer.
 fn take<'a, R: Print + AllocGlobal>(
     rt: &R,
-    pool: &Pool<'_>,
+    pool: &'a Pool,
     title: &str,
     line: &'a str,
     session: &mut Session<'a>,
@@ -41,16 +33,16 @@ fn take<'a, R: Print + AllocGlobal>(
     seen.answers = seen.answers.wrapping_add(1);
     if !is_told(session, answer) {
         seen.differing = seen.differing.wrapping_add(1);
-        tell_difference(rt, title, line, session)?;
+        session.tell(rt, title, line)?;
     }
     Ok(())
 }
 
 /// Compares a sheet: a title, and lines.
-fn compare_sheet<R: Print + AllocGlobal>(
+fn compare_sheet<'a, R: Print + AllocGlobal>(
     rt: &R,
-    pool: &Pool<'_>,
-    sheet: &str,
+    pool: &'a Pool,
+    sheet: &'a str,
     seen: &mut Seen,
 ) -> Result<()> {
     let Some((title, lines)) = sheet.split_once('\n') else {
@@ -58,7 +50,7 @@ fn compare_sheet<R: Print + AllocGlobal>(
     };
     seen.titles = seen.titles.wrapping_add(1);
     let mut session = Session::new(rt.alloc())?;
-    for line in lines.split('\n') {
+    for line in lines.lines() {
         if !line.is_empty() {
             take(rt, pool, title, line, &mut session, seen)?;
         }
@@ -67,11 +59,11 @@ fn compare_sheet<R: Print + AllocGlobal>(
 }
 
 /// Compares sheets, of which each begins with `# `.
-pub(crate) fn compare_rows<R: Print + AllocGlobal>(
+pub(crate) fn compare_rows<'a, R: Print + AllocGlobal>(
     rt: &R,
-    pool: &Pool<'_>,
+    pool: &'a Pool,
     name: &str,
-    rows: &str,
+    rows: &'a str,
 ) -> Result<()> {
     let mut seen = Seen {
         titles: 0,

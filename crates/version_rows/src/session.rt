@@ -33,45 +33,25 @@ impl<'a> Session<'a> {
         })
     }
 
-    fn load(
-        &mut self,
-        alloc: Global,
-        pool: &Pool<'_>,
-        name: &'a str,
-        allowed: Allowed,
-    ) -> Result<()> {
-        self.versions
-            .load(alloc, pool, name, allowed, &self.waiting)?;
-        self.slow.load(alloc, name, allowed, &self.waiting)?;
+    /// Nothing waits any more, and the last version is asked.
+    fn go_on(&mut self) {
         self.waiting.clear();
         self.at = self.slow.last_number();
+    }
+
+    fn load(&mut self, alloc: Global, pool: &Pool, name: &'a str, allowed: Allowed) -> Result<()> {
+        self.versions
+            .load(alloc, &pool.table, name, allowed, &self.waiting)?;
+        self.slow.load(alloc, name, allowed, &self.waiting)?;
+        self.go_on();
         Ok(())
     }
 
-    /// Whether what was told of a commit is also what a walk over all cells tells, where there was none that is not allowed before.
-    fn is_walked(&self, alloc: Global, pool: &Pool<'_>) -> Result<bool, AllocError> {
-        let mut walked = String::new(alloc);
-        self.slow.push_walk(alloc, pool, self.at, &mut walked)?;
-        if walked.as_str() != NONE {
-            return Ok(true);
-        }
-        walked.clear();
+    fn commit(&mut self, alloc: Global) -> Result<()> {
+        self.versions.commit(alloc, &self.waiting, &mut self.told)?;
         self.slow
-            .push_walk(alloc, pool, self.slow.last_number(), &mut walked)?;
-        Ok(walked.as_str() == self.told.as_str())
-    }
-
-    fn commit(&mut self, alloc: Global, pool: &Pool<'_>) -> Result<()> {
-        self.at = self.slow.last_number();
-        self.versions
-            .commit(alloc, pool, &self.waiting, &mut self.told)?;
-        self.slow
-            .commit(alloc, pool, &self.waiting, &mut self.told_slowly)?;
-        self.waiting.clear();
-        if !self.is_walked(alloc, pool)? {
-            self.told_slowly.push_str(", a walk tells another")?;
-        }
-        self.at = self.slow.last_number();
+            .commit(alloc, &self.waiting, &mut self.told_slowly)?;
+        self.go_on();
         Ok(())
     }
 
@@ -80,45 +60,45 @@ impl<'a> Session<'a> {
         if self.told_slowly.as_str() != NONE {
             self.versions.take_back();
             self.slow.take_back();
-            self.at = self.slow.last_number();
+            self.go_on();
         }
     }
 
     fn ask(
         &mut self,
         alloc: Global,
-        pool: &Pool<'_>,
         report: &str,
         question: Question<'_>,
     ) -> Result<(), AllocError> {
         self.versions
-            .push_answer(alloc, pool, &mut self.told, self.at, report, question)?;
-        self.slow.push_answer(
-            alloc,
-            pool,
-            &mut self.told_slowly,
-            self.at,
-            report,
-            question,
-        )
+            .push_answer(alloc, &mut self.told, self.at, report, question)?;
+        self.slow
+            .push_answer(alloc, &mut self.told_slowly, self.at, report, question)
     }
 
     /// Takes a line. What both answer, if it asks, stands in the two texts.
-    pub(crate) fn take(&mut self, alloc: Global, pool: &Pool<'_>, line: &'a str) -> Result<()> {
+    pub(crate) fn take(&mut self, alloc: Global, pool: &'a Pool, line: &'a str) -> Result<()> {
         self.told.clear();
         self.told_slowly.clear();
         match read_line(pool, line) {
             Some(Line::Edit(edit)) => self.waiting.push(edit)?,
             Some(Line::Load(name, allowed)) => self.load(alloc, pool, name, allowed)?,
-            Some(Line::Commit) => self.commit(alloc, pool)?,
+            Some(Line::Commit) => self.commit(alloc)?,
             Some(Line::Try) => {
-                self.commit(alloc, pool)?;
+                self.commit(alloc)?;
                 self.take_back();
             }
             Some(Line::At(number)) => self.at = number.min(self.slow.last_number()),
-            Some(Line::Ask(report, question)) => self.ask(alloc, pool, report, question)?,
+            Some(Line::Ask(report, question)) => self.ask(alloc, report, question)?,
             None => return Err(anyhow!("no such line: {line}")),
         }
+        Ok(())
+    }
+
+    /// Tells what both answered to a line.
+    pub(crate) fn tell<R: Print>(&self, rt: &R, title: &str, line: &str) -> Result<()> {
+        let (told, slowly) = (self.told.as_str(), self.told_slowly.as_str());
+        println!(rt; "{title}: {line}: {told}, slowly {slowly}")?;
         Ok(())
     }
 

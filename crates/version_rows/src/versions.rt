@@ -1,17 +1,17 @@
 //! The answers of versions.
 
 use crate::draft::Draft;
-use crate::facts::Pool;
-use crate::line::{Edit, Question, Sought, allowed_word};
+use crate::line::{Edit, Question, Sought, Stamped, allowed_word};
 use crate::telling::{
     NO_REPORT, class_word, push_cell_or_none, push_dims_or_none, push_fact_or_none, push_named,
     push_none_if_empty, push_word,
 };
 use anyhow::{Result, anyhow};
 use filing_version::{Got, Ids, RepoVersion};
-use oim_fact::{Allowed, DimSet};
+use oim_fact::{Allowed, DimSet, NumericTable};
 use oim_report::{Report, push_comma, read_report};
 use std::alloc::{AllocError, Global};
+use std::sync::Arc;
 
 // What stands before what a report declares, behind that, and behind its facts.
 const FRONT: &str =
@@ -27,10 +27,23 @@ pub(crate) struct Versions {
     all: Vec<RepoVersion>,
 }
 
+/// Appends the facts that wait for a report, as members.
+fn push_members(text: &mut String, name: &str, edits: &[Edit<'_>]) -> Result<(), AllocError> {
+    let mut is_later = false;
+    for edit in edits {
+        if let Some((id, named)) = edit.loaded(name) {
+            push_comma(text, is_later)?;
+            let fact = named.text.as_str();
+            write!(text, "\"{id}\":{fact}")?;
+            is_later = true;
+        }
+    }
+    Ok(())
+}
+
 /// The text of the report of the facts that wait for it.
 fn report_text(
     alloc: Global,
-    pool: &Pool<'_>,
     name: &str,
     allowed: Allowed,
     edits: &[Edit<'_>],
@@ -38,22 +51,7 @@ fn report_text(
     let mut text = String::from_str(alloc, FRONT)?;
     text.push_str(allowed_word(allowed))?;
     text.push_str(MIDDLE)?;
-    let mut is_later = false;
-    for edit in edits {
-        if let Edit::Put {
-            report,
-            id,
-            fact: Some(fact),
-        } = *edit
-        {
-            if report == name {
-                push_comma(&mut text, is_later)?;
-                let fact = pool.text(fact);
-                write!(text, "\"{id}\":{fact}")?;
-                is_later = true;
-            }
-        }
-    }
+    push_members(&mut text, name, edits)?;
     text.push_str(END)?;
     Ok(text)
 }
@@ -74,28 +72,22 @@ fn with_report(
 /// A change of a version by edits.
 fn draft<'a>(
     alloc: Global,
-    pool: &Pool<'_>,
     base: &'a RepoVersion,
     edits: &[Edit<'_>],
 ) -> Result<Draft<'a>, AllocError> {
     let mut draft = Draft::new(alloc, base);
     for edit in edits {
-        make(alloc, pool, &mut draft, *edit)?;
+        make(alloc, &mut draft, *edit)?;
     }
     Ok(draft)
 }
 
 /// Makes one edit.
-fn make(
-    alloc: Global,
-    pool: &Pool<'_>,
-    draft: &mut Draft<'_>,
-    edit: Edit<'_>,
-) -> Result<(), AllocError> {
+fn make(alloc: Global, draft: &mut Draft<'_>, edit: Edit<'_>) -> Result<(), AllocError> {
     match edit {
         Edit::Put { report, id, fact } => {
-            let fact = match fact.and_then(|place| pool.fact(place)) {
-                Some(fact) => Some(fact.clone()?),
+            let fact = match fact {
+                Some(named) => Some(named.fact.clone()?),
                 None => None,
             };
             draft.put(report, String::from_str(alloc, id)?, fact)
@@ -177,30 +169,25 @@ fn push_report(
     }
 }
 
-/// The stamp that is asked for.
-fn stamp(pool: &Pool<'_>, version: &RepoVersion, report: &str, question: Question<'_>) -> u64 {
-    match question {
-        Question::StampReport => version.stamp_report(report),
-        Question::StampId(id) => version.stamp_id(report, id),
-        Question::StampCell(fact) => match pool.dims(fact) {
-            Some(dims) => version.stamp_cell(report, dims),
-            None => 0,
-        },
-        Question::StampRange(sought) => version.stamp_range(
+fn stamp(version: &RepoVersion, report: &str, stamped: Stamped<'_>) -> u64 {
+    match stamped {
+        Stamped::Report => version.stamp_report(report),
+        Stamped::Id(id) => version.stamp_id(report, id),
+        Stamped::Cell(dims) => version.stamp_cell(report, dims),
+        Stamped::Range(sought) => version.stamp_range(
             report,
             sought.concept,
             sought.period,
             sought.after,
             sought.upto,
         ),
-        _ => version.stamp_policy(report),
+        Stamped::Policy => version.stamp_policy(report),
     }
 }
 
 /// Appends the answer of a version.
 fn push_answer(
     alloc: Global,
-    pool: &Pool<'_>,
     told: &mut String,
     version: &RepoVersion,
     report: &str,
@@ -208,18 +195,32 @@ fn push_answer(
 ) -> Result<(), AllocError> {
     match question {
         Question::Get(id) => push_got(told, version.get(report, id)),
-        Question::Cell(fact) => match pool.dims(fact) {
-            Some(dims) => push_cell(told, version, report, dims),
-            None => Ok(()),
-        },
+        Question::Cell(dims) => push_cell(told, version, report, dims),
         Question::Query(sought) => push_query(told, version, report, sought),
         Question::Allowed => push_allowed(told, version, report),
         Question::Report => push_report(alloc, told, version, report),
         Question::Disallowed => push_dims_or_none(told, version.disallowed_in(report)),
-        _ => {
-            let number = stamp(pool, version, report, question);
-            write!(told, "{number}")
+        Question::Stamp(stamped) => {
+            let stamp = stamp(version, report, stamped);
+            write!(told, "{stamp}")
         }
+    }
+}
+
+/// The version after edits. The first cell of it that is not allowed is told.
+fn after(
+    alloc: Global,
+    base: &RepoVersion,
+    edits: &[Edit<'_>],
+    told: &mut String,
+) -> Result<RepoVersion> {
+    let draft = draft(alloc, base, edits)?;
+    match draft.next(alloc)? {
+        Some(next) => {
+            push_cell_or_none(told, next.first_disallowed(draft.change()))?;
+            Ok(next)
+        }
+        None => Err(anyhow!("no number is left")),
     }
 }
 
@@ -230,26 +231,21 @@ impl Versions {
         Ok(Versions { all })
     }
 
-    fn last(&self) -> Result<&RepoVersion> {
-        match self.all.last() {
-            Some(version) => Ok(version),
-            None => Err(anyhow!("no version")),
-        }
-    }
-
     /// Loads a report of the facts that wait for it.
     pub(crate) fn load(
         &mut self,
         alloc: Global,
-        pool: &Pool<'_>,
+        table: &Arc<NumericTable>,
         name: &str,
         allowed: Allowed,
         edits: &[Edit<'_>],
     ) -> Result<()> {
-        let text = report_text(alloc, pool, name, allowed, edits)?;
-        let report = read_report(alloc, text.as_bytes(), &pool.table)?;
-        let next = with_report(alloc, self.last()?, name, report)?;
-        self.all.push(next)?;
+        let text = report_text(alloc, name, allowed, edits)?;
+        let report = read_report(alloc, text.as_bytes(), table)?;
+        if let Some(base) = self.all.last() {
+            let next = with_report(alloc, base, name, report)?;
+            self.all.push(next)?;
+        }
         Ok(())
     }
 
@@ -257,12 +253,13 @@ impl Versions {
     pub(crate) fn commit(
         &mut self,
         alloc: Global,
-        pool: &Pool<'_>,
         edits: &[Edit<'_>],
         told: &mut String,
     ) -> Result<()> {
-        let next = after(alloc, pool, self.last()?, edits, told)?;
-        self.all.push(next)?;
+        if let Some(base) = self.all.last() {
+            let next = after(alloc, base, edits, told)?;
+            self.all.push(next)?;
+        }
         Ok(())
     }
 
@@ -275,33 +272,14 @@ impl Versions {
     pub(crate) fn push_answer(
         &self,
         alloc: Global,
-        pool: &Pool<'_>,
         told: &mut String,
         number: usize,
         report: &str,
         question: Question<'_>,
     ) -> Result<(), AllocError> {
         match self.all.get(number) {
-            Some(version) => push_answer(alloc, pool, told, version, report, question),
+            Some(version) => push_answer(alloc, told, version, report, question),
             None => Ok(()),
         }
-    }
-}
-
-/// The version after edits. The first cell of it that is not allowed is told.
-fn after(
-    alloc: Global,
-    pool: &Pool<'_>,
-    base: &RepoVersion,
-    edits: &[Edit<'_>],
-    told: &mut String,
-) -> Result<RepoVersion> {
-    let draft = draft(alloc, pool, base, edits)?;
-    match draft.next(alloc)? {
-        Some(next) => {
-            push_cell_or_none(told, next.first_disallowed(draft.change()))?;
-            Ok(next)
-        }
-        None => Err(anyhow!("no number is left")),
     }
 }
