@@ -1,5 +1,4 @@
--- ---- the report of a load, and whole scripts
-pub mod ReportOfLoad
+-- ---- whole scripts
 pub mod Scripts
 -- ---- histories
 pub mod JudgedLines

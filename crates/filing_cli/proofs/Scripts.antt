@@ -1,5 +1,5 @@
 -- A run over a script, in terms of the script's output.
-use Rattle.std.proofs.Common.{◌≡◌, ◌∙◌, ap, subst}
+use Rattle.std.proofs.Common.{◌≡◌, ◌∙◌, ℕ, ap, subst}
 use Rattle.std.specs.declared.result.Result.TheVariants.{Err}
 use Rattle.filing_model.specs.Facts.{Table}
 use Rattle.filing_model.specs.History.{History}
@@ -7,7 +7,7 @@ use Rattle.line_run.specs.Devices.{SourceState, SinkState, Took}
 use Rattle.line_run.specs.Lines.{lines_of, spoken, lines_text}
 use Rattle.line_run.specs.Run.{IsAnswered, Runs, replies_by, state_after}
 use Rattle.filing_text.specs.Script.{State, start, line_answer, script_output, script_history}
-use Rattle.filing_cli.specs.ScriptRun.{IsReply, most_reads, IsScriptEnded, IsScriptStopped}
+use Rattle.filing_cli.specs.ScriptRun.{IsReply, IsScriptEnded, IsScriptStopped}
 use Rattle.line_run.specs.declared.fault.ScriptFault.{ScriptFault}
 use Rattle.line_run.specs.declared.fault.ScriptFault.TheVariants.{NoMemory}
 use Rattle.line_run.proofs.AnsweringMachines.{answers_of_function}
@@ -27,13 +27,14 @@ script_ended table before after source source' sink sink' history p begun is =
       history_is = is ∙ ap (λ s. s.history) (told.1 ∙ ap (λ s. state_after line_answer s (spoken (lines_of p.given))) begun);
     }
 
-pub script_stopped : (table : Table) (before after : State) (source source' : SourceState) (sink sink' : SinkState) (fault : ScriptFault)
-    → Runs {X = Unit {0}} IsReply most_reads (Err fault) before after source source' sink sink' → before ≡ start table
-    → IsScriptStopped table source source' sink sink' fault
-script_stopped table before after source source' sink sink' fault p begun = record {
+pub script_stopped : (reads : ℕ) (table : Table) (before after : State) (source source' : SourceState) (sink sink' : SinkState)
+    (fault : ScriptFault) → Runs {X = Unit {0}} IsReply reads (Err fault) before after source source' sink sink' → before ≡ start table
+    → IsScriptStopped reads table source source' sink sink' fault
+script_stopped reads table before after source source' sink sink' fault p begun = record {
   after = after;
-  runs = subst (λ s. Runs {X = Unit {0}} IsReply most_reads (Err fault) s after source source' sink sink') begun p;
+  runs = subst (λ s. Runs {X = Unit {0}} IsReply reads (Err fault) s after source source' sink sink') begun p;
 }
 
-pub stopped_at_once : (table : Table) (source : SourceState) (sink : SinkState) → IsScriptStopped table source source sink sink (NoMemory 1)
-stopped_at_once table source sink = record { after = start table; runs = starved_at_once IsReply (start table) source sink }
+pub stopped_at_once : (reads : ℕ) (table : Table) (source : SourceState) (sink : SinkState)
+    → IsScriptStopped reads table source source sink sink (NoMemory 1)
+stopped_at_once reads table source sink = record { after = start table; runs = starved_at_once IsReply (start table) source sink }

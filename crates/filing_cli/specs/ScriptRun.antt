@@ -34,12 +34,19 @@ pub record IsScriptEnded (table : Table) (source source' : SourceState) (sink si
   pub took : Took sink sink' (script_output table given) 0
   pub history_is : history ≡ script_history table given
 
--- the run ended before the end of the source, and left what any run leaves after this fault
-pub record IsScriptStopped (table : Table) (source source' : SourceState) (sink sink' : SinkState)
+-- a run of so many reads at most ended before the end of the source, and left what any such run leaves after this fault
+pub record IsScriptStopped (reads : ℕ) (table : Table) (source source' : SourceState) (sink sink' : SinkState)
     (fault : ScriptFault) : Type 0 where
   pub after : State
-  pub runs : Runs {X = Unit {0}} IsReply most_reads (Err fault) (start table) after source source' sink sink'
+  pub runs : Runs {X = Unit {0}} IsReply reads (Err fault) (start table) after source source' sink sink'
+
+-- a run of so many reads at most
+abbrev pub ScriptRunsWithin : ℕ → Table → Result CoreState ScriptFault → SourceState → SourceState → SinkState → SinkState
+    → Type 0
+ScriptRunsWithin reads table (Ok core) source source' sink sink' =
+    IsScriptEnded table source source' sink sink' core.history
+ScriptRunsWithin reads table (Err fault) source source' sink sink' =
+    IsScriptStopped reads table source source' sink sink' fault
 
 abbrev pub ScriptRuns : Table → Result CoreState ScriptFault → SourceState → SourceState → SinkState → SinkState → Type 0
-ScriptRuns table (Ok core) source source' sink sink' = IsScriptEnded table source source' sink sink' core.history
-ScriptRuns table (Err fault) source source' sink sink' = IsScriptStopped table source source' sink sink' fault
+ScriptRuns = ScriptRunsWithin most_reads

@@ -2,6 +2,8 @@
 //!
 //! `script` runs a script: `script_machine` is what answers its lines, each by the step that it takes.
 //!
+//! `run_threads`, which runs several scripts at once, is handed on from `thread_scripts`.
+//!
 //! The crate knows nothing of how lines are cut and devices are read (`line_run`), of how a line or a reply is written (`filing_text`), of locks, or of files.
 #![tactic(auto)]
 
@@ -19,4 +21,5 @@ pub use line_run::{
     Failed, FromReader, Machine, MemoryIn, MemoryOut, ScriptFault, Sink, Source, ToWriter,
     is_blank, run, write_all,
 };
-pub use script::run_script;
+pub use script::{run_script, run_script_within};
+pub use thread_scripts::{ThreadsFault, run_threads};

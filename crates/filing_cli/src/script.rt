@@ -2,7 +2,7 @@
 
 ghost use Rattle.std.specs.Prelude.{◌+◌, ◌≤◌};
 ghost use Rattle.std.specs.Arc.{arc_value};
-ghost use Rattle.filing_cli.specs.ScriptRun.{most_reads, ScriptRuns};
+ghost use Rattle.filing_cli.specs.ScriptRun.{most_reads, ScriptRuns, ScriptRunsWithin};
 
 use crate::script_machine::ScriptMachine;
 use filing_core::Core;
@@ -14,7 +14,7 @@ use std::sync::Arc;
 /// So many reads are made at most.
 pub(crate) const READS: u64 = 1 << 32;
 
-/// Runs a script: reads reports by the numeric table, takes the step of each line that has one, in their order, and writes a reply to each line that is not blank. It gives back the core with the steps that were taken.
+/// Runs a script: reads reports by the numeric table, takes the step of each line that has one, in their order, and writes a reply to each line that is not blank. It gives back the core with the steps that were taken. At most 2^32 reads are made.
 pub fn run_script<R: Source, W: Sink>(
     alloc: Global,
     input: &mut R,
@@ -25,10 +25,25 @@ pub fn run_script<R: Source, W: Sink>(
         (W.state output.old) (W.state output.new) }
     ensures bounded { (R.state input.new).reads ≤ (R.state input.old).reads + most_reads }
 {
+    run_script_within(alloc, input, output, table, READS)
+}
+
+/// Runs a script as `run_script` does, with at most so many reads. `Endless` is answered where all of them were made, and none met the end or failed.
+pub fn run_script_within<R: Source, W: Sink>(
+    alloc: Global,
+    input: &mut R,
+    output: &mut W,
+    table: &Arc<NumericTable>,
+    reads: u64,
+) -> Result<Core, ScriptFault>
+    ensures script { ScriptRunsWithin reads (arc_value table.now) result (R.state input.old) (R.state input.new)
+        (W.state output.old) (W.state output.new) }
+    ensures bounded { (R.state input.new).reads ≤ (R.state input.old).reads + reads }
+{
     let Ok(mut machine) = ScriptMachine::new(alloc, table) else {
         return Err(ScriptFault::NoMemory(1));
     };
-    match run(alloc, &mut machine, input, output, READS) {
+    match run(alloc, &mut machine, input, output, reads) {
         Ok(()) => Ok(machine.into_core()),
         Err(fault) => Err(fault),
     }

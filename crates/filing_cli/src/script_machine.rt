@@ -15,12 +15,12 @@ use filing_core::{Core, CoreFault};
 use filing_step::{Kind, Reply, SessionNames, Step};
 use filing_text::{
     Asking, Line, bad_line_reply, bad_report_reply, exported_reply_of, line_of, name_in_use_reply,
-    no_session_reply, reply_text, step_asked, taken_at,
+    no_session_reply, reply_text, report_in, step_asked, taken_at,
 };
 use filing_version::RepoVersion;
 use line_run::Machine;
 use oim_fact::NumericTable;
-use oim_report::{Report, ReportFault, json_value, read_report, report_from};
+use oim_report::{Report, ReportFault, json_value};
 use serde_json::Value;
 use std::alloc::{AllocError, Global};
 use std::marker::Model;
@@ -41,16 +41,6 @@ impl Model for ScriptMachine {
     ghost Value = { State };
 
     ghost view = { λ r. record { table = arc_value r.table; history = r.core.history; names = r.names } };
-}
-
-/// The report of a load: an object, or the text of one. Its parts move out of the value.
-fn report_in(alloc: Global, value: Value, table: &Arc<NumericTable>) -> Result<Report, ReportFault>
-    ensures { Gives report_fault (λ r. r) result (report_in (arc_value table.now) (view value)) }
-{
-    match value {
-        Value::String(text) => read_report(alloc, text.as_bytes(), table),
-        value => report_from(alloc, value, table),
-    }
 }
 
 impl ScriptMachine {
@@ -223,7 +213,7 @@ impl ScriptMachine {
     }
 
     /// Answers a line that is JSON. The report of a load moves out of it.
-    #[tactic(auto, using(crate::proofs::ReportOfLoad::loaded_part))]
+    #[tactic(auto, using(filing_text::proofs::ReportOfLoad::loaded_part))]
     fn answer_value(&mut self, alloc: Global, value: Value) -> Result<String, AllocError>
         ensures { IfOk result (λ text. value_answer self.old (Some (view value)) ≡ (string_bytes text, self.new)) }
     {

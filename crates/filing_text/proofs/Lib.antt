@@ -1,5 +1,6 @@
 -- ---- the lines of a script
 pub mod ToldFaults
 pub mod AskedSteps
+pub mod ReportOfLoad
 -- ---- examples that compute
 pub mod Examples

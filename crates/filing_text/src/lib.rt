@@ -1,12 +1,13 @@
 //! The lines of a script and of its output: the kind of a line with its parts, the text of each reply, and, in `specs/`, what a script has as its output.
 //!
-//! `line` tells the kind of a line, `asked_step` makes the step that a line asks of a session, and `texts` has the text of each reply.
+//! `line` tells the kind of a line, `asked_step` makes the step that a line asks of a session, `load` reads the report of a load, and `texts` has the text of each reply.
 //!
 //! The crate knows nothing of how a step is answered, nor of devices: nothing of a core or of versions.
 #![tactic(auto)]
 
 mod asked_step;
 mod line;
+mod load;
 mod texts;
 
 pub use asked_step::{own_period, own_text, step_asked};
@@ -14,6 +15,7 @@ pub use line::{
     Asking, Line, Period, allowed_at, asked_at, asking_at, kind_of_word, line_of, nullable_at,
     taken_at, text_at,
 };
+pub use load::report_in;
 pub use texts::{
     bad_fact_reply, bad_line_reply, bad_report_reply, exported_reply, exported_reply_of,
     name_in_use_reply, no_session_reply, push_asked, push_later, push_number, push_reply,

@@ -1,7 +1,7 @@
 use Rattle.std.proofs.Common.{◌∙◌, ap, sym, Some, string_bytes}
 use Rattle.serde_json.specs.View.{view}
 use Rattle.filing_text.specs.LineView.{line_view}
-use Rattle.filing_cli.proofs.ReportOfLoad.{load_answered}
+use Rattle.filing_text.proofs.ReportOfLoad.{load_answered}
 use Rattle.filing_cli.proofs.script_machine.ScriptMachine.answer_value.Goals as goal
 
 pub returns-in-Load : goal.returns-in-Load

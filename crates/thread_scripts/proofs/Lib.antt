@@ -1,0 +1,5 @@
+-- ---- lines
+pub mod JudgedLines
+-- ---- replies
+mod ToldReplies
+mod WrittenReplies

@@ -1,0 +1,6 @@
+-- ---- lines before any step is taken
+pub mod Judging
+-- ---- replies once the steps are taken
+pub mod Telling
+-- ---- what is written
+pub mod Writing

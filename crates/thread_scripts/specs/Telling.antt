@@ -1,0 +1,37 @@
+-- The replies to the lines of a script once its desk has taken its steps. The project's own.
+use Rattle.std.specs.Prelude.{◌≡◌, Bool, true, false, List, [], ◌∷◌, Option, Some, None, option_map, string_bytes}
+use Rattle.std.specs.declared.string.String.{String}
+use Rattle.std.specs.declared.alloc.Global.{Global}
+use Rattle.std.specs.Option.{option_map_or}
+use Rattle.filing_model.specs.Text.{Text}
+use Rattle.filing_step.specs.Steps.{reply_of}
+use Rattle.filing_text.specs.ReplyText.{reply_text, name_in_use_text, no_session_text}
+use Rattle.filing_office.specs.declared.outcome.Outcome.{Outcome}
+use Rattle.filing_office.specs.declared.outcome.Outcome.TheVariants.{Answered, NameInUse, NoSession, NoMemory}
+
+-- the reply that an outcome is, and none where memory was wanted
+abbrev pub outcome_text : {J : Type 0} → Outcome J → Option Text
+outcome_text (Answered a) = Some (reply_text (reply_of a.reply))
+outcome_text NameInUse = Some name_in_use_text
+outcome_text NoSession = Some no_session_text
+outcome_text NoMemory = None
+
+-- the replies to the lines, in their order, up to the first step that has none: what a line is told at once, and where there is none the next outcome of the desk
+abbrev pub replies_of : {J : Type 0} → List (Option (String Global)) → List (Outcome J) → List Text
+replies_of [] os = []
+replies_of (Some text ∷ told) os = string_bytes text ∷ replies_of told os
+replies_of (None ∷ told) [] = []
+replies_of (None ∷ told) (o ∷ os) = option_map_or (λ text. text ∷ replies_of told os) (outcome_text o) []
+
+-- whether each line has its reply
+abbrev pub all_told : {J : Type 0} → List (Option (String Global)) → List (Outcome J) → Bool
+all_told [] os = true
+all_told (Some text ∷ told) os = all_told told os
+all_told (None ∷ told) [] = false
+all_told (None ∷ told) (o ∷ os) = option_map_or (λ text. all_told told os) (outcome_text o) false
+
+-- the next reply, with the outcomes before and after it
+abbrev pub NextReply : {J : Type 0} → Option (String Global) → List (Outcome J) → List (Outcome J) → Option (String Global) → Type 0
+NextReply (Some text) os left reply = (option_map string_bytes reply ≡ Some (string_bytes text)) × (left ≡ os)
+NextReply None [] left reply = (reply ≡ None)
+NextReply None (o ∷ os) left reply = (option_map string_bytes reply ≡ outcome_text o) × (left ≡ os)

@@ -1,0 +1,113 @@
+//! `Judged`: what a line comes to before any step is taken.
+
+ghost use Rattle.std.specs.Prelude.{IfOk, Some, string_bytes};
+ghost use Rattle.std.specs.Arc.{arc_value};
+ghost use Rattle.serde_json.specs.View.{view};
+ghost use Rattle.filing_step.specs.Steps.{step_of};
+ghost use Rattle.filing_text.specs.LineView.{asking_view};
+ghost use Rattle.filing_text.specs.Script.{Told, call_read, judged_asking, judged_load, report_in};
+ghost use Rattle.thread_scripts.specs.Judging.{ComesTo, ComesToBy, IsJudged, judged_under, value_judged};
+
+use filing_office::DeskStep;
+use filing_step::Step;
+use filing_text::{
+    Asking, Line, bad_line_reply, bad_report_reply, line_of, report_in, step_asked, taken_at,
+};
+use oim_fact::NumericTable;
+use oim_report::json_value;
+use serde_json::Value;
+use std::alloc::{AllocError, Global};
+use std::sync::Arc;
+
+/// What a line comes to before any step is taken. Whether the name of a session is in use is not looked at yet.
+#[derive(Drop)]
+pub(crate) enum Judged {
+    /// It takes no step, and this is its reply.
+    Told(String),
+    /// It takes this step.
+    Due(DeskStep),
+}
+
+impl Judged {
+    fn told(alloc: Global, reply: &str) -> Result<Judged, AllocError>
+        ensures { IfOk result (ComesTo (λ state. Told reply.now)) }
+    {
+        Ok(Judged::Told(String::from_str(alloc, reply)?))
+    }
+
+    fn due(alloc: Global, session: &str, step: Step) -> Result<Judged, AllocError>
+        ensures { IfOk result (ComesTo (λ state. judged_under state session.now (step_of step))) }
+    {
+        let name = String::from_str(alloc, session)?;
+        Ok(Judged::Due(DeskStep { name, step }))
+    }
+}
+
+/// Judges a load: its report is read.
+fn load_judged(
+    alloc: Global,
+    name: String,
+    report: Value,
+    table: &Arc<NumericTable>,
+) -> Result<Judged, AllocError>
+    ensures { IfOk result (ComesToBy (arc_value table.now)
+        (λ state. judged_load state (string_bytes name) (report_in (arc_value table.now) (view report)))) }
+{
+    match report_in(alloc, report, table) {
+        Ok(report) => {
+            let report = Arc::new(alloc, report)?;
+            Judged::due(alloc, "", Step::Load(name, report))
+        }
+        Err(fault) => Ok(Judged::Told(bad_report_reply(alloc, &fault)?)),
+    }
+}
+
+/// Judges what a line asks of a session: its fact or its dimensions are read.
+fn asking_judged(alloc: Global, session: &str, asking: &Asking<'_>) -> Result<Judged, AllocError>
+    ensures { IfOk result (ComesTo (λ state. judged_asking state session.now (call_read (asking_view asking.now)))) }
+{
+    match step_asked(alloc, asking)? {
+        Ok(step) => Judged::due(alloc, session, step),
+        Err(text) => Ok(Judged::Told(text)),
+    }
+}
+
+/// Judges a line that is JSON. The report of a load moves out of it.
+#[tactic(auto, using(filing_text::proofs::ReportOfLoad::loaded_part))]
+fn value_judged(
+    alloc: Global,
+    value: Value,
+    table: &Arc<NumericTable>,
+) -> Result<Judged, AllocError>
+    ensures { IfOk result (ComesToBy (arc_value table.now) (λ state. value_judged state (Some (view value)))) }
+{
+    let mut value = value;
+    let Some(line) = line_of(&value) else {
+        return Judged::told(alloc, bad_line_reply());
+    };
+    match line {
+        Line::Load { name, .. } => {
+            let name = String::from_str(alloc, name)?;
+            load_judged(alloc, name, taken_at(&mut value, 2), table)
+        }
+        Line::Open { session, kind } => Judged::due(alloc, session, Step::Open(kind)),
+        Line::Ask { session, asking } => asking_judged(alloc, session, &asking),
+        Line::Commit { session } => Judged::due(alloc, session, Step::Commit),
+        Line::Close { session } => Judged::due(alloc, session, Step::Close),
+        Line::Export { .. } => Judged::told(alloc, bad_line_reply()),
+    }
+}
+
+/// Judges a line. What is refused in reading, and an export, is told at once.
+pub(crate) fn line_judged(
+    alloc: Global,
+    line: &[u8],
+    table: &Arc<NumericTable>,
+) -> Result<Judged, AllocError>
+    ensures { IfOk result (IsJudged (arc_value table.now) line.now) }
+{
+    match json_value(alloc, line)? {
+        Some(value) => value_judged(alloc, value, table),
+        None => Judged::told(alloc, bad_line_reply()),
+    }
+}
