@@ -6,8 +6,10 @@ use Rattle.filing_model.specs.declared.faults.TableFault.{TableFault}
 use Rattle.filing_model.specs.declared.faults.TableFault.TheVariants as table
 use Rattle.line_run.specs.declared.fault.ScriptFault.{ScriptFault}
 use Rattle.line_run.specs.declared.fault.ScriptFault.TheVariants as script
+use Rattle.thread_scripts.specs.declared.fault.ThreadsFault.{ThreadsFault}
+use Rattle.thread_scripts.specs.declared.fault.ThreadsFault.TheVariants as threads
 use Rattle.filing.specs.declared.fault.Fault.{Fault}
-use Rattle.filing.specs.declared.fault.Fault.TheVariants.{Words, Read, Write, TableLine, TableNotText, NoMemory}
+use Rattle.filing.specs.declared.fault.Fault.TheVariants.{Words, TooManyScripts, Read, Write, TableLine, TableNotText, NoMemory}
 
 -- a script without an end is one that could not be read
 abbrev pub fault_of : ScriptFault → Fault
@@ -15,6 +17,12 @@ fault_of script.Read = Read
 fault_of script.Write = Write
 fault_of script.Endless = Read
 fault_of (script.NoMemory line) = NoMemory
+
+-- a reviewer without a place is told as want of memory
+abbrev pub threads_fault_of : ThreadsFault → Fault
+threads_fault_of threads.Write = Write
+threads_fault_of threads.NoMemory = NoMemory
+threads_fault_of threads.NoPlace = NoMemory
 
 -- a bad line of a numeric table keeps its number
 abbrev pub table_fault_of : TableFault → Fault
@@ -28,14 +36,16 @@ IsTableOf bytes (Err (TableLine number)) = IsUtf8 bytes × (read_table_of bytes 
 IsTableOf bytes (Err TableNotText) = ¬ IsUtf8 bytes
 IsTableOf bytes (Err NoMemory) = Unit {0}
 IsTableOf bytes (Err Words) = ⊥
+IsTableOf bytes (Err TooManyScripts) = ⊥
 IsTableOf bytes (Err Read) = ⊥
 IsTableOf bytes (Err Write) = ⊥
 
--- 1 after a read or write fault, 2 where the words or the numeric table were wrong, 3 where memory was wanted
+-- 1 after a read or write fault, 2 where the words, the number of scripts or the numeric table were wrong, 3 where memory was wanted
 abbrev pub status_of : Fault → ℕ
 status_of Read = 1
 status_of Write = 1
 status_of Words = 2
+status_of TooManyScripts = 2
 status_of (TableLine number) = 2
 status_of TableNotText = 2
 status_of NoMemory = 3

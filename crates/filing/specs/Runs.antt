@@ -29,3 +29,7 @@ pub record WritesVerdict (table : Table) (rest rest' written written' : Option (
   pub departs : LinesDepart table (spoken (lines_of given)) (departure verdict)
   pub took : Appends written written' (verdict_text verdict)
   pub status_is : status ≡ verdict_status verdict
+
+-- some bytes were written and nothing else, as far as they are known
+abbrev pub WritesSome : Option (List ℕ) → Option (List ℕ) → Type 0
+WritesSome written written' = (text : List ℕ) × Appends written written' text

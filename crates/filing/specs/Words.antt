@@ -1,11 +1,11 @@
 -- What the words of the command line ask for.
-use Rattle.std.specs.Prelude.{◌≡◌, ◌⊎◌, true, false, List, [], Option, Some, None, codes, option_map, if◌then◌else◌}
+use Rattle.std.specs.Prelude.{◌≡◌, ◌⊎◌, true, false, List, [], Option, Some, None, codes, map, option_map, if◌then◌else◌}
 use Rattle.std.specs.Str.{bytes_eq}
-use Rattle.clap.specs.Words.{App, Row, Rule, Text, IsAmong, fault_of, first_of, new_app, new_rule, subcommand_of, takes, with_rule, with_subcommand}
-use Rattle.clap.specs.declared.builder.action.ArgAction.TheVariants.{Set}
+use Rattle.clap.specs.Words.{App, Row, Rule, Text, IsAmong, all_of, fault_of, first_of, new_app, new_rule, subcommand_of, takes, with_rule, with_subcommand}
+use Rattle.clap.specs.declared.builder.action.ArgAction.TheVariants.{Append, Set}
 use Rattle.clap.specs.declared.error.kind.ErrorKind.TheVariants.{DisplayHelp, DisplayVersion}
 use Rattle.filing.specs.declared.words.Order.{Order}
-use Rattle.filing.specs.declared.words.Order.TheVariants.{Run, Check, Shown}
+use Rattle.filing.specs.declared.words.Order.TheVariants.{Run, Check, Threads, Shown}
 
 -- `--numeric FILE`
 unfoldable pub numeric : Rule
@@ -31,6 +31,14 @@ judged = record (new_rule (codes "judged")) {
   required = true;
 }
 
+-- SCRIPT.., of which there has to be one
+unfoldable pub scripts : Rule
+scripts = record (new_rule (codes "scripts")) {
+  action = Some Append;
+  value_names = 1;
+  required = true;
+}
+
 -- the command `run`
 unfoldable pub run : App
 run = with_rule (with_rule (new_app (codes "run")) numeric) history
@@ -39,30 +47,40 @@ run = with_rule (with_rule (new_app (codes "run")) numeric) history
 unfoldable pub check : App
 check = with_rule (with_rule (new_app (codes "check")) numeric) judged
 
+-- the command `threads`
+unfoldable pub threads : App
+threads = with_rule (with_rule (new_app (codes "threads")) numeric) scripts
+
 -- the program, which wants a command
 unfoldable pub program : App
 program = let bare = new_app (codes "filing") in
     let wanting = record bare { top = record bare.top { subcommand_required = true } } in
-    with_subcommand (with_subcommand wanting run.top) check.top
+    with_subcommand (with_subcommand (with_subcommand wanting run.top) threads.top) check.top
 
 -- a run by the numeric table of a file, or by none, whose history goes to a file, or nowhere; or the history of a file that
--- is to be judged by the numeric table of another, or by none
+-- is to be judged by the numeric table of another, or by none; or the scripts of some files, in their order, that are to be run
+-- in threads by such a table
 pub data Asked : Type 0 where
   ToRun : Option Text → Option Text → Asked
   ToCheck : Option Text → Text → Asked
+  ToThread : Option Text → List Text → Asked
 
--- what `run` and `check` ask for with these arguments
+-- what `run`, `check` and `threads` ask for with these arguments
 abbrev pub run_asked : List Row → Option Asked
 run_asked rows = Some (ToRun (first_of (codes "numeric") rows) (first_of (codes "history") rows))
 
 abbrev pub check_asked : List Row → Option Asked
 check_asked rows = option_map (ToCheck (first_of (codes "numeric") rows)) (first_of (codes "judged") rows)
 
+abbrev pub threads_asked : List Row → Option Asked
+threads_asked rows = option_map (ToThread (first_of (codes "numeric") rows)) (all_of (codes "scripts") rows)
+
 -- what the command that was entered asks for
 abbrev pub asked : Option (Text × List Row) → Option Asked
 asked (Some entered) =
     if bytes_eq entered.0 (codes "run") then run_asked entered.1
-    else (if bytes_eq entered.0 (codes "check") then check_asked entered.1 else None)
+    else (if bytes_eq entered.0 (codes "check") then check_asked entered.1
+    else (if bytes_eq entered.0 (codes "threads") then threads_asked entered.1 else None))
 asked None = None
 
 -- the order is what was asked for
@@ -70,6 +88,8 @@ abbrev pub IsOrdered : Option (Text × List Row) → Order → Type 0
 IsOrdered entered (Run table file) =
     asked entered ≡ Some (ToRun (option_map (λ s. s.now) table) (option_map (λ s. s.now) file))
 IsOrdered entered (Check table file) = asked entered ≡ Some (ToCheck (option_map (λ s. s.now) table) file.now)
+IsOrdered entered (Threads table files) =
+    asked entered ≡ Some (ToThread (option_map (λ s. s.now) table) (map (λ s. s.now) files.items))
 IsOrdered entered Shown = ⊥
 
 -- The words, the program's name before them, ask for this. A command is asked for by words of which none is wrong, with the files that are the values of its arguments. What is shown is asked for by words that the program does not take, and that clap answers with help.
@@ -78,5 +98,7 @@ Asks words (Run table file) = (fault_of program words ≡ [])
     × IsOrdered (subcommand_of program words) (Run table file)
 Asks words (Check table file) = (fault_of program words ≡ [])
     × IsOrdered (subcommand_of program words) (Check table file)
+Asks words (Threads table files) = (fault_of program words ≡ [])
+    × IsOrdered (subcommand_of program words) (Threads table files)
 Asks words Shown = (takes program words ≡ false)
     × (IsAmong DisplayHelp (fault_of program words) ⊎ IsAmong DisplayVersion (fault_of program words))

@@ -2,7 +2,7 @@ ghost use Rattle.std.specs.Prelude.{◌≡◌};
 ghost use Rattle.std.specs.Process.{exit_status};
 ghost use Rattle.filing.specs.Faults.{status_of};
 
-use filing_cli::ScriptFault;
+use filing_cli::{ScriptFault, ThreadsFault};
 use filing_model::TableFault;
 use std::alloc::{AllocError, AllocFailed};
 use std::io::{Error, ErrorKind};
@@ -13,6 +13,8 @@ use std::process::ExitCode;
 pub(crate) enum Fault {
     /// The words were refused, and that was told.
     Words,
+    /// There are more scripts than threads may run.
+    TooManyScripts,
     Read,
     Write,
     /// The line of the numeric table, counted from 1, that is none.
@@ -29,7 +31,7 @@ impl Fault {
     {
         match self {
             Fault::Read | Fault::Write => 1,
-            Fault::Words | Fault::TableLine(_) | Fault::TableNotText => 2,
+            Fault::Words | Fault::TooManyScripts | Fault::TableLine(_) | Fault::TableNotText => 2,
             Fault::NoMemory => 3,
         }
     }
@@ -40,6 +42,7 @@ impl Fault {
     {
         let told = match self {
             Fault::Words => Ok(()),
+            Fault::TooManyScripts => rt.eprintln("filing: at most 16 scripts"),
             Fault::Read => rt.eprintln("filing: read fault"),
             Fault::Write => rt.eprintln("filing: write fault"),
             Fault::TableLine(number) => eprintln!(rt; "filing: numeric table, line {number}"),
@@ -116,6 +119,20 @@ impl From<TableFault> for Fault {
         match fault {
             TableFault::BadLine(number) => Fault::TableLine(number),
             TableFault::NoMemory => Fault::NoMemory,
+        }
+    }
+}
+
+impl From<ThreadsFault> for Fault {
+    ghost use Rattle.std.specs.Prelude.{◌≡◌};
+    ghost use Rattle.filing.specs.Faults.{threads_fault_of};
+
+    ghost from_gives = { λ fault e. e ≡ threads_fault_of fault };
+
+    fn from(fault: ThreadsFault) -> Fault {
+        match fault {
+            ThreadsFault::Write => Fault::Write,
+            ThreadsFault::NoMemory | ThreadsFault::NoPlace => Fault::NoMemory,
         }
     }
 }

@@ -1,4 +1,4 @@
-//! What `filing run --help` says of the lines of a script, and `filing check --help` of verdicts. It is a text that is shown as it stands; no code reads it.
+//! What `filing run --help` says of the lines of a script, `filing threads --help` of several scripts, and `filing check --help` of verdicts. It is a text that is shown as it stands; no code reads it.
 
 /// Every line by an example, and how reports and replies go in and out.
 pub(crate) const LINES: &str =
@@ -62,3 +62,14 @@ It is lawful where each reply is the one that the steps before it admit. One lin
                      session is not open, or the line stands for no step
 
 The numeric table has to be that of the run. The spaces in a line and the order of members are free."#;
+
+/// What `filing threads --help` says of several scripts.
+pub(crate) const THREADS: &str =
+    r#"Each script has a thread of its own, and all use one repository. Lines and replies are those of `filing run --help`,
+but
+  - names of sessions are each script's own: two scripts may both open "s1"
+  - ["export","r1"] is a bad line
+  - a session opened to review sees at least what its own script has loaded and committed before
+
+Which script's step comes first is not said. The replies come script by script, in the order of the files:
+  filing threads --numeric concepts.txt load.jsonl anna.jsonl ben.jsonl > replies.jsonl"#;

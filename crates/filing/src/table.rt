@@ -1,4 +1,4 @@
-//! The numeric table of the command line.
+//! The numeric table of the command line, and the bytes of a file.
 
 ghost use Rattle.std.specs.Prelude.{◌≡◌, [], None, Ok};
 ghost use Rattle.filing.specs.Faults.{IsTableOf};
@@ -21,7 +21,7 @@ fn table_of(alloc: Global, bytes: &[u8]) -> Result<NumericTable, Fault>
 }
 
 /// The bytes of the file at a path.
-fn bytes_of<R: Files + AllocGlobal>(rt: &R, path: &str) -> Result<Vec<u8>, Fault> {
+pub(crate) fn bytes_of<R: Files + AllocGlobal>(rt: &R, path: &str) -> Result<Vec<u8>, Fault> {
     match fs::read(rt, path) {
         Ok(bytes) => Ok(bytes),
         Err(error) => Err(read_fault(&error)),

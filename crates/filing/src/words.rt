@@ -1,17 +1,17 @@
 ghost use Rattle.std.specs.Prelude.{◌≡◌, ◌⊎◌, false, IfOk, map, string_bytes};
 ghost use Rattle.clap.specs.Words.{app_of, kind_of, rule_of, subcommand_rows_of};
-ghost use Rattle.filing.specs.Words.{Asks, IsOrdered, numeric, history, judged, run, check, program};
+ghost use Rattle.filing.specs.Words.{Asks, IsOrdered, numeric, history, judged, scripts, run, check, threads, program};
 ghost use Rattle.filing.specs.declared.words.Order.TheVariants.{Shown};
 
 use crate::fault::Fault;
-use crate::help::{LINES, VERDICTS};
+use crate::help::{LINES, THREADS, VERDICTS};
 use clap::error::ErrorKind;
 use clap::{Arg, ArgAction, ArgMatches, Command, Error};
 use std::alloc::{AllocError, Global};
 use std::{env, io};
 
 /// What the words of the command line ask for.
-#[derive(Clone, Copy, Debug, PartialEq, Eq)]
+#[derive(Debug, Drop, PartialEq, Eq)]
 pub(crate) enum Order<'a> {
     /// Run the script that comes on standard input, by the numeric table of a file, if one is named. Its history goes to another, if that is named.
     Run {
@@ -22,6 +22,11 @@ pub(crate) enum Order<'a> {
     Check {
         numeric: Option<&'a str>,
         history: &'a str,
+    },
+    /// Run the scripts in some files, each in a thread of its own, by the numeric table of a file, if one is named.
+    Threads {
+        numeric: Option<&'a str>,
+        scripts: Vec<&'a str>,
     },
     /// Help was asked for, and it was shown.
     Shown,
@@ -66,6 +71,19 @@ fn judged_argument<'a>(alloc: Global) -> Arg<'a>
         .required(true)
 }
 
+/// The files of the scripts that are to be run in threads.
+#[tactic(auto, unfolding(crate::specs::Words::scripts))]
+fn scripts_argument<'a>(alloc: Global) -> Arg<'a>
+    ensures rule { rule_of result ≡ scripts }
+    ensures local { result.global ≡ false }
+{
+    Arg::new(alloc, "scripts")
+        .value_name("SCRIPT")
+        .help("A script of JSON lines, for a thread of its own; up to 16 of them")
+        .action(ArgAction::Append)
+        .required(true)
+}
+
 /// The command that runs a script.
 fn run_command<'a>(alloc: Global) -> Result<Command<'a>, AllocError>
     ensures { IfOk result (λ c. app_of c ≡ run) }
@@ -88,6 +106,17 @@ fn check_command<'a>(alloc: Global) -> Result<Command<'a>, AllocError>
         .arg(judged_argument(alloc))
 }
 
+/// The command that runs scripts in threads.
+fn threads_command<'a>(alloc: Global) -> Result<Command<'a>, AllocError>
+    ensures { IfOk result (λ c. app_of c ≡ threads) }
+{
+    Command::new(alloc, "threads")
+        .about("Runs scripts of JSON lines from files, each in a thread of its own")
+        .after_help(THREADS)
+        .arg(numeric_option(alloc))?
+        .arg(scripts_argument(alloc))
+}
+
 /// The commands that are there.
 fn command<'a>(alloc: Global) -> Result<Command<'a>, AllocError>
     ensures { IfOk result (λ c. app_of c ≡ program) }
@@ -97,11 +126,12 @@ fn command<'a>(alloc: Global) -> Result<Command<'a>, AllocError>
         .subcommand_required(true)
         .arg_required_else_help(false)
         .subcommand(run_command(alloc)?)?
+        .subcommand(threads_command(alloc)?)?
         .subcommand(check_command(alloc)?)
 }
 
-/// What the words that `clap` has taken ask for. It takes none without a command, and no `check` without its file.
-fn ordered<'a>(matches: &ArgMatches<'a>) -> Result<Order<'a>, Fault>
+/// What the words that `clap` has taken ask for. It takes none without a command, no `check` without its file, and no `threads` without a script.
+fn ordered<'a>(alloc: Global, matches: &ArgMatches<'a>) -> Result<Order<'a>, Fault>
     ensures { IfOk result (IsOrdered (subcommand_rows_of matches.now)) }
 {
     match matches.subcommand() {
@@ -113,6 +143,13 @@ fn ordered<'a>(matches: &ArgMatches<'a>) -> Result<Order<'a>, Fault>
             Some(history) => Ok(Order::Check {
                 numeric: check.get_str("numeric"),
                 history,
+            }),
+            None => Err(Fault::Words),
+        },
+        Some(("threads", threads)) => match threads.get_strs("scripts") {
+            Some(scripts) => Ok(Order::Threads {
+                numeric: threads.get_str("numeric"),
+                scripts: scripts.to_vec(alloc)?,
             }),
             None => Err(Fault::Words),
         },
@@ -148,7 +185,7 @@ pub(crate) fn read_words<'a, R: Print + Eprint + AllocGlobal>(
 {
     let mut command: Command<'a> = command(rt.alloc())?;
     match command.try_get_matches_from_mut(words) {
-        Ok(matches) => ordered(&matches),
+        Ok(matches) => ordered(rt.alloc(), &matches),
         Err(error) => shown(rt, &error),
     }
 }

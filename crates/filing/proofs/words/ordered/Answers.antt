@@ -1,7 +1,7 @@
-use Rattle.std.proofs.Common.{◌∙◌, sym, codes, option_map}
+use Rattle.std.proofs.Common.{◌∙◌, ap, sym, codes, map, option_map, Some, List, Bor, ℕ}
 use Rattle.clap.specs.Words.{found_of, rows_of, subcommand_rows_of}
-use Rattle.clap.proofs.WalkLemmas.{first_value-rows}
-use Rattle.filing.proofs.Entered.{both_read, files_of_run, files_of_check}
+use Rattle.clap.proofs.WalkLemmas.{first_value-rows, raw_values-rows}
+use Rattle.filing.proofs.Entered.{both_read, files_of_run, files_of_check, files_of_threads}
 use Rattle.filing.proofs.words.ordered.Goals as goal
 
 pub returns-in-Some-run-default : goal.returns-in-Some-run-default
@@ -25,3 +25,17 @@ returns-in-Some c =
     met.is-check
     (c.get_str-in-Some.ensures ∙ first_value-rows found (codes "numeric"))
     (c.in-Some.ensures ∙ first_value-rows found (codes "judged"))
+
+pub returns-in_ok-to_vec-in-Some-get_strs : goal.returns-in_ok-to_vec-in-Some-get_strs
+returns-in_ok-to_vec-in-Some-get_strs c =
+    let met = c.in-Some-threads-default in
+    let found = found_of met.threads.now in
+    let kept = c.in_ok-to_vec-in-Some-get_strs in
+    files_of_threads (subcommand_rows_of c.args.matches.now) met.field-0-0.now (rows_of found)
+    (option_map (λ s. s.now) c.get_str-in-Some-get_strs.result)
+    (map (λ s. s.now) kept.field-0.items)
+    (both_read _ _ _ _ _ (sym met.ensures.name) (sym met.ensures.rows))
+    met.is-threads
+    (c.get_str-in-Some-get_strs.ensures ∙ first_value-rows found (codes "numeric"))
+    (ap (λ (l : List (Bor (List ℕ))). Some (map (λ (s : Bor (List ℕ)). s.now) l)) (kept.ensures.items_if_clones_equal (λ x y h. h))
+    ∙ c.in-Some-get_strs.ensures ∙ raw_values-rows found (codes "scripts"))
