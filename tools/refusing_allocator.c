@@ -72,12 +72,13 @@ static int is_refused_copy(void)
 
 static int is_refused(void)
 {
-    growths++;
+    /* Threads may ask at once. */
+    unsigned long growth = __atomic_add_fetch(&growths, 1, __ATOMIC_RELAXED);
     if (each >= 0)
-        return (to == 0 || growths <= to) && is_refused_copy();
-    if (growths == from)
+        return (to == 0 || growth <= to) && is_refused_copy();
+    if (growth == from)
         feeds_then = feeds;
-    return from <= growths && growths <= to;
+    return from <= growth && growth <= to;
 }
 
 void *malloc(size_t size)
