@@ -2,7 +2,7 @@
 //!
 //! An order keeps each script's own. It explains the replies where one script of all lines in that order, with sessions named apart, is told the same. Orders are looked through depth first, and left at the first reply that differs. What a line is told after others is found by running them all alone.
 //!
-//! Only loads, openings and commits meet those of other scripts. Every other line is told the same wherever its own script has it, so that it is taken as soon as it can be, and no other line in its place.
+//! Only loads, openings and commits meet those of other scripts. Every other line is told the same wherever its own script has it, so that it is taken as soon as it can be, and no other line in its place. What can follow is known by how far each script is and at which versions its sessions were opened: where nothing could, this is not tried again.
 
 ghost use Rattle.std.specs.Prelude.{◌≡◌};
 
@@ -19,19 +19,33 @@ use std::sync::Arc;
 // So many lines are taken or given back at most.
 const MOST_TRIES: u64 = 1 << 14;
 
+/// How a line meets those of other scripts.
+#[derive(Clone, Copy, PartialEq, Eq)]
+enum Meeting {
+    /// It is told the same wherever its own script has it.
+    Never,
+    /// It is told by what others have made, and makes nothing.
+    Follows,
+    /// It opens a session at the version that there is.
+    Opens,
+    /// It makes a version.
+    Makes,
+}
+
 /// A line as a script of all lines has it, and what it is told.
 #[derive(Drop)]
 struct Told {
     line: Vec<u8>,
     reply: Vec<u8>,
-    /// Whether it matters when other scripts have their lines.
-    meets_others: bool,
+    meeting: Meeting,
 }
 
-/// A line that was taken: its script, and all lines up to it.
+/// A line that was taken, with all lines up to it.
 #[derive(Drop)]
 struct Taken {
     script: usize,
+    /// Its place in that script.
+    place: usize,
     lines: Vec<u8>,
 }
 
@@ -89,17 +103,31 @@ fn name_apart(alloc: Global, place: usize, value: &mut Value) -> Result<(), Allo
     Ok(())
 }
 
+/// How a line that begins with a word meets others, by what it is told.
+fn meeting_of(word: &str, reply: &[u8]) -> Meeting {
+    match word {
+        "load" if reply.starts_with(b"[\"loaded\"") => Meeting::Makes,
+        "load" => Meeting::Follows,
+        "open" if reply == b"[\"opened\"]".as_slice() => Meeting::Opens,
+        "commit" if reply.starts_with(b"[\"committed\"") => Meeting::Makes,
+        "commit" if reply == b"[\"no-session\"]".as_slice() => Meeting::Never,
+        "commit" if reply == b"[\"closed\"]".as_slice() => Meeting::Never,
+        "commit" => Meeting::Follows,
+        _ => Meeting::Never,
+    }
+}
+
 /// A line with its reply, as a script of all lines has it: its session is named apart, and an export is a bad line.
 fn told_apart(alloc: Global, place: usize, line: &[u8], reply: &[u8]) -> Result<Told, AllocError> {
-    let reply = Vec::from_slice(alloc, reply)?;
+    let told = Vec::from_slice(alloc, reply)?;
     let Some(mut value) = json_value(alloc, line)? else {
         return Ok(Told {
             line: Vec::from_slice(alloc, line)?,
-            reply,
-            meets_others: false,
+            reply: told,
+            meeting: Meeting::Never,
         });
     };
-    let meets_others = matches!(word_in(&value), "load" | "open" | "commit");
+    let meeting = meeting_of(word_in(&value), reply);
     match word_in(&value) {
         "load" => {}
         "export" => value = Value::Null,
@@ -108,8 +136,8 @@ fn told_apart(alloc: Global, place: usize, line: &[u8], reply: &[u8]) -> Result<
     let line = Vec::from_slice(alloc, value.to_string(alloc)?.as_bytes())?;
     Ok(Told {
         line,
-        reply,
-        meets_others,
+        reply: told,
+        meeting,
     })
 }
 
@@ -171,16 +199,20 @@ fn lines_up_to(
     }
 }
 
+/// How many lines of a script were taken.
+fn count_taken(taken: &[Taken], script: usize) -> usize {
+    taken.iter().filter(|one| one.script == script).count()
+}
+
 /// The first line of a script that was not taken.
 fn line_left<'a>(all: &'a [Vec<Told>], taken: &[Taken], script: usize) -> Option<&'a Told> {
-    let before = taken.iter().filter(|one| one.script == script).count();
-    all.get(script)?.get(before)
+    all.get(script)?.get(count_taken(taken, script))
 }
 
 /// The scripts from which the next line may be: one alone where its line meets no other script's.
 fn next_scripts(all: &[Vec<Told>], taken: &[Taken]) -> Range<usize> {
     for script in 0..all.len() {
-        if line_left(all, taken, script).is_some_and(|told| !told.meets_others) {
+        if line_left(all, taken, script).is_some_and(|told| told.meeting == Meeting::Never) {
             return script..script.saturating_add(1);
         }
     }
@@ -198,11 +230,39 @@ fn next_taken(
     for script in next_scripts(all, taken).filter(|script| from <= *script) {
         if let Some(told) = line_left(all, taken, script) {
             if let Some(lines) = lines_up_to(alloc, table, taken, told)? {
-                return Ok(Some(Taken { script, lines }));
+                let place = count_taken(taken, script);
+                return Ok(Some(Taken {
+                    script,
+                    place,
+                    lines,
+                }));
             }
         }
     }
     Ok(None)
+}
+
+/// How far each script is, and at which version each of its sessions was opened.
+fn state_of(alloc: Global, all: &[Vec<Told>], taken: &[Taken]) -> Result<Vec<u64>, AllocError> {
+    let mut state = Vec::new(alloc);
+    for (script, lines) in all.iter().enumerate() {
+        let mut own = 0usize;
+        let mut version = 0u64;
+        for one in taken {
+            let told = all.get(one.script).and_then(|lines| lines.get(one.place));
+            if told.is_some_and(|told| told.meeting == Meeting::Makes) {
+                version = version.saturating_add(1);
+            }
+            if one.script == script {
+                own = own.saturating_add(1);
+                if told.is_some_and(|told| told.meeting == Meeting::Opens) {
+                    state.push(version)?;
+                }
+            }
+        }
+        state.push(u64::MAX - own as u64)?;
+    }
+    Ok(state)
 }
 
 /// The order in which lines were taken.
@@ -212,6 +272,11 @@ fn order_of(alloc: Global, taken: &[Taken]) -> Result<Order, AllocError> {
         scripts.push(one.script)?;
     }
     Ok(Order { scripts })
+}
+
+/// Whether a state is one of some.
+fn is_among(states: &[Vec<u64>], state: &[u64]) -> bool {
+    states.iter().any(|one| one.as_slice() == state)
 }
 
 /// How many lines there are.
@@ -236,12 +301,23 @@ pub(crate) fn explanation(
     let count = count_of(&all);
     let mut taken = Vec::new(alloc);
     let mut from = 0usize;
+    let mut dead = Vec::new(alloc);
     for _ in 0..MOST_TRIES {
         if taken.len() == count {
             return Ok(Finding::Explained(order_of(alloc, &taken)?));
         }
-        if let Some(next) = next_taken(alloc, table, &all, &taken, from)? {
-            taken.push(next)?;
+        let next = next_taken(alloc, table, &all, &taken, from)?;
+        let goes_on = match next {
+            Some(next) => {
+                taken.push(next)?;
+                !is_among(&dead, &state_of(alloc, &all, &taken)?)
+            }
+            None => {
+                dead.push(state_of(alloc, &all, &taken)?)?;
+                false
+            }
+        };
+        if goes_on {
             from = 0;
         } else if let Some(last) = taken.pop() {
             from = last.script.saturating_add(1);
