@@ -260,6 +260,7 @@ fn state_of(alloc: Global, all: &[Vec<Told>], taken: &[Taken]) -> Result<Vec<u64
                 }
             }
         }
+        // How far it is ends what is known of a script, and is no number of a version.
         state.push(u64::MAX - own as u64)?;
     }
     Ok(state)
