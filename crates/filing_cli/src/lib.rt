@@ -22,4 +22,4 @@ pub use line_run::{
     is_blank, run, write_all,
 };
 pub use script::{run_script, run_script_within};
-pub use thread_scripts::{ThreadsFault, run_threads};
+pub use thread_scripts::{ThreadsFault, Unwatched, Watch, run_threads};

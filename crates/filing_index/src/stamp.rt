@@ -304,6 +304,11 @@ impl Entry for Stamp {
 
     ghost is_total = { stamp_cmp-total };
 
+    /// A stamp takes more room than a fact in an index, and a commit leaves some sixteen of them.
+    fn most_in_page() -> usize {
+        32
+    }
+
     fn order(&self, other: &Stamp) -> Ordering {
         self.cmp(other)
     }

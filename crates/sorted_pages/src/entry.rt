@@ -1,5 +1,5 @@
 //! What an entry is, and what asks for a range of entries.
-ghost use Rattle.std.specs.Prelude.{◌≡◌, ℕ, IfOk};
+ghost use Rattle.std.specs.Prelude.{◌≡◌, ◌≤◌, ℕ, IfOk};
 ghost use Rattle.std.specs.Cmp.{IsTotalOrder};
 ghost use Rattle.std.specs.declared.cmp.Ordering.{Ordering};
 ghost use Rattle.sorted_pages.specs.Ranges.{IsMonotone};
@@ -18,6 +18,14 @@ pub trait Peaked {
 /// An entry of a sorted list. Those that tie with it are told from it by nothing else.
 pub trait Entry: Peaked + Drop {
     ghost order: { Self → Self → Ordering };
+
+    /// The most of these that a page holds. A changed copy of a list copies each page that changes, and pieces of more than a kilobyte are dear to ask for.
+    fn most_in_page() -> usize
+        ensures some { 2 ≤ result }
+        ensures few { result ≤ 64 }
+    {
+        64
+    }
 
     /// How the entry stands to another one.
     fn order(&self, other: &Self) -> Ordering

@@ -69,7 +69,7 @@ impl<E: Entry> Level<E> for Leaf<E> {
     ghost entries = { λ leaf. single leaf };
 
     fn most() -> usize {
-        64
+        E::most_in_page()
     }
 
     fn first(&self) -> &E {

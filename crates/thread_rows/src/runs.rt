@@ -3,7 +3,7 @@
 ghost use Rattle.std.specs.Prelude.{◌≡◌, ◌≤◌, ◌<◌, length};
 
 use anyhow::{Result, anyhow};
-use filing_cli::{MemoryIn, MemoryOut, run_script, run_threads};
+use filing_cli::{MemoryIn, MemoryOut, Unwatched, run_script, run_threads};
 use oim_fact::NumericTable;
 use std::alloc::Global;
 use std::marker::{Brand, Sync};
@@ -34,7 +34,7 @@ fn written_in_threads<K: Ledger, R: AllocGlobal + Threads + Wait + Sync>(
     requires sink_some { 0 < blank.parts }
 {
     let mut sink: MemoryOut<K> = MemoryOut::new(rt.alloc(), ROOM, PIECE, blank)?;
-    run_threads(rt, rt.alloc(), scripts, &mut sink, table)?;
+    run_threads(rt, rt.alloc(), scripts, &mut sink, table, &Unwatched)?;
     Ok(Vec::from_slice(rt.alloc(), sink.written())?)
 }
 

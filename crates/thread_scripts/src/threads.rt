@@ -7,6 +7,7 @@ use crate::fault::ThreadsFault;
 use crate::office::{Taken, taken_at_office};
 use crate::script::{Script, read_all};
 use crate::told::Replies;
+use crate::watch::Watch;
 use crate::written::write_replies;
 use filing_office::{Naming, OpenFault, Press};
 use line_run::Sink;
@@ -19,9 +20,15 @@ use std::thread;
 use std::thread::Threads;
 
 /// Lets the desks of an office take the steps of the scripts, and puts the replies together, those of each script in a thread of its own.
-fn answered<L: Ledger + Naming + Send + Sync, M: Ledger + Send + Sync, R: Threads + Wait + Sync>(
+fn answered<
+    L: Ledger + Naming + Send + Sync,
+    M: Ledger + Send + Sync,
+    R: Threads + Wait + Sync,
+    V: Watch,
+>(
     rt: &R,
     alloc: Global,
+    watch: &V,
     scripts: Vec<Script>,
     press: Press,
     steps: Blank,
@@ -33,7 +40,9 @@ fn answered<L: Ledger + Naming + Send + Sync, M: Ledger + Send + Sync, R: Thread
     requires steps { (steps.name ≡ L.name) × (steps.parts ≡ L.parts) × (steps.parts ≡ vec_len scripts) }
     requires receipts { (receipts.name ≡ M.name) × (receipts.parts ≡ M.parts) × (receipts.parts ≡ vec_len scripts) }
 {
-    let all_taken = taken_at_office::<L, M, R>(rt, alloc, scripts, press, steps, receipts)?;
+    let all_taken = taken_at_office::<L, M, R, V>(
+        rt, alloc, watch, scripts, press, steps, receipts,
+    )?;
     let tell = |taken: Taken<L>| -> Result<Replies, AllocError> {
         let Taken { told, outcomes } = taken;
         Replies::of(alloc, told, outcomes)
@@ -41,13 +50,14 @@ fn answered<L: Ledger + Naming + Send + Sync, M: Ledger + Send + Sync, R: Thread
     Ok(thread::map_vec(rt, all_taken, &tell)?)
 }
 
-/// Runs scripts, from 1 to 16, each in a thread of its own with a desk and a reviewer of one office, and writes the replies of one script after the other. A script is answered as `run_script` answers one, but its reviews take no lock, names are its own, and an export is a bad line. Where memory is wanted for a step, the replies of that script end before it, all other replies are written, and the answer is `NoMemory`; after any other fault a front of the replies is written.
-pub fn run_threads<W: Sink, R: Threads + Wait + Sync>(
+/// Runs scripts, from 1 to 16, each in a thread of its own with a desk and a reviewer of one office, and writes the replies of one script after the other. A script is answered as `run_script` answers one, but its reviews take no lock, names are its own, and an export is a bad line. Where memory is wanted for a step, the replies of that script end before it, all other replies are written, and the answer is `NoMemory`; after any other fault a front of the replies is written. Each step that is taken is told to the watch.
+pub fn run_threads<W: Sink, R: Threads + Wait + Sync, V: Watch>(
     rt: &R,
     alloc: Global,
     scripts: &[Vec<u8>],
     output: &mut W,
     table: &Arc<NumericTable>,
+    watch: &V,
 ) -> Result<(), ThreadsFault>
     requires some { 0 < length scripts.now }
     requires few { length scripts.now ≤ 16 }
@@ -55,9 +65,10 @@ pub fn run_threads<W: Sink, R: Threads + Wait + Sync>(
 {
     let read = read_all(rt, alloc, scripts, table)?;
     let parts = read.len() as u64;
-    match answered::<Brand, Brand, R>(
+    match answered::<Brand, Brand, R, V>(
         rt,
         alloc,
+        watch,
         read,
         Press::new(),
         Blank::new(parts),

@@ -4,7 +4,7 @@ ghost use Rattle.std.specs.Prelude.{◌≡◌, ◌≤◌, ◌<◌};
 
 use anyhow::Result;
 use filing_cli::{
-    MemoryIn, MemoryOut, ScriptFault, judge_history, run_script, run_script_within, write_history,
+    MemoryIn, MemoryOut, ScriptFault, judge_history, run_script_within, write_history,
     write_verdict,
 };
 use filing_core::{Core, Verdict};
@@ -154,29 +154,4 @@ pub(crate) fn comes_to(
         Blank::new(3),
         Blank::new(1),
     )
-}
-
-/// The core that a script leaves over devices.
-fn left_by<L: Ledger, K: Ledger>(
-    alloc: Global,
-    table: &Arc<NumericTable>,
-    script: &[u8],
-    source_blank: Blank,
-    sink_blank: Blank,
-) -> Result<Core>
-    requires source_name { source_blank.name ≡ L.name }
-    requires source_parts { source_blank.parts ≡ L.parts }
-    requires source_three { 3 ≤ source_blank.parts }
-    requires sink_name { sink_blank.name ≡ K.name }
-    requires sink_parts { sink_blank.parts ≡ K.parts }
-    requires sink_some { 0 < sink_blank.parts }
-{
-    let mut source: MemoryIn<'_, L> = MemoryIn::new(script, ROOM, source_blank);
-    let mut sink: MemoryOut<K> = MemoryOut::new(alloc, ROOM, ROOM, sink_blank)?;
-    Ok(run_script(alloc, &mut source, &mut sink, table)?)
-}
-
-/// The core that a script leaves.
-pub(crate) fn core_of(alloc: Global, table: &Arc<NumericTable>, script: &[u8]) -> Result<Core> {
-    left_by::<Brand, Brand>(alloc, table, script, Blank::new(3), Blank::new(1))
 }

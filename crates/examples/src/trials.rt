@@ -1,17 +1,12 @@
 //! Runs a script, writes its history, judges that, and writes the verdict, over devices of memory that give and take one byte at a time, of which each call fails in turn; and answers lines of bad bytes.
 //!
 //! `devices` does one of these things over devices of which one call goes wrong, and `fronts` says what is to be written then.
-#![tactic(auto)]
 
-ghost use Rattle.std.specs.Prelude.{◌≡◌, ◌≤◌, ◌<◌};
-
-mod devices;
-mod fronts;
-
+use crate::devices::{Given, Trial, Wanted, Work, comes_to};
+use crate::fronts::{first_lines, line_feeds_in};
+use crate::histories::left_by;
 use anyhow::{Result, anyhow};
-use devices::{Given, Trial, Wanted, Work, comes_to, core_of};
 use filing_cli::ScriptFault;
-use fronts::{first_lines, line_feeds_in};
 use oim_report::read_table;
 use std::alloc::{AllocError, Global};
 use std::fs;
@@ -211,7 +206,7 @@ fn is_told(alloc: Global, given: &Given, script: &[u8], replies: &[u8]) -> Resul
         replies: Vec::from_slice(alloc, replies)?,
         history: Vec::new(alloc),
         table: Arc::try_clone(&given.table)?,
-        core: core_of(alloc, &given.table, b"")?,
+        core: left_by(alloc, &given.table, b"")?,
     };
     let sound = Wanted {
         fault: None,
@@ -237,7 +232,7 @@ fn try_bad(alloc: Global, given: &Given) -> Result<Seen> {
 fn read_given<R: Files + AllocGlobal>(rt: &R) -> Result<Given> {
     let table = Arc::new(rt.alloc(), read_table(rt.alloc(), "")?)?;
     let script = fs::read(rt, "run.jsonl")?;
-    let core = core_of(rt.alloc(), &table, &script)?;
+    let core = left_by(rt.alloc(), &table, &script)?;
     Ok(Given {
         script,
         replies: fs::read(rt, "run.replies")?,
@@ -247,16 +242,17 @@ fn read_given<R: Files + AllocGlobal>(rt: &R) -> Result<Given> {
     })
 }
 
-fn main(rt: HostRuntime) -> Result<()> {
-    let given = read_given(&rt)?;
+/// Has each call of each work go wrong in turn.
+pub(crate) fn try_devices<R: Files + Print + AllocGlobal>(rt: &R) -> Result<()> {
+    let given = read_given(rt)?;
     let mut all = Seen::NONE;
     for (title, work, wrong) in TRIALS {
         let seen = try_each(rt.alloc(), &given, work, wrong)?;
-        tell(&rt, title, seen)?;
+        tell(rt, title, seen)?;
         all.differing = all.differing.saturating_add(seen.differing);
     }
     let bad = try_bad(rt.alloc(), &given)?;
-    tell(&rt, "scripts of bad bytes", bad)?;
+    tell(rt, "scripts of bad bytes", bad)?;
     if all.differing == 0 && bad.differing == 0 {
         Ok(())
     } else {

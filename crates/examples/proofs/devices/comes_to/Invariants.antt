@@ -1,5 +1,5 @@
--- The counts of source and sink are shares of the ledgers that their blanks become.
-use Rattle.device_rows.proofs.devices.comes_to.Given as goal
+-- The counts of each device are shares of the ledger that its blank becomes.
+use Rattle.examples.proofs.devices.comes_to.Given as goal
 
 abbrev pub ghosts-ends_so-L-Ledger : goal.ghosts-ends_so-L-Ledger
 ghosts-ends_so-L-Ledger a = record { name = a.source_blank.name; parts = a.source_blank.parts }

@@ -1,18 +1,11 @@
 //! Compares the histories of worked scripts, and the verdicts on them and on changed ones, with what is written beside them.
 //!
-//! A file of `data/` has sheets. A line that begins with `# ` begins one and is its title; one that begins with `| ` is a line of a script, whose history has to be the plain lines after it; a line that begins with `= ` is the verdict on the plain lines before it; one that is `~` asks that each entry whose reply is changed departs there. `sheet` reads them, `histories` runs scripts and judges, and `changed` changes replies.
-#![tactic(auto)]
+//! A file of `data/` has sheets. A line that begins with `# ` begins one and is its title; one that begins with `| ` is a line of a script, whose history has to be the plain lines after it; a line that begins with `= ` is the verdict on the plain lines before it; one that is `~` asks that each entry whose reply is changed departs there. `sheet` reads them, `answered` runs scripts and judges, and `changed` changes replies.
 
-mod changed;
-mod histories;
-mod sheet;
-
+use crate::answered::Answered;
+use crate::sheet::Sheet;
 use anyhow::Result;
-use histories::Answered;
 use oim_fact::NumericTable;
-use oim_report::read_table;
-use sheet::Sheet;
-use std::alloc::Global;
 use std::fs;
 use std::rt::Files;
 use std::sync::Arc;
@@ -22,13 +15,6 @@ use std::sync::Arc;
 struct Seen {
     sheets: u64,
     differing: u64,
-}
-
-/// The numeric table by which all reports are read.
-fn read_numeric<R: Files + AllocGlobal>(rt: &R) -> Result<Arc<NumericTable>> {
-    let text = fs::read_to_string(rt, "numeric.txt")?;
-    let table = read_table(rt.alloc(), text.as_str())?;
-    Ok(Arc::new(rt.alloc(), table)?)
 }
 
 /// Tells what a sheet is answered where it is not what is written in it.
@@ -76,16 +62,19 @@ fn compare_sheets<R: Print + AllocGlobal>(
     compare_sheet(rt, table, &sheet, seen)
 }
 
-fn main(rt: HostRuntime) -> Result<()> {
-    let table = read_numeric(&rt)?;
+/// Compares the sheets of each file.
+pub(crate) fn compare_worked<R: Files + Print + AllocGlobal>(
+    rt: &R,
+    table: &Arc<NumericTable>,
+) -> Result<()> {
     for name in ["written", "judged"] {
-        let file = fs::read(&rt, format!(in rt.alloc(); "{name}.rows")?)?;
-        let seen = compare_sheets(&rt, &table, &file)?;
+        let file = fs::read(rt, format!(in rt.alloc(); "{name}.rows")?)?;
+        let seen = compare_sheets(rt, table, &file)?;
         let (sheets, differing) = (seen.sheets, seen.differing);
         if differing == 0 {
-            println!(&rt; "{name}: {sheets} sheets, as written")?;
+            println!(rt; "{name}: {sheets} sheets, as written")?;
         } else {
-            println!(&rt; "{name}: {sheets} sheets, {differing} DIFFER")?;
+            println!(rt; "{name}: {sheets} sheets, {differing} DIFFER")?;
         }
     }
     Ok(())

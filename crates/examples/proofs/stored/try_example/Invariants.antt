@@ -1,5 +1,5 @@
 -- The counts of each device are shares of the ledger that its blank becomes.
-use Rattle.examples.proofs.try_example.Given as goal
+use Rattle.examples.proofs.stored.try_example.Given as goal
 
 abbrev pub ghosts-run_beside-L-Ledger : goal.ghosts-run_beside-L-Ledger
 ghosts-run_beside-L-Ledger g a = record { name = a.source_blank.name; parts = a.source_blank.parts }
