@@ -1,34 +1,23 @@
--- Stamps that are gathered, each once, and puts of them.
-use Rattle.std.proofs.Common.{◌≡◌, ◌∙◌, ap, sym, subst, refl, ℕ, ◌+◌, ◌<◌, ◌≤◌, T, List, [], ◌∷◌, ◌++◌, map, drop, length, get_or, Ordering, Less, is_lt, IfOk, Result, Ok, Err}
-use Rattle.std.proofs.lemmas.List.{drop_more, drop_all}
-use Rattle.std.specs.BTreeSet.{insert_key}
-use Rattle.std.specs.List.{flat_map, AllByRecursion}
-use Rattle.std.specs.List.Sorted.{IsStrictlySortedBy}
+-- Stamps that were sorted, one of those that tie, and puts of them.
+use Rattle.std.proofs.Common.{◌≡◌, ◌∙◌, ap, sym, subst, refl, Bool, true, false, cond, ◌||◌, T, List, [], ◌∷◌, map, Ordering, Less, Equal, is_lt, IfOk, Result, Ok, Err, IsPermutation}
+use Rattle.std.specs.Cmp.{Equal-is}
+use Rattle.std.specs.List.{AllByRecursion, dedup, dedup_from, list_any}
+use Rattle.std.specs.List.Sorted.{IsSorted, IsStrictlySortedBy}
+use Rattle.std.specs.Ordering.{eq_by_cmp}
+use Rattle.std.proofs.lemmas.List.Elements.{All-from_recursion, recursion_from_All}
+use Rattle.std.proofs.lemmas.List.Filters.{All-dedup}
+use Rattle.std.proofs.lemmas.List.Kept.{IsStrictlySortedBy-dedup}
+use Rattle.std.proofs.lemmas.List.Sorted.{All-permutation, list_any-IsPermutation}
 use Rattle.sorted_pages.specs.declared.change.Change.{Change}
 use Rattle.sorted_pages.specs.declared.change.Change.TheVariants.{Put}
 use Rattle.sorted_pages.specs.Changes.{entry_of}
 use Rattle.sorted_pages.specs.Sorted.{IsRising, is_below}
-use Rattle.filing_model.proofs.Tests.{both_hold}
-use Rattle.filing_index.specs.Stamps.{inserted}
+use Rattle.filing_model.proofs.Tests.{asked_twice, both_hold}
+use Rattle.filing_index.specs.Stamps.{Stamp, stamp_cmp, ArePuts}
+use Rattle.filing_index.specs.StampOrders.{stamp_cmp-total}
 
 module _ {E : Type 0} (R : E → E → Ordering) where
-  inserted_twice : (es xs ys : List E) → inserted R (inserted R es xs) ys ≡ inserted R es (xs ++ ys)
-  inserted_twice es [] ys = refl
-  inserted_twice es (x ∷ xs) ys = inserted_twice (insert_key R es x) xs ys
-
-  module _ {X : Type 0} (left : X → List E) where
-    -- one turn of a loop that gathers what each item leaves
-    pub gathered_more : (xs : List X) (i : ℕ) (x : X) (old new total : List E) → i < length xs → x ≡ get_or xs i x → new ≡ inserted R old (left x)
-        → inserted R old (flat_map left (drop i xs)) ≡ total → inserted R new (flat_map left (drop (i + 1) xs)) ≡ total
-    gathered_more xs i x old new total h read en et =
-        ap (λ es. inserted R es (flat_map left (drop (i + 1) xs))) en ∙ inserted_twice old (left x) (flat_map left (drop (i + 1) xs))
-        ∙ ap (λ y. inserted R old (left y ++ flat_map left (drop (i + 1) xs))) read
-        ∙ ap (λ ys. inserted R old (flat_map left ys)) (sym (drop_more xs i x h)) ∙ et
-
-    pub gathered_all : (xs : List X) (i : ℕ) (es total : List E) → length xs ≤ i → inserted R es (flat_map left (drop i xs)) ≡ total → es ≡ total
-    gathered_all xs i es total h et = ap (λ ys. inserted R es (flat_map left ys)) (sym (drop_all i xs h)) ∙ et
-
-  -- ---- a set's order
+  -- ---- a strict order
 
   below : (x : E) (es : List E) → AllByRecursion (λ y. R x y ≡ Less) es → T (is_below R x es)
   below x [] h = tt
@@ -45,6 +34,40 @@ module _ {E : Type 0} (R : E → E → Ordering) where
 
   pub rising_puts : (es : List E) (changes : List (Change E)) → IsStrictlySortedBy R es → changes ≡ map Put es → IsRising R (map entry_of changes)
   rising_puts es changes h e = subst (IsRising R) (sym (ap (map entry_of) e ∙ entries_of_puts es)) (rising_from_sorted es h)
+
+  -- ---- one of those that tie
+
+  module _ (test : E → Bool) (alike : (x y : E) → R x y ≡ Equal → test x ≡ test y) where
+    any_from : (e : E) (es : List E) → list_any test (dedup_from (eq_by_cmp R) e es) ≡ (test e || list_any test es)
+    any_from e [] = refl
+    any_from e (x ∷ xs) =
+        elim (eq_by_cmp R x e) as (λ b. eq_by_cmp R x e ≡ b → list_any test (cond b (dedup_from (eq_by_cmp R) e xs) (e ∷ dedup_from (eq_by_cmp R) x xs))
+        ≡ (test e || (test x || list_any test xs))) [
+          | true ↦ λ t.
+              any_from e xs ∙ asked_twice (test e) (list_any test xs)
+              ∙ ap (λ b. test e || (b || list_any test xs)) (sym (alike x e ((Equal-is (R x e)).0 t)))
+          | false ↦ λ _. ap (λ b. test e || b) (any_from x xs)
+        ] refl
+
+    pub any_deduped : (es : List E) → list_any test (dedup (eq_by_cmp R) es) ≡ list_any test es
+    any_deduped [] = refl
+    any_deduped (e ∷ es) = any_from e es
+
+pub sorted_stamps_rise : (stamps : List Stamp) → IsSorted stamp_cmp stamps → IsStrictlySortedBy stamp_cmp (dedup (eq_by_cmp stamp_cmp) stamps)
+sorted_stamps_rise stamps h = IsStrictlySortedBy-dedup stamp_cmp-total (λ x y. refl) stamps h
+
+-- puts of stamps that were sorted, one of those that tie
+pub are_puts : (stamps sorted : List Stamp) (changes : List (Change Stamp)) → IsPermutation stamps sorted
+    → changes ≡ map Put (dedup (eq_by_cmp stamp_cmp) sorted) → ArePuts stamps changes
+are_puts stamps sorted changes moved are = record {
+  entries = dedup (eq_by_cmp stamp_cmp) sorted;
+  puts = are;
+  numbered = λ n all.
+      recursion_from_All (λ (s : Stamp). s.number ≡ n) (dedup (eq_by_cmp stamp_cmp) sorted)
+      (All-dedup (eq_by_cmp stamp_cmp) (λ s. s.number ≡ n) sorted
+      (All-permutation (λ s. s.number ≡ n) stamps sorted moved (All-from_recursion (λ (s : Stamp). s.number ≡ n) stamps all)));
+  alike = λ test same. any_deduped stamp_cmp test same sorted ∙ sym (list_any-IsPermutation test stamps sorted moved);
+}
 
 pub if_ok : {A F : Type 0} {P Q : A → Type 0} → ((x : A) → P x → Q x) → (r : Result A F) → IfOk r P → IfOk r Q
 if_ok f (Ok x) h = f x h

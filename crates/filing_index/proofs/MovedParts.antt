@@ -1,10 +1,10 @@
 -- Which parts the stamps of moves stand in, and what they make of the stamps before.
-use Rattle.std.proofs.Common.{◌≡◌, ◌∙◌, ap, sym, subst, refl, ℕ, ◌≤◌, arith, Bool, true, false, cond, ◌&&◌, ◌||◌, List, [], ◌∷◌, ◌++◌, map, Option, Some, None, is_none, Ordering, Less, Equal, Greater, is_eq, true≢false}
+use Rattle.std.proofs.Common.{◌≡◌, ◌∙◌, ap, sym, subst, refl, ℕ, ◌≤◌, arith, Bool, true, false, cond, ◌&&◌, ◌||◌, List, [], ◌∷◌, ◌++◌, Option, Some, None, is_none, Ordering, Less, Equal, Greater, is_eq, true≢false}
 use Rattle.std.specs.Cmp.{Equal-is, tied_itself, tied_then, nat_cmp_total, eq_by_cmp_equiv}
 use Rattle.std.specs.List.{list_any, flat_map}
 use Rattle.std.specs.Option.{option_cmp, option_eq, option_map, option_map_or}
 use Rattle.std.specs.Ordering.{nat_cmp, ordering_then}
-use Rattle.sorted_pages.specs.declared.change.Change.TheVariants.{Put}
+use Rattle.sorted_pages.specs.declared.change.Change.{Change}
 use Rattle.sorted_pages.specs.Changes.{with_changes}
 use Rattle.filing_model.specs.Text.{Text, text_cmp, text_eq}
 use Rattle.filing_model.specs.Dimensions.{Dims, dims_cmp, dims_eq, concept_of, period_of}
@@ -17,10 +17,10 @@ use Rattle.filing_model.proofs.Texts.{text_eq-sym}
 use Rattle.filing_model.proofs.DimensionSets.{dims_cmp-total, dims_cmp-Equal, nullable_Equal}
 use Rattle.filing_model.proofs.Tests.{both_are_equal}
 use Rattle.filing_index.specs.Moves.{Move, Part, Id, Cell, Range, is_moved, is_moved_in, stamped_by}
-use Rattle.filing_index.specs.Stamps.{Group, no_group, group_cmp, group_code, Stamp, stamp_cmp, stamps_of, stamps_if_there, stamps_of_move, stamps_of_moves, Between, is_upto, ids_side, among_side, part_among, stamp_in}
+use Rattle.filing_index.specs.Stamps.{Group, no_group, group_cmp, group_code, Stamp, stamp_cmp, stamps_of, stamps_if_there, stamps_of_move, stamps_of_moves, ArePuts, Between, is_upto, ids_side, among_side, part_among, stamp_in}
 use Rattle.std.proofs.lemmas.List.Folds.{list_any-append}
 use Rattle.filing_index.proofs.StampTies.{among_alike}
-use Rattle.filing_index.proofs.PutNumbers.{AllHave, put_all, AllHave-inserted, any-inserted}
+use Rattle.filing_index.proofs.PutNumbers.{AllHave, put_all}
 
 -- ---- tests
 
@@ -202,19 +202,21 @@ moves_have n (move ∷ moves) =
     (both_have n (stamps_if_there n (option_map (λ f. (move.id, f)) move.old)) (stamps_if_there n (option_map (λ f. (move.id, f)) move.new)) (fact_has n move.id move.old) (fact_has n move.id move.new))
     (moves_have n moves)
 
+pub puts_of_these : {left these : List Stamp} {changes others : List (Change Stamp)} → left ≡ these → others ≡ changes → ArePuts left changes → ArePuts these others
+puts_of_these {left} {these} {changes} {others} e same are = subst (λ (ss : List Stamp). ArePuts ss others) e (subst (λ (cs : List (Change Stamp)). ArePuts left cs) (sym same) are)
+
 -- stamps of moves that are put in: what they touch has their number, all else keeps its own
-pub stamped : (moves : List Move) (n : ℕ) (stamps : List Stamp) → ((part : Part) → stamp_in stamps part ≤ n)
-    → stamp_in (with_changes stamp_cmp (map Put (stamps_of_moves n moves)) stamps) ≡ stamped_by moves n (stamp_in stamps)
-stamped moves n stamps upto = λ i part. at part i
+pub stamped : (moves : List Move) (n : ℕ) (stamps : List Stamp) (changes : List (Change Stamp)) → ArePuts (stamps_of_moves n moves) changes
+    → ((part : Part) → stamp_in stamps part ≤ n) → stamp_in (with_changes stamp_cmp changes stamps) ≡ stamped_by moves n (stamp_in stamps)
+stamped moves n stamps changes are upto = λ i part. at part i
   where
-    at : (part : Part) → stamp_in (with_changes stamp_cmp (map Put (stamps_of_moves n moves)) stamps) part ≡ stamped_by moves n (stamp_in stamps) part
+    at : (part : Part) → stamp_in (with_changes stamp_cmp changes stamps) part ≡ stamped_by moves n (stamp_in stamps) part
     at part =
-        put_all stamp_cmp (λ s. s.number) (among_side (part_among part)) (among_alike (part_among part)) n (stamps_of_moves n moves) stamps
-        (AllHave-inserted stamp_cmp (λ s. s.number) (among_side (part_among part)) (among_alike (part_among part)) n (flat_map (stamps_of_move n) moves) [] (moves_have n moves) tt)
-        (upto part)
+        ap (λ (cs : List (Change Stamp)). stamp_in (with_changes stamp_cmp cs stamps) part) are.puts
+        ∙ put_all stamp_cmp (λ s. s.number) (among_side (part_among part)) (among_alike (part_among part)) n are.entries stamps
+        (are.numbered n (moves_have n moves)) (upto part)
         ∙ ap (λ b. cond b n (stamp_in stamps part))
-        (any-inserted stamp_cmp (λ s. s.number) (among_side (part_among part)) (among_alike (part_among part)) (flat_map (stamps_of_move n) moves) []
-        ∙ or_false (hits part (flat_map (stamps_of_move n) moves)) ∙ moves_hit part n moves)
+        (are.alike (λ s. is_eq (among_side (part_among part) s)) (λ x y e. ap is_eq (among_alike (part_among part) x y e)) ∙ moves_hit part n moves)
 
 -- no part has more than the number of the last moves
 pub stamped_upto : (moves : List Move) (n : ℕ) (old new : Part → ℕ) → ((part : Part) → old part ≤ n) → new ≡ stamped_by moves n old

@@ -1,8 +1,6 @@
 -- What puts of one number do to the greatest number of a range.
 use Rattle.std.proofs.Common.{◌≡◌, ◌∙◌, ap, sym, subst, refl, ℕ, ◌≤◌, max, arith, Bool, true, false, cond, ◌||◌, List, [], ◌∷◌, map, Ordering, Less, Equal, Greater, is_eq}
-use Rattle.std.specs.BTreeSet.{insert_key}
-use Rattle.std.specs.List.{list_any}
-use Rattle.std.specs.Ordering.{match_ordering}
+use Rattle.std.specs.List.{AllByRecursion, list_any}
 use Rattle.std.specs.FinMap.Entries.{by_order, put}
 use Rattle.sorted_pages.specs.declared.change.Change.TheVariants.{Put}
 use Rattle.sorted_pages.specs.Sorted.{keyed, entries}
@@ -10,8 +8,6 @@ use Rattle.sorted_pages.specs.Changes.{with_change, with_changes}
 use Rattle.sorted_pages.specs.Pages.{greatest}
 use Rattle.sorted_pages.specs.Ranges.{within}
 use Rattle.sorted_pages.proofs.Parts.{entries-keyed}
-use Rattle.filing_model.proofs.Tests.{asked_twice}
-use Rattle.filing_index.specs.Stamps.{inserted}
 
 -- a range that has the number, and one that has not, with one entry more
 with_number : (b : Bool) (n g : ℕ) → g ≤ n → cond b (max n g) g ≡ cond b n g
@@ -23,21 +19,9 @@ either_hit true true n g = refl
 either_hit true false n g = refl
 either_hit false b n g = refl
 
-swapped : (a b c : Bool) → (a || (b || c)) ≡ (b || (a || c))
-swapped true true c = refl
-swapped true false c = refl
-swapped false b c = refl
-
-moved : (a b c : Bool) → (a || (b || c)) ≡ ((b || a) || c)
-moved true true c = refl
-moved true false c = refl
-moved false true c = refl
-moved false false c = refl
-
 -- all have the number
 abbrev pub AllHave : {E : Type 0} → (E → ℕ) → ℕ → List E → Type 0
-AllHave f n [] = Unit {0}
-AllHave f n (e ∷ es) = (f e ≡ n) × AllHave f n es
+AllHave f n es = AllByRecursion (λ e. f e ≡ n) es
 
 module _ {E : Type 0} (R : E → E → Ordering) (f : E → ℕ) (side : E → Ordering) where
   abbrev best : List E → ℕ
@@ -98,37 +82,3 @@ module _ {E : Type 0} (R : E → E → Ordering) (f : E → ℕ) (side : E → O
         let one : best (with_change R (Put e) es) ≡ cond (is_eq (side e)) n (best es) = put_one e n a.0 es h in
         put_all n new (with_change R (Put e) es) a.1 (subst (λ m. m ≤ n) (sym one) (stays_upto (is_eq (side e)) (best es) n h))
         ∙ ap (λ m. cond (list_any (λ x. is_eq (side x)) new) n m) one ∙ either_hit (is_eq (side e)) (list_any (λ x. is_eq (side x)) new) n (best es)
-
-    -- ---- entries gathered each once
-
-    AllHave_more : (n : ℕ) (e : E) → f e ≡ n → (es : List E) → AllHave f n es → AllHave f n (insert_key R es e)
-    AllHave_more n e is [] a = (is, tt)
-    AllHave_more n e is (x ∷ xs) a =
-        elim (R e x) as (λ r. AllHave f n (match_ordering r (e ∷ x ∷ xs) (x ∷ xs) (x ∷ insert_key R xs e))) [
-          | Less ↦ (is, a)
-          | Equal ↦ a
-          | Greater ↦ (a.0, AllHave_more n e is xs a.1)
-        ]
-
-    any_more : (e : E) (es : List E) → list_any (λ x. is_eq (side x)) (insert_key R es e) ≡ (is_eq (side e) || list_any (λ x. is_eq (side x)) es)
-    any_more e [] = refl
-    any_more e (x ∷ xs) =
-        elim (R e x) as (λ r. R e x ≡ r → list_any (λ y. is_eq (side y)) (match_ordering r (e ∷ x ∷ xs) (x ∷ xs) (x ∷ insert_key R xs e))
-        ≡ (is_eq (side e) || list_any (λ y. is_eq (side y)) (x ∷ xs))) [
-          | Less ↦ λ r. refl
-          | Equal ↦ λ r.
-              asked_twice (is_eq (side x)) (list_any (λ y. is_eq (side y)) xs)
-              ∙ ap (λ s. is_eq s || list_any (λ y. is_eq (side y)) (x ∷ xs)) (sym (alike e x r))
-          | Greater ↦ λ r.
-              ap (λ b. is_eq (side x) || b) (any_more e xs) ∙ swapped (is_eq (side x)) (is_eq (side e)) (list_any (λ y. is_eq (side y)) xs)
-        ] refl
-
-    pub AllHave-inserted : (n : ℕ) (new es : List E) → AllHave f n new → AllHave f n es → AllHave f n (inserted R es new)
-    AllHave-inserted n [] es a b = b
-    AllHave-inserted n (x ∷ xs) es a b = AllHave-inserted n xs (insert_key R es x) a.1 (AllHave_more n x a.0 es b)
-
-    pub any-inserted : (new es : List E) → list_any (λ x. is_eq (side x)) (inserted R es new) ≡ (list_any (λ x. is_eq (side x)) new || list_any (λ x. is_eq (side x)) es)
-    any-inserted [] es = refl
-    any-inserted (x ∷ xs) es =
-        any-inserted xs (insert_key R es x) ∙ ap (λ b. list_any (λ y. is_eq (side y)) xs || b) (any_more x es)
-        ∙ moved (list_any (λ y. is_eq (side y)) xs) (is_eq (side x)) (list_any (λ y. is_eq (side y)) es)

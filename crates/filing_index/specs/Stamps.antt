@@ -1,12 +1,13 @@
 -- The stamps of one report: what touched facts leave behind, each with the number of the last touch. The project's own.
-use Rattle.std.specs.Prelude.{ℕ, Bool, true, cond, not, List, [], ◌∷◌, ◌++◌, Option, Some, None}
-use Rattle.std.specs.BTreeSet.{insert_key}
-use Rattle.std.specs.List.{flat_map}
+use Rattle.std.specs.Prelude.{◌≡◌, ℕ, Bool, true, cond, not, List, [], ◌∷◌, ◌++◌, map, Option, Some, None}
+use Rattle.std.specs.List.{AllByRecursion, flat_map, list_any}
 use Rattle.std.specs.Option.{option_cmp, option_map, option_map_or}
 use Rattle.std.specs.Ordering.{on, then_cmp, ordering_then, nat_cmp, is_lt}
 use Rattle.std.specs.declared.cmp.Ordering.{Ordering}
 use Rattle.std.specs.declared.cmp.Ordering.TheVariants.{Less, Equal, Greater}
 use Rattle.sorted_pages.specs.Pages.{greatest}
+use Rattle.sorted_pages.specs.declared.change.Change.{Change}
+use Rattle.sorted_pages.specs.declared.change.Change.TheVariants.{Put}
 use Rattle.sorted_pages.specs.Ranges.{within}
 use Rattle.filing_model.specs.Text.{Text, text_cmp}
 use Rattle.filing_model.specs.Dimensions.{Dims, dims_cmp, concept_of, period_of}
@@ -102,14 +103,17 @@ abbrev pub stamps_of_move : ℕ → Move → List Stamp
 stamps_of_move number move =
     stamps_if_there number (option_map (λ f. (move.id, f)) move.old) ++ stamps_if_there number (option_map (λ f. (move.id, f)) move.new)
 
--- entries in order with others, each in its place. One that ties stays
-abbrev pub inserted : {E : Type 0} → (E → E → Ordering) → List E → List E → List E
-inserted R es [] = es
-inserted R es (x ∷ xs) = inserted R (insert_key R es x) xs
-
--- each that moves leave, once
+-- each that moves leave, some more than once
 abbrev pub stamps_of_moves : ℕ → List Move → List Stamp
-stamps_of_moves number moves = inserted stamp_cmp [] (flat_map (stamps_of_move number) moves)
+stamps_of_moves number moves = flat_map (stamps_of_move number) moves
+
+-- puts of stamps, each of these or of one that ties with it: they have the one number that all of these have, and nothing that
+-- treats those that tie alike tells them from these
+pub record ArePuts (stamps : List Stamp) (changes : List (Change Stamp)) : Type 0 where
+  pub entries : List Stamp
+  pub puts : changes ≡ map Put entries
+  pub numbered : (n : ℕ) → AllByRecursion (λ s. s.number ≡ n) stamps → AllByRecursion (λ s. s.number ≡ n) entries
+  pub alike : (test : Stamp → Bool) → ((x y : Stamp) → stamp_cmp x y ≡ Equal → test x ≡ test y) → list_any test entries ≡ list_any test stamps
 
 -- ---- the stamp of a part
 

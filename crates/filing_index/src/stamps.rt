@@ -1,15 +1,13 @@
 //! The number of the last touch of each part of one report.
-ghost use Rattle.std.specs.Prelude.{◌≡◌, ℕ, ◌≤◌, [], map, IfOk, OnOk, option_map};
+ghost use Rattle.std.specs.Prelude.{◌≡◌, ◌++◌, ◌∷◌, ℕ, ◌≤◌, [], map, IfOk, OnOk, option_map};
 ghost use Rattle.std.specs.Option.{option_copied};
-ghost use Rattle.std.specs.BTreeSet.{insert_key};
 ghost use Rattle.sorted_pages.specs.Pages.{greatest};
 ghost use Rattle.sorted_pages.specs.Ranges.{within};
 ghost use Rattle.sorted_pages.specs.Sorted.{IsRising};
 ghost use Rattle.sorted_pages.specs.Changes.{entry_of};
-ghost use Rattle.sorted_pages.specs.declared.change.Change.TheVariants.{Put};
 ghost use Rattle.filing_index.specs.Moves.{Part, Id, Cell, Range, stamped_by};
 ghost use Rattle.filing_index.specs.Wanted.{asked_of};
-ghost use Rattle.filing_index.specs.Stamps.{among_side, coded_stamp, inserted, stamps_of, stamps_if_there, stamps_of_move, stamps_of_moves, stamp_cmp, stamp_in};
+ghost use Rattle.filing_index.specs.Stamps.{ArePuts, among_side, coded_stamp, stamps_of, stamps_if_there, stamps_of_move, stamps_of_moves, stamp_cmp, stamp_in};
 
 use crate::moves::Move;
 use crate::stamp::{Group, Stamp, StampKind};
@@ -19,7 +17,6 @@ use filing_pages::{Held, Named};
 use oim_fact::DimSet;
 use sorted_pages::{Change, Paged};
 use std::alloc::{AllocError, Global};
-use std::collections::BTreeSet;
 use std::marker::Model;
 
 /// The number of the last touch of each part of one report, also of identifiers that were removed and of cells and
@@ -40,22 +37,22 @@ impl Model for Stamps {
     ghost view = { λ s. s.stamps };
 }
 
-/// Puts the stamp of one kind that a fact leaves among others.
+/// Appends the stamp of one kind that a fact leaves.
 fn leave_one(
-    stamps: &mut BTreeSet<Stamp>,
+    stamps: &mut Vec<Stamp>,
     kind: StampKind,
     held: &Named<Held>,
     number: u64,
 ) -> Result<(), AllocError>
-    ensures { OnOk result (stamps.new.keys ≡ insert_key stamp_cmp stamps.old.keys (coded_stamp kind number held.now)) }
+    ensures { OnOk result (stamps.new.items ≡ stamps.old.items ++ coded_stamp kind number held.now ∷ []) }
 {
-    stamps.insert(Stamp::of(kind, held, number)?)?;
+    stamps.push(Stamp::of(kind, held, number)?)?;
     Ok(())
 }
 
-/// Puts the stamps that a fact leaves among others.
-fn leave(stamps: &mut BTreeSet<Stamp>, held: &Named<Held>, number: u64) -> Result<(), AllocError>
-    ensures { OnOk result (stamps.new.keys ≡ inserted stamp_cmp stamps.old.keys (stamps_of number held.now)) }
+/// Appends the stamps that a fact leaves.
+fn leave(stamps: &mut Vec<Stamp>, held: &Named<Held>, number: u64) -> Result<(), AllocError>
+    ensures { OnOk result (stamps.new.items ≡ stamps.old.items ++ stamps_of number held.now) }
 {
     leave_one(stamps, StampKind::Identifier, held, number)?;
     leave_one(stamps, StampKind::Cell, held, number)?;
@@ -64,13 +61,13 @@ fn leave(stamps: &mut BTreeSet<Stamp>, held: &Named<Held>, number: u64) -> Resul
     Ok(())
 }
 
-/// Puts the stamps of a fact that may be missing among others.
+/// Appends the stamps of a fact that may be missing.
 fn leave_if_there(
-    stamps: &mut BTreeSet<Stamp>,
+    stamps: &mut Vec<Stamp>,
     held: Option<&Named<Held>>,
     number: u64,
 ) -> Result<(), AllocError>
-    ensures { OnOk result (stamps.new.keys ≡ inserted stamp_cmp stamps.old.keys (stamps_if_there number (option_copied held.entry))) }
+    ensures { OnOk result (stamps.new.items ≡ stamps.old.items ++ stamps_if_there number (option_copied held.entry)) }
 {
     match held {
         Some(held) => leave(stamps, held, number),
@@ -78,31 +75,34 @@ fn leave_if_there(
     }
 }
 
-/// Puts the stamps of what becomes of a fact among others.
-fn leave_both(stamps: &mut BTreeSet<Stamp>, each: &Move, number: u64) -> Result<(), AllocError>
-    ensures { OnOk result (stamps.new.keys ≡ inserted stamp_cmp stamps.old.keys (stamps_of_move number each.now)) }
+/// Appends the stamps of what becomes of a fact.
+fn leave_both(stamps: &mut Vec<Stamp>, each: &Move, number: u64) -> Result<(), AllocError>
+    ensures { OnOk result (stamps.new.items ≡ stamps.old.items ++ stamps_of_move number each.now) }
 {
     leave_if_there(stamps, each.old(), number)?;
     leave_if_there(stamps, each.new(), number)?;
     Ok(())
 }
 
-/// The stamps of moves, each once.
-fn left_by(alloc: Global, moves: &[Move], number: u64) -> Result<BTreeSet<Stamp>, AllocError>
-    ensures { IfOk result (λ s. s.keys ≡ stamps_of_moves number moves.now) }
+/// The stamps that moves leave, some more than once.
+fn left_by(alloc: Global, moves: &[Move], number: u64) -> Result<Vec<Stamp>, AllocError>
+    ensures { IfOk result (λ s. s.items ≡ stamps_of_moves number moves.now) }
 {
-    let mut stamps = BTreeSet::new(alloc);
+    let mut stamps = Vec::new(alloc);
     for each in moves {
         leave_both(&mut stamps, each, number)?;
     }
     Ok(stamps)
 }
 
-/// Puts of stamps.
-fn puts(alloc: Global, stamps: BTreeSet<Stamp>) -> Result<Vec<Change<Stamp>>, AllocError>
-    ensures all { IfOk result (λ changes. changes.items ≡ map Put stamps.keys) }
+/// Puts of stamps in order, one of those that tie.
+fn puts(alloc: Global, stamps: Vec<Stamp>) -> Result<Vec<Change<Stamp>>, AllocError>
+    ensures all { IfOk result (λ changes. ArePuts stamps.items changes.items) }
     ensures rising { IfOk result (λ changes. IsRising stamp_cmp (map entry_of changes.items)) }
 {
+    let mut stamps = stamps;
+    stamps.sort_unstable();
+    stamps.dedup();
     stamps.into_iter().map(Change::Put).collect(alloc)
 }
 

@@ -1,5 +1,5 @@
 //! A value under a name.
-ghost use Rattle.std.specs.Prelude.{◌≡◌, get_or, string_bytes, IfOk};
+ghost use Rattle.std.specs.Prelude.{◌≡◌, ◌≤◌, get_or, string_bytes, IfOk};
 ghost use Rattle.filing_model.specs.Text.{text_cmp};
 ghost use Rattle.filing_pages.specs.Heads.{head_of};
 
@@ -135,6 +135,19 @@ impl<V: Drop> Pair<V> {
     }
 }
 
+/// What stands under the names of a map in pages.
+pub trait PageValue: Drop {
+    /// The most names that a page holds.
+    fn most_in_page() -> usize
+        ensures some { 2 ≤ result }
+        ensures few { result ≤ 64 }
+    {
+        64
+    }
+}
+
+impl PageValue for u64 {}
+
 /// A value under a name, shared by all lists that hold it.
 ///
 /// Contracts see the pair of the name's bytes and the value.
@@ -188,7 +201,7 @@ impl<V: Drop> Peaked for Named<V> {
     }
 }
 
-impl<V: Drop> Entry for Named<V> {
+impl<V: PageValue> Entry for Named<V> {
     ghost use Rattle.std.specs.Ordering.{on};
     ghost use Rattle.std.specs.Cmp.{on_total};
     ghost use Rattle.std.specs.Cmp.Lexicographic.{nat_list_cmp_total};
@@ -197,6 +210,10 @@ impl<V: Drop> Entry for Named<V> {
     ghost order = { on (λ n. n.0) text_cmp };
 
     ghost is_total = { on_total (λ n. n.0) nat_list_cmp_total };
+
+    fn most_in_page() -> usize {
+        V::most_in_page()
+    }
 
     fn order(&self, other: &Self) -> Ordering {
         self.pair.order(&other.pair)

@@ -6,7 +6,7 @@ ghost use Rattle.filing_model.specs.Text.{text_cmp};
 ghost use Rattle.filing_model.specs.TextMap.{empty, get, insert};
 ghost use Rattle.filing_pages.specs.MapChanges.{map_with_changes};
 
-use crate::named::{Named, Sought};
+use crate::named::{Named, PageValue, Sought};
 use sorted_pages::{Change, Paged, Range, Span};
 use std::alloc::{AllocError, Global};
 use std::cmp::Ordering;
@@ -16,11 +16,11 @@ use std::marker::Model;
 ///
 /// Contracts see the finite map.
 #[derive(Drop)]
-pub struct TextPages<V: Drop> {
+pub struct TextPages<V: PageValue> {
     pages: Paged<Named<V>>,
 }
 
-impl<V: Drop> Model for TextPages<V> {
+impl<V: PageValue> Model for TextPages<V> {
     ghost use Rattle.std.specs.Prelude.{T as Holds};
     ghost use Rattle.std.specs.FinMap.Entries.{is_sorted};
     ghost use Rattle.filing_model.specs.Text.{text_cmp};
@@ -37,7 +37,7 @@ impl<V: Drop> Model for TextPages<V> {
 #[derive(Drop)]
 struct At<'a>(Sought<'a>);
 
-impl<'a, V: Drop> Span<Named<V>> for At<'a> {
+impl<'a, V: PageValue> Span<Named<V>> for At<'a> {
     ghost use Rattle.filing_model.specs.Text.{text_cmp};
     ghost use Rattle.filing_pages.specs.Spans.{name_is_monotone};
 
@@ -54,7 +54,7 @@ impl<'a, V: Drop> Span<Named<V>> for At<'a> {
 #[derive(Drop)]
 struct All;
 
-impl<V: Drop> Span<Named<V>> for All {
+impl<V: PageValue> Span<Named<V>> for All {
     ghost use Rattle.std.specs.declared.cmp.Ordering.TheVariants.{Equal};
     ghost use Rattle.filing_pages.specs.Spans.{all_is_monotone};
 
@@ -67,7 +67,7 @@ impl<V: Drop> Span<Named<V>> for All {
     }
 }
 
-impl<V: Drop> TextPages<V> {
+impl<V: PageValue> TextPages<V> {
     /// The map of nothing. It takes no memory.
     pub fn new(alloc: Global) -> TextPages<V>
         ensures { result ≡ empty }
