@@ -18,7 +18,7 @@ struct Both {
 }
 
 /// The next number of a fixed sequence.
-fn next_number(state: u64) -> u64 {
+pub(crate) fn next_number(state: u64) -> u64 {
     state
         .wrapping_mul(6_364_136_223_846_793_005)
         .wrapping_add(1_442_695_040_888_963_407)

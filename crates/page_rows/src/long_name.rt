@@ -16,11 +16,11 @@ struct Held {
 
 /// A held name. Contracts see the name and the number.
 #[derive(Drop)]
-pub(crate) struct Named {
+pub(crate) struct LongName {
     held: Arc<Held>,
 }
 
-impl Model for Named {
+impl Model for LongName {
     ghost use Rattle.std.specs.Prelude.{ℕ, List};
     ghost use Rattle.std.specs.Arc.{arc_value};
 
@@ -29,9 +29,9 @@ impl Model for Named {
     ghost view = { λ n. ((arc_value n.held).name, (arc_value n.held).number) };
 }
 
-impl Named {
+impl LongName {
     /// The name of this place in the order, with a number.
-    pub(crate) fn new(alloc: Global, place: u64, number: u64) -> Result<Named, AllocError> {
+    pub(crate) fn new(alloc: Global, place: u64, number: u64) -> Result<LongName, AllocError> {
         let mut name = [b'0'; 30];
         let mut left = place;
         for digit in name.iter_mut().rev() {
@@ -39,11 +39,11 @@ impl Named {
             left /= 10;
         }
         let held = Arc::new(alloc, Held { name, number })?;
-        Ok(Named { held })
+        Ok(LongName { held })
     }
 }
 
-impl Peaked for Named {
+impl Peaked for LongName {
     ghost peak = { λ n. n.1 };
 
     fn peak(&self) -> u64 {
@@ -51,7 +51,7 @@ impl Peaked for Named {
     }
 }
 
-impl Entry for Named {
+impl Entry for LongName {
     ghost use Rattle.std.specs.Ordering.{nat_cmp};
     ghost use Rattle.std.specs.Cmp.{on_total};
     ghost use Rattle.std.specs.Cmp.Lexicographic.{slice_cmp, nat_list_cmp_total};
@@ -68,8 +68,8 @@ impl Entry for Named {
         Arc::strong_count(&self.held)
     }
 
-    fn share(&self) -> Result<Named, AllocError> {
+    fn share(&self) -> Result<LongName, AllocError> {
         let held = Arc::try_clone(&self.held)?;
-        Ok(Named { held })
+        Ok(LongName { held })
     }
 }

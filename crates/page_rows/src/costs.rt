@@ -1,12 +1,10 @@
 //! What a change of a sorted list in pages costs, a look-up in it, and the greatest over half of it.
 //!
 //! It prints answers. Given an argument it takes larger lists, and writes the times to standard error.
-#![tactic(auto)]
 
-mod named;
-
+use crate::beside::next_number;
+use crate::long_name::LongName;
 use anyhow::Result;
-use named::Named;
 use sorted_pages::{Between, Change, Paged, are_rising, is_rising};
 use std::alloc::{AllocError, Global};
 use std::env;
@@ -16,24 +14,17 @@ use std::time::Instant;
 /// How often each is done.
 const ROUNDS: u64 = 500;
 
-/// The next number of a fixed sequence.
-fn next_number(state: u64) -> u64 {
-    state
-        .wrapping_mul(6_364_136_223_846_793_005)
-        .wrapping_add(1_442_695_040_888_963_407)
-}
-
 /// This many entries, at each second place of the order.
-fn entries(alloc: Global, count: u64) -> Result<Vec<Named>, AllocError> {
+fn entries(alloc: Global, count: u64) -> Result<Vec<LongName>, AllocError> {
     let mut entries = Vec::new(alloc);
     for place in 0..count {
-        entries.push(Named::new(alloc, place.wrapping_mul(2), place)?)?;
+        entries.push(LongName::new(alloc, place.wrapping_mul(2), place)?)?;
     }
     Ok(entries)
 }
 
 /// A list of this many entries.
-fn filled(alloc: Global, count: u64) -> Result<Paged<Named>, AllocError> {
+fn filled(alloc: Global, count: u64) -> Result<Paged<LongName>, AllocError> {
     let entries = entries(alloc, count)?;
     if is_rising(&entries) {
         Paged::of_sorted(alloc, entries)
@@ -60,8 +51,8 @@ fn one_change(
     place: u64,
     number: u64,
     is_put: bool,
-) -> Result<Change<Named>, AllocError> {
-    let entry = Named::new(alloc, place, number)?;
+) -> Result<Change<LongName>, AllocError> {
+    let entry = LongName::new(alloc, place, number)?;
     Ok(if is_put {
         Change::Put(entry)
     } else {
@@ -70,7 +61,7 @@ fn one_change(
 }
 
 /// Four changes: two replacements, a removal and an addition, one in each quarter.
-fn four_changes(alloc: Global, count: u64, seed: u64) -> Result<Vec<Change<Named>>, AllocError> {
+fn four_changes(alloc: Global, count: u64, seed: u64) -> Result<Vec<Change<LongName>>, AllocError> {
     let mut changes = Vec::with_capacity(alloc, 4)?;
     let mut state = seed;
     for (quarter, is_put, above) in QUARTERS {
@@ -82,7 +73,7 @@ fn four_changes(alloc: Global, count: u64, seed: u64) -> Result<Vec<Change<Named
 }
 
 /// Four changes for each round.
-fn batches(alloc: Global, count: u64) -> Result<Vec<Vec<Change<Named>>>, AllocError> {
+fn batches(alloc: Global, count: u64) -> Result<Vec<Vec<Change<LongName>>>, AllocError> {
     let mut batches = Vec::new(alloc);
     for round in 0..ROUNDS {
         batches.push(four_changes(alloc, count, round)?)?;
@@ -93,8 +84,8 @@ fn batches(alloc: Global, count: u64) -> Result<Vec<Vec<Change<Named>>>, AllocEr
 /// Changes a list, where the changes rise.
 fn change(
     alloc: Global,
-    list: &mut Paged<Named>,
-    changes: &[Change<Named>],
+    list: &mut Paged<LongName>,
+    changes: &[Change<LongName>],
 ) -> Result<(), AllocError> {
     if are_rising(changes) {
         *list = list.after(alloc, changes)?;
@@ -105,8 +96,8 @@ fn change(
 /// Changes a list by one batch after another.
 fn change_all(
     alloc: Global,
-    list: &mut Paged<Named>,
-    batches: &[Vec<Change<Named>>],
+    list: &mut Paged<LongName>,
+    batches: &[Vec<Change<LongName>>],
 ) -> Result<(), AllocError> {
     for batch in batches {
         change(alloc, list, batch)?;
@@ -127,7 +118,7 @@ fn tell(rt: &impl Runtime, count: u64, what: &str, start: Instant, is_timed: boo
 fn measure_changes(
     rt: &(impl Runtime + AllocGlobal),
     count: u64,
-    list: &mut Paged<Named>,
+    list: &mut Paged<LongName>,
     is_timed: bool,
 ) -> Result<()> {
     let batches = batches(rt.alloc(), count)?;
@@ -137,18 +128,18 @@ fn measure_changes(
 }
 
 /// Entries all over the list.
-fn probes(alloc: Global, count: u64) -> Result<Vec<Named>, AllocError> {
+fn probes(alloc: Global, count: u64) -> Result<Vec<LongName>, AllocError> {
     let mut probes = Vec::new(alloc);
     for round in 0..ROUNDS {
         let state = next_number(next_number(round));
         let place = place_in(count, round % 4, state);
-        probes.push(Named::new(alloc, place, 0)?)?;
+        probes.push(LongName::new(alloc, place, 0)?)?;
     }
     Ok(probes)
 }
 
 /// How many of some entries stand in a list.
-fn found_in(list: &Paged<Named>, probes: &[Named]) -> u64 {
+fn found_in(list: &Paged<LongName>, probes: &[LongName]) -> u64 {
     let mut found = 0u64;
     for probe in probes {
         if list.get(probe).is_some() {
@@ -162,7 +153,7 @@ fn found_in(list: &Paged<Named>, probes: &[Named]) -> u64 {
 fn look_up(
     rt: &(impl Runtime + AllocGlobal),
     count: u64,
-    list: &Paged<Named>,
+    list: &Paged<LongName>,
     is_timed: bool,
 ) -> Result<u64> {
     let probes = probes(rt.alloc(), count)?;
@@ -173,15 +164,15 @@ fn look_up(
 }
 
 /// The ends of the middle half, near enough.
-fn span(alloc: Global, count: u64, round: u64) -> Result<(Named, Named), AllocError> {
+fn span(alloc: Global, count: u64, round: u64) -> Result<(LongName, LongName), AllocError> {
     let state = next_number(round);
-    let from = Named::new(alloc, place_in(count, 0, state), 0)?;
-    let until = Named::new(alloc, place_in(count, 2, state), 0)?;
+    let from = LongName::new(alloc, place_in(count, 0, state), 0)?;
+    let until = LongName::new(alloc, place_in(count, 2, state), 0)?;
     Ok((from, until))
 }
 
 /// The ends of a half for each round.
-fn spans(alloc: Global, count: u64) -> Result<Vec<(Named, Named)>, AllocError> {
+fn spans(alloc: Global, count: u64) -> Result<Vec<(LongName, LongName)>, AllocError> {
     let mut spans = Vec::new(alloc);
     for round in 0..ROUNDS {
         spans.push(span(alloc, count, round)?)?;
@@ -190,7 +181,7 @@ fn spans(alloc: Global, count: u64) -> Result<Vec<(Named, Named)>, AllocError> {
 }
 
 /// The greatest number in any of some spans.
-fn greatest_in(list: &Paged<Named>, spans: &[(Named, Named)]) -> u64 {
+fn greatest_in(list: &Paged<LongName>, spans: &[(LongName, LongName)]) -> u64 {
     let mut most = 0u64;
     for (from, until) in spans {
         most = most.max(list.range(&Between { from, until }).greatest());
@@ -202,7 +193,7 @@ fn greatest_in(list: &Paged<Named>, spans: &[(Named, Named)]) -> u64 {
 fn greatest(
     rt: &(impl Runtime + AllocGlobal),
     count: u64,
-    list: &Paged<Named>,
+    list: &Paged<LongName>,
     is_timed: bool,
 ) -> Result<u64> {
     let spans = spans(rt.alloc(), count)?;
@@ -213,7 +204,7 @@ fn greatest(
 }
 
 /// How many pages a list has.
-fn pages_of(alloc: Global, list: &Paged<Named>) -> Result<usize, AllocError> {
+fn pages_of(alloc: Global, list: &Paged<LongName>) -> Result<usize, AllocError> {
     let sizes = list.page_sizes(alloc)?;
     Ok(sizes.len())
 }
@@ -222,7 +213,7 @@ fn pages_of(alloc: Global, list: &Paged<Named>) -> Result<usize, AllocError> {
 fn measure_list(
     rt: &(impl Runtime + AllocGlobal),
     count: u64,
-    list: &mut Paged<Named>,
+    list: &mut Paged<LongName>,
     is_timed: bool,
 ) -> Result<()> {
     measure_changes(rt, count, list, is_timed)?;
@@ -239,15 +230,16 @@ fn measure(rt: &(impl Runtime + AllocGlobal), count: u64, is_timed: bool) -> Res
     measure_list(rt, count, &mut list, is_timed)
 }
 
-fn main(rt: HostRuntime) -> Result<()> {
-    let is_timed = env::args(&rt)?.count() > 1;
+/// All of it over lists of some sizes.
+pub(crate) fn measure_lists(rt: &(impl Runtime + AllocGlobal)) -> Result<()> {
+    let is_timed = env::args(rt)?.count() > 1;
     let sizes: &[u64] = if is_timed {
         &[1_000, 10_000, 100_000, 1_000_000, 10_000_000]
     } else {
         &[1_000, 10_000]
     };
     for count in sizes {
-        measure(&rt, *count, is_timed)?;
+        measure(rt, *count, is_timed)?;
     }
     Ok(())
 }
