@@ -7,28 +7,12 @@ ghost use Rattle.filing_office.specs.Tallies.{Counted};
 
 use crate::answer::Answer;
 use crate::office::Office;
-use crossbeam_utils::Backoff;
 use filing_core::{CoreFault, Step};
 use filing_editions::Naming;
 use std::alloc::Global;
 use std::marker::Model;
 use std::sync::ledger::{Ledger, Share};
-use std::sync::{Mutex, MutexGuard, Wait};
-
-/// How often a lock is asked for before its thread sleeps: most steps are short beside sleeping and being woken.
-const ATTEMPTS: u32 = 200;
-
-/// The guard of a lock, once no other thread has it.
-fn locked<'a, T, R: Wait>(rt: &R, lock: &'a Mutex<T>) -> MutexGuard<'a, T> {
-    let backoff = Backoff::new();
-    for _ in 0..ATTEMPTS {
-        if let Some(guard) = lock.try_lock() {
-            return guard;
-        }
-        backoff.snooze();
-    }
-    lock.lock(rt)
-}
+use std::sync::{MutexGuard, Wait};
 
 /// What takes steps in one thread. Contracts see how many it took, and how many of them made a version.
 #[derive(Drop)]
@@ -62,9 +46,9 @@ impl<L: Ledger + Naming, M: Ledger> Desk<L, M> {
         ensures counted { Counted self.old self.new result }
         ensures told { StepTold session (step_of step) result }
     {
-        let mut guard = locked(rt, &office.locked);
-        let answer = guard.step(rt, alloc, self, session, step);
-        MutexGuard::unlock(guard);
+        let mut locked = office.locked.lock(rt);
+        let answer = locked.step(rt, alloc, self, session, step);
+        MutexGuard::unlock(locked);
         answer
     }
 }
