@@ -3,42 +3,85 @@
 ghost use Rattle.std.specs.Prelude.{◌≡◌, Option, option_map, is_some, IfOk};
 ghost use Rattle.std.specs.List.{list_any};
 ghost use Rattle.oim_fact.specs.Texts.{text_view, names_in, NoneFalls, begins_with, has_neighbours};
-ghost use Rattle.oim_fact.specs.Dims.{dims_view, unless};
+ghost use Rattle.oim_fact.specs.Dims.{dims_view, pairs_in, unless};
 ghost use Rattle.filing_model.specs.Dimensions.{AreDims, core_value, concept_of, period_of, unit_of, dims_of, is_core, is_null_core, is_concept, is_long_dim};
 
 use filing_model::{DimFault, is_same_text};
-use std::alloc::AllocError;
+use std::alloc::{AllocError, Global};
 use std::marker::Model;
+use std::sync::Arc;
 
 /// The most bytes that a dimension's name or value may have.
 const LONGEST: usize = 4096;
 
+/// The pairs of one dimension set, or those that several share.
+#[derive(Debug, Drop)]
+pub(crate) enum Pairs {
+    Own(Vec<(String, Option<String>)>),
+    Shared(Arc<Vec<(String, Option<String>)>>),
+}
+
 /// The dimensions of a fact: names with texts, or with null for a taxonomy dimension that is nil. Contracts see the list of them in byte order of the names.
 #[derive(Debug, Drop)]
 pub struct DimSet {
-    pairs: Vec<(String, Option<String>)>,
+    pairs: Pairs,
 }
 
 impl Model for DimSet {
     ghost use Rattle.filing_model.specs.Dimensions.{Dims, AreDims};
-    ghost use Rattle.oim_fact.specs.Dims.{dims_view};
+    ghost use Rattle.oim_fact.specs.Dims.{dims_view, pairs_in};
 
     ghost Value = { Dims };
 
-    ghost view = { λ d. dims_view d.pairs.items };
+    ghost view = { λ d. dims_view (pairs_in d.pairs) };
 
-    ghost invariant = { λ d. AreDims (dims_view d.pairs.items) };
+    ghost invariant = { λ d. AreDims (dims_view (pairs_in d.pairs)) };
 }
 
 impl Clone for DimSet {
     ghost is_clone = { λ old new. new ≡ old };
 
+    /// Copies the texts, unless they are shared (`DimSet::shared`).
     fn clone(&self) -> Result<DimSet, AllocError> {
-        let mut pairs = Vec::with_capacity(*self.pairs.allocator(), self.pairs.len())?;
-        for (name, value) in &self.pairs {
-            pairs.push((name.clone()?, clone_text(value)?))?;
-        }
+        let pairs = match &self.pairs {
+            Pairs::Own(pairs) => Pairs::Own(clone_pairs(pairs)?),
+            Pairs::Shared(pairs) => Pairs::Shared(Arc::try_clone(pairs)?),
+        };
         Ok(DimSet { pairs })
+    }
+}
+
+/// The clones of names with their values.
+fn clone_pairs(
+    pairs: &Vec<(String, Option<String>)>,
+) -> Result<Vec<(String, Option<String>)>, AllocError>
+    ensures { IfOk result (λ copies. dims_view copies.items ≡ dims_view pairs.now.items) }
+{
+    let mut copies = Vec::with_capacity(*pairs.allocator(), pairs.len())?;
+    for (name, value) in pairs {
+        copies.push((name.clone()?, clone_text(value)?))?;
+    }
+    Ok(copies)
+}
+
+impl Pairs {
+    fn as_slice(&self) -> &[(String, Option<String>)]
+        ensures { result.now ≡ pairs_in self.now }
+    {
+        match self {
+            Pairs::Own(pairs) => pairs,
+            Pairs::Shared(pairs) => pairs,
+        }
+    }
+
+    /// The same pairs, from now on shared.
+    fn shared(self, alloc: Global) -> Result<Pairs, AllocError>
+        ensures { IfOk result (λ pairs. pairs_in pairs ≡ pairs_in self) }
+    {
+        match self {
+            Pairs::Own(pairs) => Ok(Pairs::Shared(Arc::new(alloc, pairs)?)),
+            shared => Ok(shared),
+        }
     }
 }
 
@@ -162,8 +205,19 @@ impl DimSet {
         pairs.sort_unstable();
         match first_fault(&pairs) {
             Some(fault) => Err(fault),
-            None => Ok(DimSet { pairs }),
+            None => Ok(DimSet {
+                pairs: Pairs::Own(pairs),
+            }),
         }
+    }
+
+    /// The same set, whose clones share its texts from now on.
+    pub fn shared(self, alloc: Global) -> Result<DimSet, AllocError>
+        ensures { IfOk result (λ dims. dims ≡ self) }
+    {
+        Ok(DimSet {
+            pairs: self.pairs.shared(alloc)?,
+        })
     }
 
     /// The names with their texts or null, in byte order of the names.
@@ -171,7 +225,7 @@ impl DimSet {
         ensures list { dims_view result.now ≡ self.now }
         ensures set { AreDims self.now }
     {
-        &self.pairs
+        self.pairs.as_slice()
     }
 
     pub fn concept(&self) -> &str
@@ -200,7 +254,7 @@ impl DimSet {
         ensures value { option_map (λ t. t.now) result ≡ core_value name.now self.now }
         ensures set { AreDims self.now }
     {
-        for (key, value) in &self.pairs {
+        for (key, value) in self.pairs() {
             if is_same_text(name, key) {
                 return value.as_deref();
             }

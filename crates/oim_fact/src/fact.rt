@@ -1,11 +1,11 @@
 //! Facts as they are read, and facts that fit the names of their report.
 
-ghost use Rattle.std.specs.Prelude.{◌≡◌};
+ghost use Rattle.std.specs.Prelude.{◌≡◌, IfOk};
 ghost use Rattle.filing_model.specs.Facts.{is_misplaced};
 
 use crate::dims::{DimSet, clone_text};
 use oim_value::{Accuracy, Decimal};
-use std::alloc::AllocError;
+use std::alloc::{AllocError, Global};
 use std::marker::Model;
 
 /// A fact as it is read: its value is a text or null, and nothing of it was looked up. Links are compact JSON text.
@@ -49,6 +49,24 @@ impl Clone for RawFact {
 }
 
 impl RawFact {
+    /// The same fact, whose clones share its dimensions from now on.
+    pub fn shared(self, alloc: Global) -> Result<RawFact, AllocError>
+        ensures { IfOk result (λ raw. raw ≡ self) }
+    {
+        let RawFact {
+            dims,
+            value,
+            decimals,
+            links,
+        } = self;
+        Ok(RawFact {
+            dims: dims.shared(alloc)?,
+            value,
+            decimals,
+            links,
+        })
+    }
+
     /// Whether it has a unit, or decimals beside a value, as no text may.
     pub(crate) fn is_misplaced(&self) -> bool
         ensures { result ≡ is_misplaced self.now }

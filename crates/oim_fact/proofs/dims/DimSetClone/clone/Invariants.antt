@@ -1,6 +1,0 @@
-use Rattle.std.proofs.Common.{◌≡◌, take}
-use Rattle.oim_fact.specs.Dims.{dims_view}
-use Rattle.oim_fact.proofs.dims.DimSetClone.clone.Given as goal
-
-abbrev pub invariant-loop-name : goal.invariant-loop-name
-invariant-loop-name l = dims_view l.pairs.items ≡ dims_view (take l.name-index l.name-items)
