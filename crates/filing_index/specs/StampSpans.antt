@@ -5,5 +5,5 @@ use Rattle.filing_index.specs.declared.stamp_spans.IdRange.{IdRange}
 use Rattle.filing_index.specs.declared.stamp_spans.IdRange.TheVariants.{Only, Between}
 
 abbrev pub id_range_of : IdRange → plain.IdRange
-id_range_of (Only id) = plain.Only id.now
+id_range_of (Only id) = plain.Only id
 id_range_of (Between after upto) = plain.Between (option_map (λ t. t.now) after) (option_map (λ t. t.now) upto)

@@ -65,6 +65,11 @@ impl Entry for Coded {
 
     ghost is_total = { coded_cmp_total };
 
+    /// As of facts under their identifiers.
+    fn most_in_page() -> usize {
+        16
+    }
+
     fn order(&self, other: &Self) -> Ordering {
         self.code
             .cmp(&other.code)

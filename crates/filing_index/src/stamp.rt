@@ -8,7 +8,7 @@ ghost use Rattle.filing_model.specs.Dimensions.{dims_cmp};
 ghost use Rattle.filing_index.specs.Stamps.{no_group, rank_of, group_of, id_of, group_cmp, group_code, coded_stamp, stamp_cmp};
 ghost use Rattle.filing_index.specs.StampOrders.{stamp_cmp-total};
 
-use filing_pages::{Held, Named, code_of_concept, code_of_dims, code_of_period};
+use filing_pages::{Held, Named, SoughtName, code_of_concept, code_of_dims, code_of_period};
 use oim_fact::DimSet;
 use sorted_pages::{Entry, Peaked};
 use std::alloc::AllocError;
@@ -229,6 +229,18 @@ impl Stamp {
         }
     }
 
+    /// How its identifier stands to one that is looked for.
+    pub(crate) fn order_sought(&self, id: &SoughtName<'_>) -> Ordering
+        ensures { result ≡ text_cmp self.now.id id.now }
+    {
+        match self.kind {
+            StampKind::Cell => self.id().cmp(id.name()),
+            StampKind::Identifier | StampKind::AnyPeriod | StampKind::OnePeriod => {
+                self.held.order_sought(id)
+            }
+        }
+    }
+
     /// How its identifier stands to that of another stamp.
     fn order_ids(&self, other: &Stamp) -> Ordering
         ensures { result ≡ text_cmp self.now.id other.now.id }
@@ -304,9 +316,9 @@ impl Entry for Stamp {
 
     ghost is_total = { stamp_cmp-total };
 
-    /// A stamp takes more room than a fact in an index, and a commit leaves some sixteen of them.
+    /// As of facts under their identifiers.
     fn most_in_page() -> usize {
-        32
+        16
     }
 
     fn order(&self, other: &Stamp) -> Ordering {

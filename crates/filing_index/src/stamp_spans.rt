@@ -7,15 +7,16 @@ ghost use Rattle.filing_index.specs.StampSpans.{id_range_of};
 ghost use Rattle.filing_index.specs.Stamps.{rank_of, group_code, group_cmp, ids_side, is_upto};
 
 use crate::stamp::{Group, Stamp, StampKind};
+use filing_pages::SoughtName;
 use sorted_pages::Span;
 use std::cmp::Ordering;
 use std::marker::Model;
 
 /// The identifiers of a range.
-#[derive(Clone, Copy)]
+#[derive(Drop)]
 pub(crate) enum IdRange<'a> {
     /// This one.
-    Only(&'a str),
+    Only(SoughtName<'a>),
     /// Those greater than the first, where it is given, and not greater than the second, where that is given.
     Between(Option<&'a str>, Option<&'a str>),
 }
@@ -41,14 +42,14 @@ fn is_upto(upto: Option<&str>, id: &str) -> bool
 }
 
 impl<'a> IdRange<'a> {
-    /// `Less` where an identifier stands before the range, `Greater` where it stands past it.
-    fn side(self, id: &str) -> Ordering
-        ensures { result ≡ ids_side (id_range_of self.entry) id.now }
+    /// `Less` where the identifier of a stamp stands before the range, `Greater` where it stands past it.
+    fn side(&self, stamp: &Stamp) -> Ordering
+        ensures { result ≡ ids_side (id_range_of self.now) stamp.now.id }
     {
         match self {
-            IdRange::Only(only) => id.cmp(only),
-            IdRange::Between(after, _) if !is_after(after, id) => Ordering::Less,
-            IdRange::Between(_, upto) if !is_upto(upto, id) => Ordering::Greater,
+            IdRange::Only(only) => stamp.order_sought(only),
+            IdRange::Between(after, _) if !is_after(*after, stamp.id()) => Ordering::Less,
+            IdRange::Between(_, upto) if !is_upto(*upto, stamp.id()) => Ordering::Greater,
             IdRange::Between(_, _) => Ordering::Equal,
         }
     }
@@ -93,7 +94,7 @@ impl<'a> Among<'a> {
         ensures { result ≡ ordering_then (group_cmp stamp.now.group self.now.group) (ids_side self.now.ids stamp.now.id) }
     {
         match stamp.group().order(&self.group) {
-            Ordering::Equal => self.ids.side(stamp.id()),
+            Ordering::Equal => self.ids.side(stamp),
             order => order,
         }
     }

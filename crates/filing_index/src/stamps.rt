@@ -13,7 +13,7 @@ use crate::moves::Move;
 use crate::stamp::{Group, Stamp, StampKind};
 use crate::stamp_spans::{Among, IdRange};
 use crate::wanted::Asked;
-use filing_pages::{Held, Named};
+use filing_pages::{Held, Named, SoughtName};
 use oim_fact::DimSet;
 use sorted_pages::{Change, Paged};
 use std::alloc::{AllocError, Global};
@@ -127,7 +127,8 @@ impl Stamps {
     pub fn of_id(&self, id: &str) -> u64
         ensures { result ≡ stamp_in self.now (Id id.now) }
     {
-        self.greatest(&Among::of(StampKind::Identifier, Group::none(), IdRange::Only(id)))
+        let only = IdRange::Only(SoughtName::of(id));
+        self.greatest(&Among::of(StampKind::Identifier, Group::none(), only))
     }
 
     /// The number of the last touch of a cell, or 0.

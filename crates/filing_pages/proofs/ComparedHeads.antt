@@ -1,11 +1,56 @@
 -- Names whose heads differ stand as these do.
-use Rattle.std.proofs.Common.{◌≡◌, ◌∙◌, ap, sym, refl, ℕ, zero, suc, ◌+◌, ◌≤◌, arith, Bool, true, false, List, [], ◌∷◌, drop, length, get_or, nat_lt, Ordering, Less, Equal, Greater, is_lt, true≢false, ltb-true, ltb-false}
-use Rattle.std.specs.Cmp.{nat_cmp_is, tied_itself}
+use Rattle.std.proofs.Common.{◌≡◌, ◌∙◌, ap, sym, refl, ℕ, zero, suc, ◌+◌, ◌≤◌, ◌<◌, ◌*◌, arith, Bool, true, false, List, [], ◌∷◌, drop, length, get_or, nat_lt, Ordering, Less, Equal, Greater, is_lt, true≢false, ltb-true, ltb-false}
+use Rattle.std.specs.Cmp.{nat_cmp_is, ranks, tied_itself}
 use Rattle.std.specs.Cmp.Lexicographic.{slice_cmp, nat_list_cmp_total}
-use Rattle.std.specs.Ordering.{nat_cmp, ordering_then, ordering_reverse}
+use Rattle.std.specs.Ordering.{nat_cmp, ordering_then, ordering_reverse, MatchOrdering}
 use Rattle.std.proofs.lemmas.List.{drop_more, drop_all, get_or_past}
 use Rattle.filing_model.specs.Text.{Text, text_cmp}
-use Rattle.filing_pages.specs.Heads.{bytes_from, head_of}
+use Rattle.filing_pages.specs.Heads.{number_from, head_of}
+
+-- so many bytes from a place on, and 0 behind the last
+abbrev bytes_from : ℕ → ℕ → Text → List ℕ
+bytes_from zero i t = []
+bytes_from (suc k) i t = get_or t i 0 ∷ bytes_from k (i + 1) t
+
+-- a text of bytes
+abbrev AreBytes : Text → Type 0
+AreBytes t = (i : ℕ) → get_or t i 0 < 256
+
+-- numbers with one byte more stand as the numbers, then as the bytes
+appended : (n m x y : ℕ) → x < 256 → y < 256 → nat_cmp (n * 256 + x) (m * 256 + y) ≡ ordering_then (nat_cmp n m) (nat_cmp x y)
+appended n m x y p q = by (nat_cmp n m) (ranks n m)
+  where
+    by : (o : Ordering) → MatchOrdering o (n < m) (n ≡ m) (m < n) → nat_cmp (n * 256 + x) (m * 256 + y) ≡ ordering_then o (nat_cmp x y)
+    by Less lt = sym (nat_cmp_is (n * 256 + x) (m * 256 + y) Less (omega arith))
+    by Equal same = ap (λ k. nat_cmp (k * 256 + x) (m * 256 + y)) same ∙ level (nat_cmp x y) (ranks x y)
+      where
+        level : (o : Ordering) → MatchOrdering o (x < y) (x ≡ y) (y < x) → nat_cmp (m * 256 + x) (m * 256 + y) ≡ o
+        level Less lt = sym (nat_cmp_is (m * 256 + x) (m * 256 + y) Less (omega arith))
+        level Equal same = sym (nat_cmp_is (m * 256 + x) (m * 256 + y) Equal (omega arith))
+        level Greater gt = sym (nat_cmp_is (m * 256 + x) (m * 256 + y) Greater (omega arith))
+    by Greater gt = sym (nat_cmp_is (n * 256 + x) (m * 256 + y) Greater (omega arith))
+
+then_later : (o p q : Ordering) → ordering_then (ordering_then o p) q ≡ ordering_then o (ordering_then p q)
+then_later Less p q = refl
+then_later Equal p q = refl
+then_later Greater p q = refl
+
+then_equal : (o : Ordering) → o ≡ ordering_then o Equal
+then_equal Less = refl
+then_equal Equal = refl
+then_equal Greater = refl
+
+-- numbers of bytes stand as the bytes
+numbered : (k i n m : ℕ) (a b : Text) → AreBytes a → AreBytes b
+    → nat_cmp (number_from k i n a) (number_from k i m b) ≡ ordering_then (nat_cmp n m) (slice_cmp nat_cmp (bytes_from k i a) (bytes_from k i b))
+numbered zero i n m a b p q = then_equal (nat_cmp n m)
+numbered (suc k) i n m a b p q =
+    let x = get_or a i 0 in
+    let y = get_or b i 0 in
+    let later = slice_cmp nat_cmp (bytes_from k (i + 1) a) (bytes_from k (i + 1) b) in
+    numbered k (i + 1) (n * 256 + x) (m * 256 + y) a b p q
+    ∙ ap (λ o. ordering_then o later) (appended n m x y (p i) (q i))
+    ∙ then_later (nat_cmp n m) (nat_cmp x y) later
 
 -- so many bytes of a text, filled up by 0
 abbrev padded : ℕ → Text → List ℕ
@@ -52,19 +97,22 @@ before (suc k) (x ∷ xs) (y ∷ ys) e = by (nat_cmp x y) e (before k xs ys)
     by Equal e later = later e
     by Greater e later = e
 
-pub less_by_head : (a b : Text) → slice_cmp nat_cmp (head_of a) (head_of b) ≡ Less → text_cmp a b ≡ Less
-less_by_head a b e = before 16 a b ((λ i. slice_cmp nat_cmp (sym (from_padded 16 0 a) i) (sym (from_padded 16 0 b) i)) ∙ e)
+heads_are_bytes : (a b : Text) → AreBytes a → AreBytes b → nat_cmp (head_of a) (head_of b) ≡ slice_cmp nat_cmp (padded 16 a) (padded 16 b)
+heads_are_bytes a b p q =
+    numbered 16 0 0 0 a b p q
+    ∙ ap (λ o. ordering_then o (slice_cmp nat_cmp (bytes_from 16 0 a) (bytes_from 16 0 b))) (sym (nat_cmp_is 0 0 Equal refl))
+    ∙ (λ i. slice_cmp nat_cmp (from_padded 16 0 a i) (from_padded 16 0 b i))
 
-pub greater_by_head : (a b : Text) → slice_cmp nat_cmp (head_of a) (head_of b) ≡ Greater → text_cmp a b ≡ Greater
-greater_by_head a b e =
+less_by_head : (a b : Text) → AreBytes a → AreBytes b → nat_cmp (head_of a) (head_of b) ≡ Less → text_cmp a b ≡ Less
+less_by_head a b p q e = before 16 a b (sym (heads_are_bytes a b p q) ∙ e)
+
+greater_by_head : (a b : Text) → AreBytes a → AreBytes b → nat_cmp (head_of a) (head_of b) ≡ Greater → text_cmp a b ≡ Greater
+greater_by_head a b p q e =
     nat_list_cmp_total.antisymm a b
-    ∙ ap ordering_reverse (less_by_head b a (nat_list_cmp_total.antisymm (head_of b) (head_of a) ∙ ap ordering_reverse e))
+    ∙ ap ordering_reverse (before 16 b a (nat_list_cmp_total.antisymm (padded 16 b) (padded 16 a) ∙ ap ordering_reverse (sym (heads_are_bytes a b p q) ∙ e)))
 
--- names by their heads first
-pub by_head : (a b : Text) → ordering_then (slice_cmp nat_cmp (head_of a) (head_of b)) (text_cmp a b) ≡ text_cmp a b
-by_head a b = by (slice_cmp nat_cmp (head_of a) (head_of b)) refl
-  where
-    by : (o : Ordering) → slice_cmp nat_cmp (head_of a) (head_of b) ≡ o → ordering_then o (text_cmp a b) ≡ text_cmp a b
-    by Less e = sym (less_by_head a b e)
-    by Equal e = refl
-    by Greater e = sym (greater_by_head a b e)
+-- heads that do not tie tell how the names stand
+pub by_head : (a b : Text) → AreBytes a → AreBytes b → (o : Ordering) → o ≡ nat_cmp (head_of a) (head_of b) → (o ≡ Equal → ⊥) → o ≡ text_cmp a b
+by_head a b p q Less e not = sym (less_by_head a b p q (sym e))
+by_head a b p q Equal e not = absurd (not refl)
+by_head a b p q Greater e not = sym (greater_by_head a b p q (sym e))

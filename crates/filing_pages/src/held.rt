@@ -6,7 +6,6 @@ ghost use Rattle.filing_pages.specs.Codes.{cell_code, concept_code, concept_in, 
 
 use crate::codes::code_of_dims;
 use crate::keys::{Keyring, Keys};
-use crate::named::PageValue;
 use oim_fact::Fact;
 use std::alloc::{AllocError, Global};
 use std::marker::Model;
@@ -110,14 +109,5 @@ impl Held {
             cell: self.cell,
             keys,
         })
-    }
-}
-
-impl PageValue for Held {}
-
-/// What a session stages is put one by one, and each put copies a page.
-impl PageValue for Option<Held> {
-    fn most_in_page() -> usize {
-        16
     }
 }

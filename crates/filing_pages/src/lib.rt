@@ -14,6 +14,6 @@ mod text_pages;
 pub use codes::{code_of_concept, code_of_dims, code_of_period};
 pub use held::Held;
 pub use keys::Keyring;
-pub use named::{Named, PageValue};
+pub use named::{Named, SoughtName};
 pub use sorted_pages::{Change, Range};
 pub use text_pages::TextPages;

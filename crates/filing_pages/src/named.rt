@@ -1,5 +1,5 @@
 //! A value under a name.
-ghost use Rattle.std.specs.Prelude.{◌≡◌, ◌≤◌, get_or, string_bytes, IfOk};
+ghost use Rattle.std.specs.Prelude.{◌≡◌, get_or, string_bytes, IfOk};
 ghost use Rattle.filing_model.specs.Text.{text_cmp};
 ghost use Rattle.filing_pages.specs.Heads.{head_of};
 
@@ -9,9 +9,6 @@ use std::cmp::Ordering;
 use std::marker::Model;
 use std::sync::Arc;
 
-/// How many bytes of a name stand beside it.
-const HEAD: usize = 16;
-
 /// The byte at a place, or 0 behind the last.
 fn byte_at(bytes: &[u8], place: usize) -> u8
     ensures { result ≡ get_or bytes.now place 0 }
@@ -19,12 +16,12 @@ fn byte_at(bytes: &[u8], place: usize) -> u8
     bytes.get(place).copied().unwrap_or(0)
 }
 
-/// The first bytes of a name, and 0 behind the last.
-fn head_of(name: &str) -> [u8; HEAD]
+/// The number of the first 16 bytes of a name, and of 0 behind the last. Two numbers are compared at once, where bytes are one by one.
+fn head_of(name: &str) -> u128
     ensures { result ≡ head_of name.now }
 {
     let bytes = name.as_bytes();
-    [
+    u128::from_be_bytes([
         byte_at(bytes, 0),
         byte_at(bytes, 1),
         byte_at(bytes, 2),
@@ -41,17 +38,28 @@ fn head_of(name: &str) -> [u8; HEAD]
         byte_at(bytes, 13),
         byte_at(bytes, 14),
         byte_at(bytes, 15),
-    ]
+    ])
+}
+
+/// How two names stand whose heads are given.
+fn order_names(name: &str, head: u128, other: &str, other_head: u128) -> Ordering
+    requires heads { (head ≡ head_of name.now) × (other_head ≡ head_of other.now) }
+    ensures { result ≡ text_cmp name.now other.now }
+{
+    match head.cmp(&other_head) {
+        Ordering::Equal => name.cmp(other),
+        order => order,
+    }
 }
 
 /// A name that is looked for, with its head. Contracts see the name.
 #[derive(Drop)]
-pub(crate) struct Sought<'a> {
-    head: [u8; HEAD],
+pub struct SoughtName<'a> {
+    head: u128,
     name: &'a str,
 }
 
-impl<'a> Model for Sought<'a> {
+impl<'a> Model for SoughtName<'a> {
     ghost use Rattle.std.specs.Prelude.{◌≡◌};
     ghost use Rattle.filing_model.specs.Text.{Text};
     ghost use Rattle.filing_pages.specs.Heads.{head_of};
@@ -63,19 +71,25 @@ impl<'a> Model for Sought<'a> {
     ghost invariant = { λ s. s.head ≡ head_of s.name.now };
 }
 
-impl<'a> Sought<'a> {
-    pub(crate) fn of(name: &'a str) -> Sought<'a>
+impl<'a> SoughtName<'a> {
+    pub fn of(name: &'a str) -> SoughtName<'a>
         ensures { result ≡ name.now }
     {
         let head = head_of(name);
-        Sought { head, name }
+        SoughtName { head, name }
+    }
+
+    pub fn name(&self) -> &str
+        ensures { result.now ≡ self.now }
+    {
+        self.name
     }
 }
 
 /// A name and a value. The head of the name stands in place, so that most comparisons follow no pointer from here.
 #[derive(Drop)]
 struct Pair<V: Drop> {
-    head: [u8; HEAD],
+    head: u128,
     name: String,
     value: V,
 }
@@ -116,37 +130,16 @@ impl<V: Drop> Pair<V> {
     fn order(&self, other: &Pair<V>) -> Ordering
         ensures { result ≡ text_cmp self.now.0 other.now.0 }
     {
-        match self.head.as_slice().cmp(other.head.as_slice()) {
-            Ordering::Less => Ordering::Less,
-            Ordering::Equal => self.name().cmp(other.name()),
-            Ordering::Greater => Ordering::Greater,
-        }
+        order_names(self.name(), self.head, other.name(), other.head)
     }
 
     /// How the name stands to one that is looked for.
-    fn order_sought(&self, sought: &Sought<'_>) -> Ordering
+    fn order_sought(&self, sought: &SoughtName<'_>) -> Ordering
         ensures { result ≡ text_cmp self.now.0 sought.now }
     {
-        match self.head.as_slice().cmp(sought.head.as_slice()) {
-            Ordering::Less => Ordering::Less,
-            Ordering::Equal => self.name().cmp(sought.name),
-            Ordering::Greater => Ordering::Greater,
-        }
+        order_names(self.name(), self.head, sought.name, sought.head)
     }
 }
-
-/// What stands under the names of a map in pages.
-pub trait PageValue: Drop {
-    /// The most names that a page holds.
-    fn most_in_page() -> usize
-        ensures some { 2 ≤ result }
-        ensures few { result ≤ 64 }
-    {
-        64
-    }
-}
-
-impl PageValue for u64 {}
 
 /// A value under a name, shared by all lists that hold it.
 ///
@@ -186,7 +179,7 @@ impl<V: Drop> Named<V> {
     }
 
     /// How the name stands to one that is looked for.
-    pub(crate) fn order_sought(&self, sought: &Sought<'_>) -> Ordering
+    pub fn order_sought(&self, sought: &SoughtName<'_>) -> Ordering
         ensures { result ≡ text_cmp self.now.0 sought.now }
     {
         self.pair.order_sought(sought)
@@ -201,7 +194,7 @@ impl<V: Drop> Peaked for Named<V> {
     }
 }
 
-impl<V: PageValue> Entry for Named<V> {
+impl<V: Drop> Entry for Named<V> {
     ghost use Rattle.std.specs.Ordering.{on};
     ghost use Rattle.std.specs.Cmp.{on_total};
     ghost use Rattle.std.specs.Cmp.Lexicographic.{nat_list_cmp_total};
@@ -211,8 +204,9 @@ impl<V: PageValue> Entry for Named<V> {
 
     ghost is_total = { on_total (λ n. n.0) nat_list_cmp_total };
 
+    /// Entries of a copied page are counted up where they lie, so small pages cost less to change, and take less memory where many versions are kept.
     fn most_in_page() -> usize {
-        V::most_in_page()
+        16
     }
 
     fn order(&self, other: &Self) -> Ordering {

@@ -6,7 +6,7 @@ ghost use Rattle.filing_model.specs.Text.{text_cmp};
 ghost use Rattle.filing_model.specs.TextMap.{empty, get, insert};
 ghost use Rattle.filing_pages.specs.MapChanges.{map_with_changes};
 
-use crate::named::{Named, PageValue, Sought};
+use crate::named::{Named, SoughtName};
 use sorted_pages::{Change, Paged, Range, Span};
 use std::alloc::{AllocError, Global};
 use std::cmp::Ordering;
@@ -16,11 +16,11 @@ use std::marker::Model;
 ///
 /// Contracts see the finite map.
 #[derive(Drop)]
-pub struct TextPages<V: PageValue> {
+pub struct TextPages<V: Drop> {
     pages: Paged<Named<V>>,
 }
 
-impl<V: PageValue> Model for TextPages<V> {
+impl<V: Drop> Model for TextPages<V> {
     ghost use Rattle.std.specs.Prelude.{T as Holds};
     ghost use Rattle.std.specs.FinMap.Entries.{is_sorted};
     ghost use Rattle.filing_model.specs.Text.{text_cmp};
@@ -35,9 +35,9 @@ impl<V: PageValue> Model for TextPages<V> {
 
 /// The range of one name.
 #[derive(Drop)]
-struct At<'a>(Sought<'a>);
+struct At<'a>(SoughtName<'a>);
 
-impl<'a, V: PageValue> Span<Named<V>> for At<'a> {
+impl<'a, V: Drop> Span<Named<V>> for At<'a> {
     ghost use Rattle.filing_model.specs.Text.{text_cmp};
     ghost use Rattle.filing_pages.specs.Spans.{name_is_monotone};
 
@@ -54,7 +54,7 @@ impl<'a, V: PageValue> Span<Named<V>> for At<'a> {
 #[derive(Drop)]
 struct All;
 
-impl<V: PageValue> Span<Named<V>> for All {
+impl<V: Drop> Span<Named<V>> for All {
     ghost use Rattle.std.specs.declared.cmp.Ordering.TheVariants.{Equal};
     ghost use Rattle.filing_pages.specs.Spans.{all_is_monotone};
 
@@ -67,7 +67,7 @@ impl<V: PageValue> Span<Named<V>> for All {
     }
 }
 
-impl<V: PageValue> TextPages<V> {
+impl<V: Drop> TextPages<V> {
     /// The map of nothing. It takes no memory.
     pub fn new(alloc: Global) -> TextPages<V>
         ensures { result ≡ empty }
@@ -90,7 +90,7 @@ impl<V: PageValue> TextPages<V> {
     pub fn get_named(&self, name: &str) -> Option<&Named<V>>
         ensures { option_copied result ≡ option_map (λ v. (name.now, v)) (get self.now name.now) }
     {
-        self.pages.first_in(&At(Sought::of(name)))
+        self.pages.first_in(&At(SoughtName::of(name)))
     }
 
     /// The value of a name. It takes no memory.

@@ -5,7 +5,7 @@ ghost use Rattle.filing_model.specs.TextMap.{insert};
 ghost use Rattle.filing_model.specs.Changes.{no_change};
 ghost use Rattle.filing_version.specs.Puts.{fact_seen};
 
-use filing_pages::{Held, PageValue, TextPages};
+use filing_pages::{Held, TextPages};
 use oim_fact::{Allowed, Fact};
 use std::alloc::{AllocError, Global};
 use std::marker::Model;
@@ -25,8 +25,6 @@ impl Model for ChangedReport {
 
     ghost view = { λ r. record { declared = r.declared; facts = r.facts } };
 }
-
-impl PageValue for ChangedReport {}
 
 /// The fact that is put, or none where it is removed.
 pub(crate) fn fact_of(put: &Option<Held>) -> Option<&Arc<Fact>>

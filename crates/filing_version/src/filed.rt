@@ -12,7 +12,7 @@ ghost use Rattle.filing_version.specs.Filed.{filed_of, newly_filed, changed_file
 
 use crate::changed_report::ChangedReport;
 use filing_index::{Facts, Stamps};
-use filing_pages::{Held, Keyring, Named, PageValue, TextPages};
+use filing_pages::{Held, Keyring, Named, TextPages};
 use oim_fact::{Allowed, DimSet, Fact, Names};
 use oim_report::{Report, ReportParts};
 use std::alloc::{AllocError, Global};
@@ -43,8 +43,6 @@ impl Model for FiledReport {
       stamps = f.stamps;
     } };
 }
-
-impl PageValue for FiledReport {}
 
 /// The facts of a report as an index holds them. Facts are shared, identifiers are copied.
 fn held_facts(alloc: Global, report: &Report) -> Result<Vec<Named<Held>>, AllocError>
