@@ -13,8 +13,8 @@ pub enum Thing {
     Id(String, String),
     /// A cell.
     Cell(String, DimSet),
-    /// What is sought, up to an identifier where one is given.
-    Range(String, Sought, Option<String>),
+    /// What is sought, up to an identifier where one is given. What is sought stands by itself, so that other things and replies take half as much room.
+    Range(String, Box<Sought>, Option<String>),
     /// The allowed duplicates that the report declares.
     Policy(String),
 }

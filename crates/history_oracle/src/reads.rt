@@ -57,7 +57,8 @@ fn read_in(alloc: Global, call: &Call, report: &Report) -> Result<Option<Thing>,
         Call::Cell(name, dims) => Ok(Some(Thing::Cell(name.clone()?, dims.clone()?))),
         Call::Page(name, sought, limit) => {
             let upto = cut_of(alloc, sought, *limit, report)?;
-            Ok(Some(Thing::Range(name.clone()?, sought.clone()?, upto)))
+            let sought = Box::new(alloc, sought.clone()?)?;
+            Ok(Some(Thing::Range(name.clone()?, sought, upto)))
         }
         Call::Declared(name) => Ok(Some(Thing::Policy(name.clone()?))),
         Call::Declare(_, _) => Ok(None),
