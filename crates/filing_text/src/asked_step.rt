@@ -84,7 +84,7 @@ fn cell_asked(alloc: Global, report: &str, dims: &Value) -> Result<Result<Step, 
     match dimensions(alloc, dims) {
         Ok(dims) => Ok(Ok(Step::Cell {
             report: String::from_str(alloc, report)?,
-            dims,
+            dims: dims.shared(alloc)?,
         })),
         Err(fault) => Ok(Err(bad_dims_reply(alloc, fault)?)),
     }
@@ -104,7 +104,7 @@ fn add_asked(
         Ok(fact) => Ok(Ok(Step::Add {
             report: String::from_str(alloc, report)?,
             id: String::from_str(alloc, id)?,
-            fact,
+            fact: fact.shared(alloc)?,
         })),
         Err(fault) => Ok(Err(bad_fact_reply(alloc, fault)?)),
     }
