@@ -65,5 +65,6 @@ pub(crate) fn page(
         Some(ids) => page_of(alloc, ids, limit.number())?,
     };
     let reply = Reply::Page(ids, cut.is_some());
+    let sought = Box::new(alloc, sought)?;
     Ok(Ready::read(reply, Thing::Range(report, sought, cut)))
 }
