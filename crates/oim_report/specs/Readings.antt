@@ -35,15 +35,20 @@ dims_at dimensions = do
   members ← ok_or (option_and_then as_object dimensions) WrongShape
   each dim_of (pairs members)
 
--- the raw fact of these members of an object
-abbrev pub raw_fact_at : (dimensions value decimals links : Option Data) → Result RawFact Trouble
-raw_fact_at dimensions value decimals links = do
-  named ← dims_at dimensions
+-- the raw fact of these dimensions, as they stand in their object, and of these members
+abbrev pub raw_fact_with : List (Text × Option Text) → (value decimals links : Option Data) → Result RawFact Trouble
+raw_fact_with named value decimals links = do
   value ← ok_or (option_and_then as_nullable value) WrongShape
   decimals ← decimals_of decimals
   links ← links_of links
   dims ← map_err Dims (dims_of named)
   Ok (record { dims = dims; value = value; decimals = decimals; links = links })
+
+-- the raw fact of these members of an object
+abbrev pub raw_fact_at : (dimensions value decimals links : Option Data) → Result RawFact Trouble
+raw_fact_at dimensions value decimals links = do
+  named ← dims_at dimensions
+  raw_fact_with named value decimals links
 
 -- a raw fact by the names of its report
 abbrev pub fitted_of : Names → RawFact → Result Fact Trouble

@@ -4,7 +4,8 @@ ghost use Rattle.std.specs.Prelude.{◌≡◌, codes, Option, option_map, ok_or,
 ghost use Rattle.std.specs.Option.{option_and_then};
 ghost use Rattle.serde_json.specs.Find.{get};
 ghost use Rattle.serde_json.specs.View.{view, members_view};
-ghost use Rattle.filing_model.specs.Try.{Gives, each};
+ghost use Rattle.filing_model.specs.Try.{Gives, each, map_err};
+ghost use Rattle.filing_model.specs.Dimensions.{dims_of};
 ghost use Rattle.filing_model.specs.Faults.{fact_trouble};
 ghost use Rattle.filing_model.specs.Fitted.{AreLinks};
 ghost use Rattle.filing_model.specs.JsonText.{pairs, as_nullable};
@@ -12,18 +13,24 @@ ghost use Rattle.filing_model.specs.ReadFact.{dim_of, decimals_of, links_of, raw
 ghost use Rattle.filing_model.specs.declared.faults.Trouble.TheVariants as trouble;
 ghost use Rattle.oim_fact.specs.Dims.{dims_view};
 ghost use Rattle.oim_fact.specs.Texts.{text_view};
-ghost use Rattle.oim_report.specs.Readings.{dim_view, dims_at, raw_fact_at, same};
+ghost use Rattle.oim_report.specs.Readings.{dim_view, dims_at, raw_fact_at, raw_fact_with, same};
 
-use crate::values::{members_of, take_member, whole_text};
+use crate::values::{copy_at, members_of, take_member, whole_text};
 use filing_model::Trouble;
 use oim_fact::{DimSet, RawFact};
 use serde_json::{Map, Value};
-use std::alloc::Global;
+use std::alloc::{AllocError, Global};
 
 /// The members of a fact object that are read.
 #[derive(Drop)]
 struct FactMembers {
     dimensions: Option<Value>,
+    stated: Stated,
+}
+
+/// Those that are read beside the dimensions.
+#[derive(Drop)]
+struct Stated {
     value: Option<Value>,
     decimals: Option<Value>,
     links: Option<Value>,
@@ -32,27 +39,44 @@ struct FactMembers {
 /// The members that are read, out of a value; none of one that is no object. The others are dropped.
 fn fact_members(value: Value) -> FactMembers
     ensures dimensions { option_map view result.dimensions ≡ get (codes "dimensions") (view value) }
-    ensures value { option_map view result.value ≡ get (codes "value") (view value) }
-    ensures decimals { option_map view result.decimals ≡ get (codes "decimals") (view value) }
-    ensures links { option_map view result.links ≡ get (codes "links") (view value) }
+    ensures value { option_map view result.stated.value ≡ get (codes "value") (view value) }
+    ensures decimals { option_map view result.stated.decimals ≡ get (codes "decimals") (view value) }
+    ensures links { option_map view result.stated.links ≡ get (codes "links") (view value) }
 {
     match value {
         Value::Object(members) => {
             let mut members = members;
             FactMembers {
                 dimensions: take_member(&mut members, "dimensions"),
-                value: take_member(&mut members, "value"),
-                decimals: take_member(&mut members, "decimals"),
-                links: take_member(&mut members, "links"),
+                stated: Stated {
+                    value: take_member(&mut members, "value"),
+                    decimals: take_member(&mut members, "decimals"),
+                    links: take_member(&mut members, "links"),
+                },
             }
         }
         _ => FactMembers {
             dimensions: None,
-            value: None,
-            decimals: None,
-            links: None,
+            stated: Stated {
+                value: None,
+                decimals: None,
+                links: None,
+            },
         },
     }
+}
+
+/// Copies of the members that are read beside the dimensions.
+fn stated_copied(value: &Value) -> Result<Stated, AllocError>
+    ensures value { IfOk result (λ s. option_map view s.value ≡ get (codes "value") (view value.now)) }
+    ensures decimals { IfOk result (λ s. option_map view s.decimals ≡ get (codes "decimals") (view value.now)) }
+    ensures links { IfOk result (λ s. option_map view s.links ≡ get (codes "links") (view value.now)) }
+{
+    Ok(Stated {
+        value: copy_at(value, "value")?,
+        decimals: copy_at(value, "decimals")?,
+        links: copy_at(value, "links")?,
+    })
 }
 
 /// A dimension's name with its value, a text or null.
@@ -85,6 +109,38 @@ fn dims_in(
     Ok(dims)
 }
 
+/// As `dim`, of a member that stays.
+fn dim_copied(name: &String, value: &Value) -> Result<(String, Option<String>), Trouble>
+    ensures { Gives fact_trouble dim_view result (dim_of (string_bytes name.now, view value.now)) }
+{
+    let Ok(name) = name.clone() else {
+        return Err(Trouble::NoMemory);
+    };
+    match value.clone() {
+        Ok(value) => dim(name, value),
+        Err(_) => Err(Trouble::NoMemory),
+    }
+}
+
+/// As `dims_in`, of members that stay.
+fn dims_among(
+    alloc: Global,
+    members: &Map<String, Value>,
+) -> Result<Vec<(String, Option<String>)>, Trouble>
+    ensures { Gives fact_trouble (λ v. dims_view v.items) result
+        (each dim_of (pairs (members_view members.now.entries))) }
+{
+    let Ok(mut dims) = Vec::with_capacity(alloc, members.len()) else {
+        return Err(Trouble::NoMemory);
+    };
+    for (name, value) in members {
+        let Ok(()) = dims.push(dim_copied(name, value)?) else {
+            return Err(Trouble::NoMemory);
+        };
+    }
+    Ok(dims)
+}
+
 /// The dimensions as they stand in the object.
 fn dims(alloc: Global, dimensions: Option<Value>) -> Result<Vec<(String, Option<String>)>, Trouble>
     ensures { Gives fact_trouble (λ v. dims_view v.items) result
@@ -96,6 +152,33 @@ fn dims(alloc: Global, dimensions: Option<Value>) -> Result<Vec<(String, Option<
     match members_of(dimensions) {
         Some(members) => dims_in(alloc, members),
         None => Err(Trouble::WrongShape),
+    }
+}
+
+/// As `dims`, of an object that stays.
+fn dims_copied(
+    alloc: Global,
+    dimensions: Option<&Value>,
+) -> Result<Vec<(String, Option<String>)>, Trouble>
+    ensures { Gives fact_trouble (λ v. dims_view v.items) result
+        (dims_at (option_map (λ d. view d.now) dimensions.entry)) }
+{
+    let Some(dimensions) = dimensions else {
+        return Err(Trouble::WrongShape);
+    };
+    match dimensions.as_object() {
+        Some(members) => dims_among(alloc, members),
+        None => Err(Trouble::WrongShape),
+    }
+}
+
+/// The dimension set that these dimensions are.
+fn set_of(named: Vec<(String, Option<String>)>) -> Result<DimSet, Trouble>
+    ensures { Gives fact_trouble same result (map_err trouble.Dims (dims_of (dims_view named.items))) }
+{
+    match DimSet::of(named) {
+        Ok(dims) => Ok(dims),
+        Err(fault) => Err(Trouble::Dims(fault)),
     }
 }
 
@@ -142,30 +225,41 @@ fn links(alloc: Global, value: Option<Value>) -> Result<Option<String>, Trouble>
     }
 }
 
+/// The raw fact of these dimensions, as they stand in their object, and of these members, or the first fault.
+fn fact_with(
+    alloc: Global,
+    named: Vec<(String, Option<String>)>,
+    stated: Stated,
+) -> Result<RawFact, Trouble>
+    ensures fact { Gives fact_trouble same result
+        (raw_fact_with (dims_view named.items) (option_map view stated.value)
+        (option_map view stated.decimals) (option_map view stated.links)) }
+    ensures links { IfOk result (λ raw. AreLinks raw.links) }
+{
+    let value = nullable(stated.value)?;
+    let decimals = decimals(stated.decimals)?;
+    let links = links(alloc, stated.links)?;
+    Ok(RawFact {
+        dims: set_of(named)?,
+        value,
+        decimals,
+        links,
+    })
+}
+
 /// The raw fact of these members, or the first fault.
 fn fact_of_members(alloc: Global, members: FactMembers) -> Result<RawFact, Trouble>
     ensures fact { Gives fact_trouble same result
-        (raw_fact_at (option_map view members.dimensions) (option_map view members.value)
-        (option_map view members.decimals) (option_map view members.links)) }
+        (raw_fact_at (option_map view members.dimensions) (option_map view members.stated.value)
+        (option_map view members.stated.decimals) (option_map view members.stated.links)) }
     ensures links { IfOk result (λ raw. AreLinks raw.links) }
 {
     let named = dims(alloc, members.dimensions)?;
-    let value = nullable(members.value)?;
-    let decimals = decimals(members.decimals)?;
-    let links = links(alloc, members.links)?;
-    match DimSet::of(named) {
-        Ok(dims) => Ok(RawFact {
-            dims,
-            value,
-            decimals,
-            links,
-        }),
-        Err(fault) => Err(Trouble::Dims(fault)),
-    }
+    fact_with(alloc, named, members.stated)
 }
 
-/// The raw fact that a value is, out of it.
-pub(crate) fn raw_fact_from(alloc: Global, value: Value) -> Result<RawFact, Trouble>
+/// As `raw_fact`, of a value that is given up: the texts of the fact move out of it.
+pub fn raw_fact_from(alloc: Global, value: Value) -> Result<RawFact, Trouble>
     ensures fact { Gives fact_trouble same result (raw_fact_of (view value)) }
     ensures links { IfOk result (λ raw. AreLinks raw.links) }
 {
@@ -177,22 +271,23 @@ pub fn raw_fact(alloc: Global, value: &Value) -> Result<RawFact, Trouble>
     ensures fact { Gives fact_trouble same result (raw_fact_of (view value.now)) }
     ensures links { IfOk result (λ raw. AreLinks raw.links) }
 {
-    match value.clone() {
-        Ok(value) => raw_fact_from(alloc, value),
+    let named = dims_copied(alloc, value.get("dimensions"))?;
+    match stated_copied(value) {
+        Ok(stated) => fact_with(alloc, named, stated),
         Err(_) => Err(Trouble::NoMemory),
     }
+}
+
+/// As `dimensions`, of a value that is given up: the texts of the set move out of it.
+pub fn dimensions_from(alloc: Global, value: Value) -> Result<DimSet, Trouble>
+    ensures { Gives fact_trouble same result (dims_read (view value)) }
+{
+    set_of(dims(alloc, Some(value))?)
 }
 
 /// The dimension set that a JSON value is, or the first fault: no object of texts and nulls; no dimension set.
 pub fn dimensions(alloc: Global, value: &Value) -> Result<DimSet, Trouble>
     ensures { Gives fact_trouble same result (dims_read (view value.now)) }
 {
-    let Ok(value) = value.clone() else {
-        return Err(Trouble::NoMemory);
-    };
-    let named = dims(alloc, Some(value))?;
-    match DimSet::of(named) {
-        Ok(dims) => Ok(dims),
-        Err(fault) => Err(Trouble::Dims(fault)),
-    }
+    set_of(dims_copied(alloc, Some(value))?)
 }

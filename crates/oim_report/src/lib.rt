@@ -23,7 +23,7 @@ mod values;
 
 pub use declared_value::with_allowed;
 pub use entries::Entries;
-pub use fact::{dimensions, raw_fact};
+pub use fact::{dimensions, dimensions_from, raw_fact, raw_fact_from};
 pub use fact_text::{push_dims, push_fact, push_raw, write_fact, write_raw};
 pub use fault::ReportFault;
 pub use filing_model::{TableFault, Trouble};

@@ -1,7 +1,8 @@
 //! Pieces of compact JSON, each appended to a text that grows. Where memory is wanted, what was appended is a front of the piece.
 
-ghost use Rattle.std.specs.Prelude.{◌≡◌, ◌++◌, OnOk, OnErr, IfOk, Some, string_bytes};
-ghost use Rattle.json.specs.Print.{quoted};
+ghost use Rattle.std.specs.Prelude.{◌≡◌, ◌∷◌, [], ◌++◌, OnOk, OnErr, IfOk, Some, string_bytes};
+ghost use Rattle.std.specs.Bool.{OnTrue};
+ghost use Rattle.json.specs.Print.{escape, escape_byte, quoted};
 ghost use Rattle.serde_json.specs.Written.{comma_if};
 ghost use Rattle.filing_model.specs.Writing.{decimals_text, nullable_text};
 ghost use Rattle.oim_fact.specs.Texts.{text_view};
@@ -23,13 +24,55 @@ fn quoted_text(alloc: Global, text: &str) -> Result<String, AllocError>
     }
 }
 
-/// Appends a text as a JSON text.
-pub fn push_quoted(out: &mut String, text: &str) -> Result<(), AllocError>
+/// Whether a byte of a text stands for itself in a JSON text.
+fn stands_for_itself(byte: u8) -> bool
+    ensures { OnTrue result (escape_byte byte ≡ byte ∷ []) }
+{
+    byte >= b' ' && byte != b'"' && byte != b'\\'
+}
+
+/// Whether each byte of a text stands for itself.
+fn is_plain(text: &str) -> bool
+    ensures { OnTrue result (escape text.now ≡ text.now) }
+{
+    for byte in text.as_bytes() {
+        if !stands_for_itself(*byte) {
+            return false;
+        }
+    }
+    true
+}
+
+/// Appends a text without escapes as a JSON text.
+fn push_plain(out: &mut String, text: &str) -> Result<(), AllocError>
+    requires { escape text.now ≡ text.now }
+    ensures text { OnOk result (string_bytes out.new ≡ string_bytes out.old ++ quoted text.now) }
+    ensures front { OnErr result (IsFrontPushed out.old out.new (quoted text.now)) }
+{
+    out.push_str("\"")?;
+    out.push_str(text)?;
+    out.push_str("\"")
+}
+
+/// As `push_quoted`, of any text.
+fn push_escaped(out: &mut String, text: &str) -> Result<(), AllocError>
     ensures text { OnOk result (string_bytes out.new ≡ string_bytes out.old ++ quoted text.now) }
     ensures front { OnErr result (IsFrontPushed out.old out.new (quoted text.now)) }
 {
     let quoted = quoted_text(*out.allocator(), text)?;
     out.push_str(&quoted)
+}
+
+/// Appends a text as a JSON text.
+pub fn push_quoted(out: &mut String, text: &str) -> Result<(), AllocError>
+    ensures text { OnOk result (string_bytes out.new ≡ string_bytes out.old ++ quoted text.now) }
+    ensures front { OnErr result (IsFrontPushed out.old out.new (quoted text.now)) }
+{
+    if is_plain(text) {
+        push_plain(out, text)
+    } else {
+        push_escaped(out, text)
+    }
 }
 
 /// Appends a comma, where something stands before.
