@@ -1,6 +1,7 @@
 -- ---- the lines of a script
 pub mod ToldFaults
 pub mod AskedSteps
+pub mod AskedParts
 pub mod ReportOfLoad
 -- ---- examples that compute
 pub mod Examples

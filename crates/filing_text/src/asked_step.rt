@@ -1,6 +1,6 @@
 //! The step that a line asks of a session.
 
-ghost use Rattle.std.specs.Prelude.{◌≡◌, Ok, Some, option_map, IfOk, string_bytes};
+ghost use Rattle.std.specs.Prelude.{◌≡◌, ◌+◌, ◌<◌, ◌^◌, Ok, Some, option_map, IfOk, string_bytes};
 ghost use Rattle.serde_json.specs.View.{view};
 ghost use Rattle.oim_fact.specs.Texts.{text_view};
 ghost use Rattle.filing_model.specs.Calls as call;
@@ -11,13 +11,13 @@ ghost use Rattle.filing_text.specs.ScriptLines as model;
 ghost use Rattle.filing_text.specs.ReplyText.{told_fault};
 ghost use Rattle.filing_text.specs.LineView.{asking_view, period_view};
 ghost use Rattle.filing_text.specs.Script.{bad_dims_text, call_read};
-ghost use Rattle.filing_text.specs.AskedStep.{IsAsked};
+ghost use Rattle.filing_text.specs.AskedStep.{AreAsked, IsAsked, asking_in};
 
-use crate::line::{Asking, Period};
+use crate::line::{Asking, Period, asking_at, taken_at, text_at};
 use crate::texts::{bad_fact_reply, bad_line_reply};
 use filing_model::Trouble;
 use filing_step::{Asked, Limit, Step};
-use oim_report::{dimensions, raw_fact};
+use oim_report::{dimensions, dimensions_from, raw_fact, raw_fact_from};
 use serde_json::Value;
 use std::alloc::{AllocError, Global};
 
@@ -139,5 +139,72 @@ pub fn step_asked(alloc: Global, asking: &Asking<'_>) -> Result<Result<Step, Str
             report: String::from_str(alloc, report)?,
             allowed: *allowed,
         })),
+    }
+}
+
+/// As `cell_asked`, of dimensions that are given up.
+#[tactic(auto, using(crate::proofs::ToldFaults::cell_is_refused))]
+fn cell_from(alloc: Global, report: String, dims: Value) -> Result<Result<Step, String>, AllocError>
+    ensures { IfOk result (λ asked. IsAsked asked (call_read (model.Cell (string_bytes report) (view dims)))) }
+{
+    match dimensions_from(alloc, dims) {
+        Ok(dims) => Ok(Ok(Step::Cell {
+            report,
+            dims: dims.shared(alloc)?,
+        })),
+        Err(fault) => Ok(Err(bad_dims_reply(alloc, fault)?)),
+    }
+}
+
+/// As `add_asked`, of a fact that is given up.
+#[tactic(auto, using(crate::proofs::ToldFaults::addition_is_refused))]
+fn add_from(
+    alloc: Global,
+    report: String,
+    id: String,
+    fact: Value,
+) -> Result<Result<Step, String>, AllocError>
+    ensures { IfOk result (λ asked. IsAsked asked
+        (call_read (model.Add (string_bytes report) (string_bytes id) (view fact)))) }
+{
+    match raw_fact_from(alloc, fact) {
+        Ok(fact) => Ok(Ok(Step::Add {
+            report,
+            id,
+            fact: fact.shared(alloc)?,
+        })),
+        Err(fault) => Ok(Err(bad_fact_reply(alloc, fault)?)),
+    }
+}
+
+/// As `step_asked` of what `asking_at` reads, by the first text of an array, which is given up: dimensions and a fact move out of it.
+pub fn step_from(
+    alloc: Global,
+    value: Value,
+    place: usize,
+) -> Result<Option<Result<Step, String>>, AllocError>
+    requires { place + 6 < 2 ^ 64 }
+    ensures { IfOk result (λ asked. AreAsked asked (asking_in place (view value))) }
+{
+    let mut value = value;
+    let Some(word) = text_at(&value, 0) else {
+        return Ok(None);
+    };
+    let Some(asking) = asking_at(word, &value, place) else {
+        return Ok(None);
+    };
+    match asking {
+        Asking::Cell { report, .. } => {
+            let report = String::from_str(alloc, report)?;
+            let dims = taken_at(&mut value, place + 1);
+            Ok(Some(cell_from(alloc, report, dims)?))
+        }
+        Asking::Add { report, id, .. } => {
+            let report = String::from_str(alloc, report)?;
+            let id = String::from_str(alloc, id)?;
+            let fact = taken_at(&mut value, place + 2);
+            Ok(Some(add_from(alloc, report, id, fact)?))
+        }
+        asking => Ok(Some(step_asked(alloc, &asking)?)),
     }
 }

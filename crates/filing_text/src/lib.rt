@@ -10,7 +10,7 @@ mod line;
 mod load;
 mod texts;
 
-pub use asked_step::{own_period, own_text, step_asked};
+pub use asked_step::{own_period, own_text, step_asked, step_from};
 pub use line::{
     Asking, Line, Period, allowed_at, asked_at, asking_at, kind_of_word, line_of, nullable_at,
     taken_at, text_at,

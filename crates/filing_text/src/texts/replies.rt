@@ -156,11 +156,19 @@ pub fn push_reply(out: &mut String, reply: &Reply) -> Result<(), AllocError>
     }
 }
 
+/// How many bytes to take for the line of a reply, so that it seldom has to grow.
+fn likely_length(reply: &Reply) -> usize {
+    match reply {
+        Reply::Found(_) => 256,
+        _ => 32,
+    }
+}
+
 /// The line of a reply, without the LF that ends it.
 pub fn reply_text(alloc: Global, reply: &Reply) -> Result<String, AllocError>
     ensures { IfOk result (λ text. string_bytes text ≡ reply_text (reply_of reply.now)) }
 {
-    let mut out = String::new(alloc);
+    let mut out = String::with_capacity(alloc, likely_length(reply))?;
     push_reply(&mut out, reply)?;
     Ok(out)
 }
