@@ -2,6 +2,7 @@
 
 use filing_cli::Watch;
 use std::io::{IsTerminal, Read, Result};
+use std::mem::forget;
 use std::sync::atomic::{AtomicU64, Ordering};
 use std::time::Instant;
 
@@ -106,5 +107,10 @@ impl Watch for Steps {
     fn step_taken(&self) {
         let before = self.taken.fetch_add(1, Ordering::Relaxed);
         self.progress.tell(before.saturating_add(1), "steps taken");
+    }
+
+    // The process ends soon. Giving back the versions that receipts keep, page by page, takes a quarter of the time of long scripts; the system takes all of it at once.
+    fn done_with<T: Drop>(&self, remains: T) {
+        forget(remains);
     }
 }

@@ -1,5 +1,5 @@
 -- The replies to the lines of a script once its desk has taken its steps. The project's own.
-use Rattle.std.specs.Prelude.{◌≡◌, Bool, true, false, List, [], ◌∷◌, Option, Some, None, option_map, string_bytes}
+use Rattle.std.specs.Prelude.{◌≡◌, Bool, true, false, List, [], ◌∷◌, ◌++◌, Option, Some, None, string_bytes}
 use Rattle.std.specs.declared.string.String.{String}
 use Rattle.std.specs.declared.alloc.Global.{Global}
 use Rattle.std.specs.Option.{option_map_or}
@@ -30,8 +30,13 @@ all_told (Some text ∷ told) os = all_told told os
 all_told (None ∷ told) [] = false
 all_told (None ∷ told) (o ∷ os) = option_map_or (λ text. all_told told os) (outcome_text o) false
 
--- the next reply, with the outcomes before and after it
-abbrev pub NextReply : {J : Type 0} → Option (String Global) → List (Outcome J) → List (Outcome J) → Option (String Global) → Type 0
-NextReply (Some text) os left reply = (option_map string_bytes reply ≡ Some (string_bytes text)) × (left ≡ os)
-NextReply None [] left reply = (reply ≡ None)
-NextReply None (o ∷ os) left reply = (option_map string_bytes reply ≡ outcome_text o) × (left ≡ os)
+-- a text has grown by this reply where there is one, and is as it was where there is none
+abbrev pub GrowsBy : Option Text → Bool → Text → Text → Type 0
+GrowsBy (Some reply) there text text' = (there ≡ true) × (text' ≡ text ++ reply)
+GrowsBy None there text text' = (there ≡ false) × (text' ≡ text)
+
+-- a text has grown by the next reply, if there is one, with the outcomes before and after it
+abbrev pub NextReply : {J : Type 0} → Option (String Global) → List (Outcome J) → List (Outcome J) → Bool → Text → Text → Type 0
+NextReply (Some at_once) os left there text text' = GrowsBy (Some (string_bytes at_once)) there text text' × (left ≡ os)
+NextReply None [] left there text text' = GrowsBy None there text text'
+NextReply None (o ∷ os) left there text text' = GrowsBy (outcome_text o) there text text' × (left ≡ os)

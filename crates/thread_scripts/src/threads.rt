@@ -19,7 +19,22 @@ use std::sync::{Arc, Wait};
 use std::thread;
 use std::thread::Threads;
 
-/// Lets the desks of an office take the steps of the scripts, and puts the replies together, those of each script in a thread of its own.
+/// The replies to scripts whose desks have taken their steps, those of each put together in a thread of its own.
+fn all_told<L: Ledger + Naming + Send + Sync, R: Threads + Sync>(
+    rt: &R,
+    alloc: Global,
+    all_taken: &[Taken<L>],
+) -> Result<Vec<Result<Replies, AllocError>>, AllocError> {
+    let tell = |place: usize| -> Result<Replies, AllocError>
+        requires { place < length all_taken.now }
+    {
+        let taken = &all_taken[place];
+        Replies::of(alloc, taken.told.as_slice(), taken.outcomes.as_slice())
+    };
+    thread::map_indices(rt, alloc, all_taken.len(), &tell)
+}
+
+/// Lets the desks of an office take the steps of the scripts, and puts the replies together. The watch is given what the desks came to, once it is read.
 fn answered<
     L: Ledger + Naming + Send + Sync,
     M: Ledger + Send + Sync,
@@ -43,14 +58,12 @@ fn answered<
     let all_taken = taken_at_office::<L, M, R, V>(
         rt, alloc, watch, scripts, press, steps, receipts,
     )?;
-    let tell = |taken: Taken<L>| -> Result<Replies, AllocError> {
-        let Taken { told, outcomes } = taken;
-        Replies::of(alloc, told, outcomes)
-    };
-    Ok(thread::map_vec(rt, all_taken, &tell)?)
+    let all_replies = all_told(rt, alloc, all_taken.as_slice())?;
+    watch.done_with(all_taken);
+    Ok(all_replies)
 }
 
-/// Runs scripts, from 1 to 16, each in a thread of its own with a desk and a reviewer of one office, and writes the replies of one script after the other. A script is answered as `run_script` answers one, but its reviews take no lock, names are its own, and an export is a bad line. Where memory is wanted for a step, the replies of that script end before it, all other replies are written, and the answer is `NoMemory`; after any other fault a front of the replies is written. Each step that is taken is told to the watch.
+/// Runs scripts, from 1 to 16, each in a thread of its own with a desk and a reviewer of one office, and writes the replies of one script after the other. A script is answered as `run_script` answers one, but its reviews take no lock, names are its own, and an export is a bad line. Where memory is wanted for a step, the replies of that script end before it, all other replies are written, and the answer is `NoMemory`; after any other fault a front of the replies is written. Each step that is taken is told to the watch, which is also given what is left at the end.
 pub fn run_threads<W: Sink, R: Threads + Wait + Sync, V: Watch>(
     rt: &R,
     alloc: Global,

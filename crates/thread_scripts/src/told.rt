@@ -1,13 +1,14 @@
 //! `Replies`: what the lines of a script are told.
 
-ghost use Rattle.std.specs.Prelude.{◌≡◌, IfOk, option_map, string_bytes};
+ghost use Rattle.std.specs.Prelude.{◌≡◌, IfOk, string_bytes};
+ghost use Rattle.std.specs.Slice.Iter.{iter_rest};
 ghost use Rattle.line_run.specs.Lines.{lines_text};
-ghost use Rattle.thread_scripts.specs.Telling.{NextReply, all_told, outcome_text, replies_of};
+ghost use Rattle.thread_scripts.specs.Telling.{GrowsBy, NextReply, all_told, outcome_text, replies_of};
 
 use filing_office::{Naming, Outcome};
-use filing_text::{name_in_use_reply, no_session_reply, reply_text};
+use filing_text::{name_in_use_reply, no_session_reply, push_reply};
 use std::alloc::{AllocError, Global};
-use std::vec::IntoIter;
+use std::slice::Iter;
 
 /// What the lines of a script are told.
 #[derive(Drop)]
@@ -18,35 +19,35 @@ pub(crate) struct Replies {
     pub(crate) whole: bool,
 }
 
-/// The reply that an outcome is; none where memory was wanted.
-fn outcome_reply<J: Naming>(
-    alloc: Global,
-    outcome: &Outcome<J>,
-) -> Result<Option<String>, AllocError>
-    ensures { IfOk result (λ text. option_map string_bytes text ≡ outcome_text outcome.now) }
+/// Appends the reply that an outcome is; nothing where memory was wanted. Whether there is one.
+fn push_outcome<J: Naming>(text: &mut String, outcome: &Outcome<J>) -> Result<bool, AllocError>
+    ensures { IfOk result (λ there. GrowsBy (outcome_text outcome.now) there (string_bytes text.old) (string_bytes text.new)) }
 {
     match outcome {
-        Outcome::Answered(answer) => Ok(Some(reply_text(alloc, &answer.reply)?)),
-        Outcome::NameInUse => Ok(Some(String::from_str(alloc, name_in_use_reply())?)),
-        Outcome::NoSession => Ok(Some(String::from_str(alloc, no_session_reply())?)),
-        Outcome::NoMemory => Ok(None),
+        Outcome::Answered(answer) => push_reply(text, &answer.reply)?,
+        Outcome::NameInUse => text.push_str(name_in_use_reply())?,
+        Outcome::NoSession => text.push_str(no_session_reply())?,
+        Outcome::NoMemory => return Ok(false),
     }
+    Ok(true)
 }
 
-/// What the next line is told: at once, or by the next outcome. None where that is want of memory, or where no outcome is left.
-fn next_reply<J: Naming>(
-    alloc: Global,
-    told: Option<String>,
-    outcomes: &mut IntoIter<Outcome<J>, Global>,
-) -> Result<Option<String>, AllocError>
-    ensures { IfOk result (NextReply told outcomes.old.rest.items outcomes.new.rest.items) }
+/// Appends what the next line is told: at once, or by the next outcome. Whether it is told anything: it is not where that is want of memory, or where no outcome is left.
+fn push_next<J: Naming>(
+    text: &mut String,
+    told: &Option<String>,
+    outcomes: &mut Iter<'_, Outcome<J>>,
+) -> Result<bool, AllocError>
+    ensures { IfOk result (λ there. NextReply told.now (iter_rest outcomes.old) (iter_rest outcomes.new) there
+        (string_bytes text.old) (string_bytes text.new)) }
 {
-    if told.is_some() {
-        return Ok(told);
+    if let Some(at_once) = told {
+        text.push_str(at_once)?;
+        return Ok(true);
     }
     match outcomes.next() {
-        Some(outcome) => outcome_reply(alloc, &outcome),
-        None => Ok(None),
+        Some(outcome) => push_outcome(text, outcome),
+        None => Ok(false),
     }
 }
 
@@ -54,19 +55,18 @@ impl Replies {
     /// Puts the replies together: what lines are told at once, and between them what became of the steps.
     pub(crate) fn of<J: Naming>(
         alloc: Global,
-        told: Vec<Option<String>>,
-        outcomes: Vec<Outcome<J>>,
+        told: &[Option<String>],
+        outcomes: &[Outcome<J>],
     ) -> Result<Replies, AllocError>
-        ensures text { IfOk result (λ r. string_bytes r.text ≡ lines_text (replies_of told.items outcomes.items)) }
-        ensures whole { IfOk result (λ r. r.whole ≡ all_told told.items outcomes.items) }
+        ensures text { IfOk result (λ r. string_bytes r.text ≡ lines_text (replies_of told.now outcomes.now)) }
+        ensures whole { IfOk result (λ r. r.whole ≡ all_told told.now outcomes.now) }
     {
         let mut text = String::new(alloc);
-        let mut outcomes = outcomes.into_iter();
+        let mut outcomes_left = outcomes.iter();
         for at_once in told {
-            let Some(reply) = next_reply(alloc, at_once, &mut outcomes)? else {
+            if !push_next(&mut text, at_once, &mut outcomes_left)? {
                 return Ok(Replies { text, whole: false });
-            };
-            text.push_str(&reply)?;
+            }
             text.push_str("\n")?;
         }
         Ok(Replies { text, whole: true })

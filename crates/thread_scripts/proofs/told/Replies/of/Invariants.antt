@@ -1,8 +1,9 @@
-use Rattle.std.proofs.Common.{string_bytes}
+use Rattle.std.proofs.Common.{drop, string_bytes}
+use Rattle.std.specs.Slice.Iter.{iter_rest}
 use Rattle.thread_scripts.proofs.ToldReplies.{IsToldTo}
 use Rattle.thread_scripts.proofs.told.Replies.of.Given as goal
 
 -- the replies so far are those of the lines before
 abbrev pub invariant-loop-at_once : goal.invariant-loop-at_once
 invariant-loop-at_once g l =
-    IsToldTo l.fn.told.items l.at_once-iterator.rest.items l.fn.outcomes.items l.outcomes.rest.items (string_bytes l.text)
+    IsToldTo l.told (drop l.at_once-index l.told) l.outcomes (iter_rest l.outcomes_left) (string_bytes l.text)
