@@ -4,3 +4,4 @@ pub mod Spans
 pub mod Codes
 pub mod Keys
 pub mod Heads
+pub mod NameKeys

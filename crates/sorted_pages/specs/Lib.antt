@@ -1,6 +1,9 @@
 pub mod Sorted
 pub mod Changes
 pub mod Pages
+pub mod Keys
+pub mod KeyEnds
+pub mod ToldSides
 pub mod Blocks
 pub mod Ranges
 pub mod Edges
