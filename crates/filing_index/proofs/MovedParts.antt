@@ -13,7 +13,8 @@ use Rattle.filing_model.specs.Calls.{Asked, Any, Without, Exactly}
 use Rattle.filing_model.specs.Duplicates.{has_dims}
 use Rattle.filing_model.specs.Queries.{is_after, answers_query}
 use Rattle.filing_model.specs.Touches.{is_within}
-use Rattle.filing_model.proofs.Texts.{text_eq-sym}
+use Rattle.filing_model.proofs.Texts.{text_cmp-Equal, text_eq-sym}
+use Rattle.filing_pages.specs.Heads.{name_key}
 use Rattle.filing_model.proofs.DimensionSets.{dims_cmp-total, dims_cmp-Equal, nullable_Equal}
 use Rattle.filing_model.proofs.Tests.{both_are_equal}
 use Rattle.filing_index.specs.Moves.{Move, Part, Id, Cell, Range, is_moved, is_moved_in, stamped_by}
@@ -36,6 +37,11 @@ implied : (n g r : Bool) → (g ≡ true → n ≡ true) → (n && (g && r)) ≡
 implied true g r f = refl
 implied false true r f = absurd (true≢false (sym (f refl)))
 implied false false r f = refl
+
+implied_alone : (n g : Bool) → (g ≡ true → n ≡ true) → (n && g) ≡ g
+implied_alone true g f = refl
+implied_alone false true f = absurd (true≢false (sym (f refl)))
+implied_alone false false f = refl
 
 and_turned : (a b : Bool) → (a && b) ≡ (b && a)
 and_turned true true = refl
@@ -76,6 +82,15 @@ coded g h r =
     ∙ implied (is_eq codes) (is_eq groups) (is_eq r) (λ e.
     ap (λ k. is_eq (nat_cmp (group_code g) (group_code k))) (sym (group_cmp-Equal g h ((Equal-is groups).0 e)))
     ∙ ap is_eq (tied_itself nat_cmp_total (group_code g)))
+
+-- names that tie have one key
+named : (id x : Text) → is_eq (ordering_then (nat_cmp (name_key id) (name_key x)) (text_cmp id x)) ≡ text_eq id x
+named id x =
+    let keys : Ordering = nat_cmp (name_key id) (name_key x) in
+    sym (tied_then keys (text_cmp id x))
+    ∙ implied_alone (is_eq keys) (is_eq (text_cmp id x)) (λ e.
+    ap (λ y. is_eq (nat_cmp (name_key id) (name_key y))) (sym (text_cmp-Equal id x ((Equal-is (text_cmp id x)).0 e)))
+    ∙ ap is_eq (tied_itself nat_cmp_total (name_key id)))
 
 -- a text that may be missing, against one that is there
 ties_with : (o : Option Text) (t : Text) → is_eq (option_cmp text_cmp o (Some t)) ≡ option_eq text_eq (Some t) o
@@ -122,7 +137,7 @@ range_ties concept c p q =
     ∙ ap (λ b. b && is_eq (option_cmp (option_cmp text_cmp) p q)) (ties_with c concept)
 
 fact_hits : (part : Part) (n : ℕ) (id : Text) (fact : Fact) → hits part (stamps_of n (id, fact)) ≡ stands_in part id fact
-fact_hits (Id x) n id fact = group_hits no_group no_group (text_cmp id x) true (text_eq id x) refl refl ∙ text_eq-sym id x
+fact_hits (Id x) n id fact = or_false _ ∙ named id x ∙ text_eq-sym id x
 fact_hits (Cell dims) n id fact =
     group_hits (record no_group { dims = Some fact.dims }) (record no_group { dims = Some dims }) Equal (dims_eq dims fact.dims) true
     (cell_ties dims fact.dims) refl

@@ -16,3 +16,4 @@ pub mod StampSpans
 -- ---- laws that orders and ranges carry
 pub mod Lexicographic
 pub mod StampOrders
+pub mod StampKeys

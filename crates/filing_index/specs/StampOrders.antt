@@ -8,7 +8,7 @@ use Rattle.sorted_pages.specs.Ties.{tie_is_monotone}
 use Rattle.filing_model.specs.Text.{Text, text_cmp}
 use Rattle.filing_model.specs.Queries.{is_after}
 use Rattle.filing_model.proofs.DimensionSets.{dims_cmp-total}
-use Rattle.filing_index.specs.Stamps.{group_cmp, group_code, Stamp, stamp_cmp, IdRange, Only, Between, is_upto, ids_side, Among, among_side}
+use Rattle.filing_index.specs.Stamps.{group_cmp, Stamp, stamp_cmp, IdRange, Only, Between, is_upto, ids_side, Among, among_side}
 use Rattle.filing_index.specs.Lexicographic.{then_monotone}
 
 pub group_cmp-total : IsTotalOrder group_cmp
@@ -81,5 +81,5 @@ named_monotone ids =
 pub among_is_monotone : (among : Among) → IsMonotone stamp_cmp (among_side among)
 among_is_monotone among =
     then_monotone (λ s. s.rank) nat_cmp_total among.rank
-    (then_monotone (λ s. s.code) nat_cmp_total (group_code among.group)
+    (then_monotone (λ s. s.code) nat_cmp_total among.code
     (then_monotone (λ s. s.group) group_cmp-total among.group (named_monotone among.ids)))

@@ -1,5 +1,5 @@
 -- The stamps of one report: what touched facts leave behind, each with the number of the last touch. The project's own.
-use Rattle.std.specs.Prelude.{◌≡◌, ℕ, Bool, true, cond, not, List, [], ◌∷◌, ◌++◌, map, Option, Some, None}
+use Rattle.std.specs.Prelude.{◌≡◌, ℕ, ◌+◌, ◌*◌, ◌/◌, min, Bool, true, cond, not, List, [], ◌∷◌, ◌++◌, map, Option, Some, None}
 use Rattle.std.specs.List.{AllByRecursion, flat_map, list_any}
 use Rattle.std.specs.Option.{option_cmp, option_map, option_map_or}
 use Rattle.std.specs.Ordering.{on, then_cmp, ordering_then, nat_cmp, is_lt}
@@ -15,6 +15,7 @@ use Rattle.filing_model.specs.Facts.{Fact}
 use Rattle.filing_model.specs.Queries.{is_after}
 use Rattle.filing_model.specs.Calls.{Asked, Any, Without, Exactly}
 use Rattle.filing_pages.specs.Codes.{code_of_dims, code_of_concept, code_of_period}
+use Rattle.filing_pages.specs.Heads.{name_key}
 use Rattle.filing_index.specs.Moves.{Move, Part, Id, Cell, Range}
 use Rattle.filing_index.specs.declared.stamp.StampKind.{StampKind}
 use Rattle.filing_index.specs.declared.stamp.StampKind.TheVariants as kind
@@ -44,7 +45,7 @@ code_of_parts None None period = 0
 abbrev pub group_code : Group → ℕ
 group_code group = code_of_parts group.dims group.concept group.period
 
--- the rank of its kind, the code of its group, the group, an identifier or nothing, and the number of the last touch
+-- the rank of its kind, its code, the group, an identifier or nothing, and the number of the last touch
 pub record Stamp : Type 0 where
   pub rank : ℕ
   pub code : ℕ
@@ -57,6 +58,10 @@ abbrev pub stamp_cmp : Stamp → Stamp → Ordering
 stamp_cmp =
     then_cmp (on (λ s. s.rank) nat_cmp) (then_cmp (on (λ s. s.code) nat_cmp)
     (then_cmp (on (λ s. s.group) group_cmp) (on (λ s. s.id) text_cmp)))
+
+-- a number that never falls where stamps rise: the rank, then the code without its last two bits
+abbrev pub stamp_key : ℕ → ℕ → ℕ
+stamp_key rank code = rank * 4611686018427387904 + min (code / 4) 4611686018427387903
 
 -- ---- the stamps that a fact leaves
 
@@ -84,9 +89,16 @@ abbrev pub stamp_of : StampKind → ℕ → ℕ → Text × Fact → Stamp
 stamp_of stamp_kind code number held =
     record { rank = rank_of stamp_kind; code = code; group = group_of stamp_kind held.1.dims; id = id_of stamp_kind held.0; number = number }
 
--- the same, under the code of its group
+-- the code of a stamp: that of its group, but of an identifier the key of its name
+abbrev pub stamp_code : StampKind → Text × Fact → ℕ
+stamp_code kind.Identifier held = name_key held.0
+stamp_code kind.Cell held = group_code (group_of kind.Cell held.1.dims)
+stamp_code kind.AnyPeriod held = group_code (group_of kind.AnyPeriod held.1.dims)
+stamp_code kind.OnePeriod held = group_code (group_of kind.OnePeriod held.1.dims)
+
+-- the same, under its code
 abbrev pub coded_stamp : StampKind → ℕ → Text × Fact → Stamp
-coded_stamp stamp_kind number held = stamp_of stamp_kind (group_code (group_of stamp_kind held.1.dims)) number held
+coded_stamp stamp_kind number held = stamp_of stamp_kind (stamp_code stamp_kind held) number held
 
 -- one of each kind
 abbrev pub stamps_of : ℕ → Text × Fact → List Stamp
@@ -130,16 +142,17 @@ abbrev pub ids_side : IdRange → Text → Ordering
 ids_side (Only id) other = text_cmp other id
 ids_side (Between after upto) id = cond (is_after after id) (cond (is_upto upto id) Equal Greater) Less
 
--- the stamps of one kind and group with identifiers in a range
+-- the stamps of one kind, code and group with identifiers in a range
 pub record Among : Type 0 where
   pub rank : ℕ
+  pub code : ℕ
   pub group : Group
   pub ids : IdRange
 
 -- how a stamp stands to them
 abbrev pub among_side : Among → Stamp → Ordering
 among_side among s =
-    ordering_then (nat_cmp s.rank among.rank) (ordering_then (nat_cmp s.code (group_code among.group))
+    ordering_then (nat_cmp s.rank among.rank) (ordering_then (nat_cmp s.code among.code)
     (ordering_then (group_cmp s.group among.group) (ids_side among.ids s.id)))
 
 abbrev pub asked_kind : Asked → StampKind
@@ -152,15 +165,16 @@ asked_period Any = None
 asked_period Without = Some None
 asked_period (Exactly text) = Some (Some text)
 
+-- those of one kind and group
+abbrev pub among_group : StampKind → Group → IdRange → Among
+among_group stamp_kind group ids = record { rank = rank_of stamp_kind; code = group_code group; group = group; ids = ids }
+
 -- those of a part
 abbrev pub part_among : Part → Among
-part_among (Id id) = record { rank = rank_of kind.Identifier; group = no_group; ids = Only id }
-part_among (Cell dims) = record { rank = rank_of kind.Cell; group = record no_group { dims = Some dims }; ids = Between None None }
-part_among (Range sought upto) = record {
-  rank = rank_of (asked_kind sought.period);
-  group = record no_group { concept = Some sought.concept; period = asked_period sought.period };
-  ids = Between sought.after upto;
-}
+part_among (Id id) = record { rank = rank_of kind.Identifier; code = name_key id; group = no_group; ids = Only id }
+part_among (Cell dims) = among_group kind.Cell (record no_group { dims = Some dims }) (Between None None)
+part_among (Range sought upto) =
+    among_group (asked_kind sought.period) (record no_group { concept = Some sought.concept; period = asked_period sought.period }) (Between sought.after upto)
 
 -- the number of the last touch of a part, or 0 where none was
 abbrev pub stamp_in : List Stamp → Part → ℕ

@@ -59,15 +59,23 @@ impl Peaked for Coded {
 
 impl Entry for Coded {
     ghost use Rattle.filing_index.specs.Index.{coded_cmp};
-    ghost use Rattle.filing_index.specs.KeyOrder.{coded_cmp_total};
+    ghost use Rattle.filing_index.specs.KeyOrder.{coded_cmp_total, codes_rise};
 
     ghost order = { coded_cmp };
 
     ghost is_total = { coded_cmp_total };
 
+    ghost key = { λ c. c.0.0 };
+
+    ghost key_rises = { codes_rise };
+
     /// As of facts under their identifiers.
     fn most_in_page() -> usize {
         16
+    }
+
+    fn key(&self) -> u64 {
+        self.code
     }
 
     fn order(&self, other: &Self) -> Ordering {

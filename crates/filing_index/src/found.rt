@@ -10,7 +10,7 @@ ghost use Rattle.filing_index.specs.Wanted.{is_wanted, coded_by};
 use crate::coded::Coded;
 use crate::wanted::Wanted;
 use filing_pages::{Held, Named};
-use sorted_pages::{Paged, Range, Span};
+use sorted_pages::{Paged, Range, Span, order_of_keys};
 use std::cmp::Ordering;
 use std::marker::Model;
 
@@ -37,6 +37,10 @@ impl<'a> Span<Coded> for OfCode<'a> {
             Ordering::Greater => Ordering::Greater,
         }
     }
+
+    fn side_of_key(&self, key: u64) -> Option<Ordering> {
+        order_of_keys(key, self.code)
+    }
 }
 
 /// All entries.
@@ -53,6 +57,10 @@ impl Span<Coded> for All {
 
     fn side(&self, _: &Coded) -> Ordering {
         Ordering::Equal
+    }
+
+    fn side_of_key(&self, _: u64) -> Option<Ordering> {
+        Some(Ordering::Equal)
     }
 }
 

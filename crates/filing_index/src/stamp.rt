@@ -5,7 +5,8 @@ ghost use Rattle.std.specs.Ordering.{eq_by_cmp, ordering_then};
 ghost use Rattle.std.specs.Option.{option_cmp};
 ghost use Rattle.filing_model.specs.Text.{text_cmp};
 ghost use Rattle.filing_model.specs.Dimensions.{dims_cmp};
-ghost use Rattle.filing_index.specs.Stamps.{no_group, rank_of, group_of, id_of, group_cmp, group_code, coded_stamp, stamp_cmp};
+ghost use Rattle.filing_index.specs.Stamps.{no_group, rank_of, group_of, id_of, group_cmp, group_code, coded_stamp, stamp_cmp, stamp_code, stamp_key};
+ghost use Rattle.filing_index.specs.StampKeys.{stamp_keys_rise};
 ghost use Rattle.filing_index.specs.StampOrders.{stamp_cmp-total};
 
 use filing_pages::{Held, Named, SoughtName, code_of_concept, code_of_dims, code_of_period};
@@ -36,6 +37,13 @@ impl StampKind {
         self as u8
     }
 
+    /// The key of the stamps of this kind with a code: the rank in two bits, then the code without its last two.
+    pub(crate) fn key(self, code: u64) -> u64
+        ensures { result ≡ stamp_key (rank_of self) code }
+    {
+        u64::from(self.rank()) * (1 << 62) + code / 4
+    }
+
     /// What a stamp of this kind looks at in a fact.
     pub(crate) fn group(self, held: &Held) -> Group<'_>
         ensures { result ≡ group_of self held.now.dims }
@@ -48,15 +56,15 @@ impl StampKind {
         }
     }
 
-    /// The code of that.
-    fn code(self, held: &Held) -> u64
-        ensures { result ≡ group_code (group_of self held.now.dims) }
+    /// The code of the stamp of this kind that a fact leaves.
+    fn code(self, held: &Named<Held>) -> u64
+        ensures { result ≡ stamp_code self held.now }
     {
         match self {
-            StampKind::Identifier => 0,
-            StampKind::Cell => held.cell_code(),
-            StampKind::AnyPeriod => held.concept_code(),
-            StampKind::OnePeriod => held.period_code(),
+            StampKind::Identifier => held.key(),
+            StampKind::Cell => held.value().cell_code(),
+            StampKind::AnyPeriod => held.value().concept_code(),
+            StampKind::OnePeriod => held.value().period_code(),
         }
     }
 }
@@ -191,7 +199,7 @@ impl Stamp {
     pub(crate) fn of(kind: StampKind, held: &Named<Held>, number: u64) -> Result<Stamp, AllocError>
         ensures { IfOk result (λ s. s ≡ coded_stamp kind number held.now) }
     {
-        let code = kind.code(held.value());
+        let code = kind.code(held);
         let held = held.share()?;
         Ok(Stamp {
             kind,
@@ -316,9 +324,17 @@ impl Entry for Stamp {
 
     ghost is_total = { stamp_cmp-total };
 
+    ghost key = { λ s. stamp_key s.rank s.code };
+
+    ghost key_rises = { stamp_keys_rise };
+
     /// As of facts under their identifiers.
     fn most_in_page() -> usize {
         16
+    }
+
+    fn key(&self) -> u64 {
+        self.kind.key(self.code)
     }
 
     fn order(&self, other: &Stamp) -> Ordering {

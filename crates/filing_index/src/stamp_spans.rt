@@ -4,11 +4,12 @@ ghost use Rattle.std.specs.Ordering.{ordering_then};
 ghost use Rattle.filing_model.specs.Text.{text_cmp};
 ghost use Rattle.filing_model.specs.Queries.{is_after};
 ghost use Rattle.filing_index.specs.StampSpans.{id_range_of};
-ghost use Rattle.filing_index.specs.Stamps.{rank_of, group_code, group_cmp, ids_side, is_upto};
+ghost use Rattle.filing_index.specs.Moves.{Id};
+ghost use Rattle.filing_index.specs.Stamps.{among_group, group_cmp, ids_side, is_upto, part_among};
 
 use crate::stamp::{Group, Stamp, StampKind};
 use filing_pages::SoughtName;
-use sorted_pages::Span;
+use sorted_pages::{Span, order_of_keys};
 use std::cmp::Ordering;
 use std::marker::Model;
 
@@ -65,20 +66,30 @@ pub(crate) struct Among<'a> {
 }
 
 impl<'a> Model for Among<'a> {
-    ghost use Rattle.std.specs.Prelude.{◌≡◌};
-    ghost use Rattle.filing_index.specs.Stamps.{Among as PlainAmong, rank_of, group_code};
+    ghost use Rattle.filing_index.specs.Stamps.{Among as PlainAmong, rank_of};
     ghost use Rattle.filing_index.specs.StampSpans.{id_range_of};
 
     ghost Value = { PlainAmong };
 
-    ghost view = { λ a. record { rank = rank_of a.kind; group = a.group; ids = id_range_of a.ids } };
-
-    ghost invariant = { λ a. a.code ≡ group_code a.group };
+    ghost view = { λ a. record { rank = rank_of a.kind; code = a.code; group = a.group; ids = id_range_of a.ids } };
 }
 
 impl<'a> Among<'a> {
-    pub(crate) fn of(kind: StampKind, group: Group<'a>, ids: IdRange<'a>) -> Among<'a>
-        ensures { result ≡ record { rank = rank_of kind; group = group.entry; ids = id_range_of ids.entry } }
+    /// The stamp of an identifier.
+    pub(crate) fn of_id(id: SoughtName<'a>) -> Among<'a>
+        ensures { result ≡ part_among (Id id.entry) }
+    {
+        Among {
+            kind: StampKind::Identifier,
+            code: id.key(),
+            group: Group::none(),
+            ids: IdRange::Only(id),
+        }
+    }
+
+    /// The stamps of a kind and a group.
+    pub(crate) fn of_group(kind: StampKind, group: Group<'a>, ids: IdRange<'a>) -> Among<'a>
+        ensures { result ≡ among_group kind group.entry (id_range_of ids.entry) }
     {
         let code = group.code();
         Among {
@@ -113,5 +124,9 @@ impl<'a> Span<Stamp> for Among<'a> {
             Ordering::Equal => self.side_alike(stamp),
             order => order,
         }
+    }
+
+    fn side_of_key(&self, key: u64) -> Option<Ordering> {
+        order_of_keys(key, self.kind.key(self.code))
     }
 }

@@ -127,8 +127,7 @@ impl Stamps {
     pub fn of_id(&self, id: &str) -> u64
         ensures { result ≡ stamp_in self.now (Id id.now) }
     {
-        let only = IdRange::Only(SoughtName::of(id));
-        self.greatest(&Among::of(StampKind::Identifier, Group::none(), only))
+        self.greatest(&Among::of_id(SoughtName::of(id)))
     }
 
     /// The number of the last touch of a cell, or 0.
@@ -136,7 +135,7 @@ impl Stamps {
         ensures { result ≡ stamp_in self.now (Cell dims.now) }
     {
         let all = IdRange::Between(None, None);
-        self.greatest(&Among::of(StampKind::Cell, Group::of_cell(dims), all))
+        self.greatest(&Among::of_group(StampKind::Cell, Group::of_cell(dims), all))
     }
 
     /// The number of the last touch among the facts of a concept and a period, of identifiers greater than one, where
@@ -160,7 +159,7 @@ impl Stamps {
                 Group::of_period(concept, Some(period)),
             ),
         };
-        self.greatest(&Among::of(kind, group, IdRange::Between(after, upto)))
+        self.greatest(&Among::of_group(kind, group, IdRange::Between(after, upto)))
     }
 
     /// The stamps after moves of a number that none of them exceeds. These stay as they are.

@@ -5,16 +5,12 @@ use Rattle.std.specs.Cmp.Lexicographic.{slice_cmp, nat_list_cmp_total}
 use Rattle.std.specs.Ordering.{nat_cmp, ordering_then, ordering_reverse, MatchOrdering}
 use Rattle.std.proofs.lemmas.List.{drop_more, drop_all, get_or_past}
 use Rattle.filing_model.specs.Text.{Text, text_cmp}
-use Rattle.filing_pages.specs.Heads.{number_from, head_of}
+use Rattle.filing_pages.specs.Heads.{number_from, head_of, AreBytes}
 
 -- so many bytes from a place on, and 0 behind the last
 abbrev bytes_from : ℕ → ℕ → Text → List ℕ
 bytes_from zero i t = []
 bytes_from (suc k) i t = get_or t i 0 ∷ bytes_from k (i + 1) t
-
--- a text of bytes
-abbrev AreBytes : Text → Type 0
-AreBytes t = (i : ℕ) → get_or t i 0 < 256
 
 -- numbers with one byte more stand as the numbers, then as the bytes
 appended : (n m x y : ℕ) → x < 256 → y < 256 → nat_cmp (n * 256 + x) (m * 256 + y) ≡ ordering_then (nat_cmp n m) (nat_cmp x y)

@@ -1,7 +1,7 @@
 //! A value under a name.
 ghost use Rattle.std.specs.Prelude.{◌≡◌, get_or, string_bytes, IfOk};
 ghost use Rattle.filing_model.specs.Text.{text_cmp};
-ghost use Rattle.filing_pages.specs.Heads.{head_of};
+ghost use Rattle.filing_pages.specs.Heads.{head_of, name_key, IsHeadOf, IsKeyOfHead};
 
 use sorted_pages::{Entry, Peaked};
 use std::alloc::{AllocError, Global};
@@ -18,7 +18,7 @@ fn byte_at(bytes: &[u8], place: usize) -> u8
 
 /// The number of the first 16 bytes of a name, and of 0 behind the last. Two numbers are compared at once, where bytes are one by one.
 fn head_of(name: &str) -> u128
-    ensures { result ≡ head_of name.now }
+    ensures { IsHeadOf name.now result }
 {
     let bytes = name.as_bytes();
     u128::from_be_bytes([
@@ -52,6 +52,13 @@ fn order_names(name: &str, head: u128, other: &str, other_head: u128) -> Orderin
     }
 }
 
+/// The key of the names of a head: its first 8 bytes.
+fn key_of_head(head: u128) -> u64
+    ensures { IsKeyOfHead head result }
+{
+    (head >> 64) as u64
+}
+
 /// A name that is looked for, with its head. Contracts see the name.
 #[derive(Drop)]
 pub struct SoughtName<'a> {
@@ -60,15 +67,14 @@ pub struct SoughtName<'a> {
 }
 
 impl<'a> Model for SoughtName<'a> {
-    ghost use Rattle.std.specs.Prelude.{◌≡◌};
     ghost use Rattle.filing_model.specs.Text.{Text};
-    ghost use Rattle.filing_pages.specs.Heads.{head_of};
+    ghost use Rattle.filing_pages.specs.Heads.{IsHeadOf};
 
     ghost Value = { Text };
 
     ghost view = { λ s. s.name.now };
 
-    ghost invariant = { λ s. s.head ≡ head_of s.name.now };
+    ghost invariant = { λ s. IsHeadOf s.name.now s.head };
 }
 
 impl<'a> SoughtName<'a> {
@@ -84,6 +90,13 @@ impl<'a> SoughtName<'a> {
     {
         self.name
     }
+
+    /// The key of the entries of this name.
+    pub fn key(&self) -> u64
+        ensures { result ≡ name_key self.now }
+    {
+        key_of_head(self.head)
+    }
 }
 
 /// A name and a value. The head of the name stands in place, so that most comparisons follow no pointer from here.
@@ -95,15 +108,15 @@ struct Pair<V: Drop> {
 }
 
 impl<V: Drop> Model for Pair<V> {
-    ghost use Rattle.std.specs.Prelude.{◌≡◌, string_bytes};
+    ghost use Rattle.std.specs.Prelude.{string_bytes};
     ghost use Rattle.filing_model.specs.Text.{Text};
-    ghost use Rattle.filing_pages.specs.Heads.{head_of};
+    ghost use Rattle.filing_pages.specs.Heads.{IsHeadOf};
 
     ghost Value = { Text × V };
 
     ghost view = { λ p. (string_bytes p.name, p.value) };
 
-    ghost invariant = { λ p. p.head ≡ head_of (string_bytes p.name) };
+    ghost invariant = { λ p. IsHeadOf (string_bytes p.name) p.head };
 }
 
 impl<V: Drop> Pair<V> {
@@ -124,6 +137,12 @@ impl<V: Drop> Pair<V> {
         ensures { result.now ≡ self.now.1 }
     {
         &self.value
+    }
+
+    fn key(&self) -> u64
+        ensures { result ≡ name_key self.now.0 }
+    {
+        key_of_head(self.head)
     }
 
     /// How the name stands to another one.
@@ -199,14 +218,24 @@ impl<V: Drop> Entry for Named<V> {
     ghost use Rattle.std.specs.Cmp.{on_total};
     ghost use Rattle.std.specs.Cmp.Lexicographic.{nat_list_cmp_total};
     ghost use Rattle.filing_model.specs.Text.{text_cmp};
+    ghost use Rattle.filing_pages.specs.Heads.{name_key};
+    ghost use Rattle.filing_pages.specs.NameKeys.{name_keys_rise};
 
     ghost order = { on (λ n. n.0) text_cmp };
 
     ghost is_total = { on_total (λ n. n.0) nat_list_cmp_total };
 
+    ghost key = { λ n. name_key n.0 };
+
+    ghost key_rises = { λ x y. name_keys_rise x.0 y.0 };
+
     /// Entries of a copied page are counted up where they lie, so small pages cost less to change, and take less memory where many versions are kept.
     fn most_in_page() -> usize {
         16
+    }
+
+    fn key(&self) -> u64 {
+        self.pair.key()
     }
 
     fn order(&self, other: &Self) -> Ordering {

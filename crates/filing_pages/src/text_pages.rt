@@ -7,7 +7,7 @@ ghost use Rattle.filing_model.specs.TextMap.{empty, get, insert};
 ghost use Rattle.filing_pages.specs.MapChanges.{map_with_changes};
 
 use crate::named::{Named, SoughtName};
-use sorted_pages::{Change, Paged, Range, Span};
+use sorted_pages::{Change, Paged, Range, Span, order_of_keys};
 use std::alloc::{AllocError, Global};
 use std::cmp::Ordering;
 use std::marker::Model;
@@ -48,6 +48,10 @@ impl<'a, V: Drop> Span<Named<V>> for At<'a> {
     fn side(&self, entry: &Named<V>) -> Ordering {
         entry.order_sought(&self.0)
     }
+
+    fn side_of_key(&self, key: u64) -> Option<Ordering> {
+        order_of_keys(key, self.0.key())
+    }
 }
 
 /// The range of all names.
@@ -64,6 +68,10 @@ impl<V: Drop> Span<Named<V>> for All {
 
     fn side(&self, _: &Named<V>) -> Ordering {
         Ordering::Equal
+    }
+
+    fn side_of_key(&self, _: u64) -> Option<Ordering> {
+        Some(Ordering::Equal)
     }
 }
 

@@ -1,6 +1,9 @@
 //! Entries of lists: numbers with weights.
 ghost use Rattle.std.specs.Ordering.{nat_cmp};
-ghost use Rattle.std.specs.Cmp.{on_total, nat_cmp_total};
+ghost use Rattle.std.specs.Prelude.{◌/◌};
+ghost use Rattle.std.specs.declared.cmp.Ordering.TheVariants.{Less};
+ghost use Rattle.std.specs.Cmp.{on_total, nat_cmp_total, nat_cmp_is};
+ghost use Rattle.std.proofs.Common.{sym, arith};
 
 use sorted_pages::{Entry, Peaked};
 use std::alloc::AllocError;
@@ -32,6 +35,15 @@ impl Entry for Item {
     ghost order = { λ a b. nat_cmp a.key b.key };
 
     ghost is_total = { on_total (λ i. i.key) nat_cmp_total };
+
+    ghost key = { λ i. i.key / 3 };
+
+    ghost key_rises = { λ x y l. sym (nat_cmp_is x.key y.key Less (omega (arith, l))) };
+
+    /// Three numbers share it, so that keys decide of some places, and entries of others.
+    fn key(&self) -> u64 {
+        self.key / 3
+    }
 
     fn order(&self, other: &Self) -> Ordering {
         self.key.cmp(&other.key)

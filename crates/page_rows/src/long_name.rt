@@ -52,6 +52,7 @@ impl Peaked for LongName {
 }
 
 impl Entry for LongName {
+    ghost use Rattle.std.proofs.Common.{arith};
     ghost use Rattle.std.specs.Ordering.{nat_cmp};
     ghost use Rattle.std.specs.Cmp.{on_total};
     ghost use Rattle.std.specs.Cmp.Lexicographic.{slice_cmp, nat_list_cmp_total};
@@ -59,6 +60,15 @@ impl Entry for LongName {
     ghost order = { λ a b. slice_cmp nat_cmp a.0 b.0 };
 
     ghost is_total = { on_total (λ n. n.0) nat_list_cmp_total };
+
+    ghost key = { λ n. 0 };
+
+    ghost key_rises = { λ x y l. absurd (omega (arith, l)) };
+
+    /// It tells nothing.
+    fn key(&self) -> u64 {
+        0
+    }
 
     fn order(&self, other: &Self) -> Ordering {
         self.held.name.as_slice().cmp(other.held.name.as_slice())

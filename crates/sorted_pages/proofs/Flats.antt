@@ -1,7 +1,6 @@
 -- The items of a level one after another.
 use Rattle.std.proofs.Common.{◌≡◌, ◌∙◌, ap, sym, refl, List, [], ◌∷◌, ◌++◌, append_assoc, append-nil, length, take, get_or, arith, ◌<◌, ℕ, ◌+◌}
 use Rattle.std.proofs.lemmas.List.{take_more}
-use Rattle.std.specs.Arc.{arc_value}
 use Rattle.std.specs.declared.sync.Arc.{Arc}
 use Rattle.std.specs.List.{flat_map}
 use Rattle.sorted_pages.specs.Pages.{single, held, IsFirstBlock}

@@ -1,4 +1,5 @@
 pub mod Edges
+pub mod Keys
 pub mod Peaks
 pub mod Flats
 pub mod Orders

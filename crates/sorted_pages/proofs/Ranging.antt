@@ -4,7 +4,6 @@ use Rattle.std.specs.List.{flat_map, list_all}
 use Rattle.std.specs.Ordering.{is_gt, ordering_reverse}
 use Rattle.std.specs.Cmp.{IsTotalOrder}
 use Rattle.std.specs.FinMap.Entries.{find}
-use Rattle.std.specs.Arc.{arc_value}
 use Rattle.std.specs.declared.sync.Arc.{Arc}
 use Rattle.sorted_pages.specs.Pages.{single, held, IsFirstBlock}
 use Rattle.sorted_pages.specs.Sorted.{keyed, IsRising}

@@ -1,5 +1,5 @@
 -- What pages hold, and the numbers that stand beside them.
-use Rattle.std.specs.Prelude.{◌≡◌, ℕ, ◌+◌, ◌&&◌, T, nat_lt, nat_le, sum, List, [], ◌∷◌, ◌++◌, max, Option, Some, None}
+use Rattle.std.specs.Prelude.{◌≡◌, ℕ, ◌&&◌, T, nat_lt, nat_le, sum, List, [], ◌∷◌, ◌++◌, max, Option, Some, None}
 use Rattle.std.specs.List.{flat_map, list_all}
 use Rattle.std.specs.Arc.{arc_value}
 use Rattle.std.specs.declared.sync.Arc.{Arc}

@@ -4,7 +4,7 @@ ghost use Rattle.std.specs.Arc.{arc_value};
 ghost use Rattle.sorted_pages.specs.Pages.{items_of};
 
 use crate::block::Block;
-use crate::entry::Peaked;
+use crate::entry::Edged;
 use std::alloc::{AllocError, Global};
 use std::marker::Model;
 use std::mem;
@@ -48,14 +48,14 @@ impl Layout {
 ///
 /// Contracts see the list of the items that stand in no block yet.
 #[derive(Drop)]
-pub(crate) struct Cutter<T: Peaked + Drop> {
+pub(crate) struct Cutter<T: Edged + Drop> {
     layout: Layout,
     most: usize,
     is_first: bool,
     rest: Vec<T>,
 }
 
-impl<T: Peaked + Drop> Model for Cutter<T> {
+impl<T: Edged + Drop> Model for Cutter<T> {
     ghost use Rattle.std.specs.Prelude.{List, ◌≤◌, length};
 
     ghost Value = { List T };
@@ -66,7 +66,7 @@ impl<T: Peaked + Drop> Model for Cutter<T> {
 }
 
 /// Moves the first items of the rest into a block.
-fn cut_off<T: Peaked + Drop>(rest: &mut Vec<T>, piece: usize) -> Result<Arc<Block<T>>, AllocError>
+fn cut_off<T: Edged + Drop>(rest: &mut Vec<T>, piece: usize) -> Result<Arc<Block<T>>, AllocError>
     requires some { 0 < piece }
     requires there { piece ≤ length rest.old.items }
     requires few { length rest.old.items ≤ 64 }
@@ -80,7 +80,7 @@ fn cut_off<T: Peaked + Drop>(rest: &mut Vec<T>, piece: usize) -> Result<Arc<Bloc
     Ok(block)
 }
 
-impl<T: Peaked + Drop> Cutter<T> {
+impl<T: Edged + Drop> Cutter<T> {
     /// One that has no items, for blocks of so many at most. It takes no memory.
     pub(crate) fn new(alloc: Global, layout: Layout, most: usize) -> Cutter<T>
         requires some { 2 ≤ most }

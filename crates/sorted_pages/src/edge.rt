@@ -4,10 +4,13 @@ ghost use Rattle.std.specs.Ordering.{is_lt, is_gt};
 ghost use Rattle.sorted_pages.specs.Edges.{answer_of, ends_with, begins_with};
 ghost use Rattle.sorted_pages.specs.Edges.{first_passes, last_passes, is_before_edge};
 ghost use Rattle.sorted_pages.specs.Changes.{entry_of};
+ghost use Rattle.sorted_pages.specs.Keys.{IsSideOfFirst, IsSideOfLast};
 
 use crate::change::Change;
 use crate::entry::{Entry, Span};
 use crate::level::Level;
+use crate::spans::Tie;
+use std::cmp::Ordering;
 
 /// A test of what stands in a list of entries `E`.
 pub(crate) trait Test<E, T>: Drop {
@@ -50,17 +53,37 @@ pub(crate) fn split_before_edge<'a, E, T, P: Test<E, T>>(
     items.split_at(front.len().saturating_sub(1))
 }
 
-/// Passes a change of an entry that is less than this one.
+/// The side of the first entry of an item.
+fn side_of_first<E: Entry, T: Level<E>, S: Span<E>>(span: &S, item: &T) -> Ordering
+    ensures { IsSideOfFirst (S.side span.now) result (T.entries item.now) }
+{
+    match span.side_of_key(item.first_key()) {
+        Some(side) => side,
+        None => span.side(item.first()),
+    }
+}
+
+/// The side of the last entry of an item.
+fn side_of_last<E: Entry, T: Level<E>, S: Span<E>>(span: &S, item: &T) -> Ordering
+    ensures { IsSideOfLast (S.side span.now) result (T.entries item.now) }
+{
+    match span.side_of_key(item.last_key()) {
+        Some(side) => side,
+        None => span.side(item.last()),
+    }
+}
+
+/// Passes a change of an entry that is less than the first of these.
 #[derive(Drop)]
-pub(crate) struct Below<'a, E>(pub(crate) &'a E);
+pub(crate) struct Below<'a, T>(pub(crate) &'a T);
 
-impl<'a, E: Entry> Test<E, Change<E>> for Below<'a, E> {
-    ghost passes = { λ t c. is_lt (E.order (entry_of c) t.0.now) };
+impl<'a, E: Entry, T: Level<E>> Test<E, Change<E>> for Below<'a, T> {
+    ghost passes = { λ t c. first_passes (λ e. is_gt (E.order e (entry_of c))) (T.entries t.0.now) };
 
-    ghost fails = { λ t c. not (is_lt (E.order (entry_of c) t.0.now)) };
+    ghost fails = { λ t c. first_passes (λ e. not (is_gt (E.order e (entry_of c)))) (T.entries t.0.now) };
 
     fn passes(&self, item: &Change<E>) -> bool {
-        item.entry().order(self.0).is_lt()
+        side_of_first(&Tie(item.entry()), self.0).is_gt()
     }
 }
 
@@ -74,7 +97,7 @@ impl<'a, E: Entry, T: Level<E>, S: Span<E>> Test<E, T> for Before<'a, S> {
     ghost fails = { λ t item. last_passes (λ e. not (is_lt (S.side t.0.now e))) (T.entries item) };
 
     fn passes(&self, item: &T) -> bool {
-        self.0.side(item.last()).is_lt()
+        side_of_last(self.0, item).is_lt()
     }
 }
 
@@ -88,6 +111,6 @@ impl<'a, E: Entry, T: Level<E>, S: Span<E>> Test<E, T> for Until<'a, S> {
     ghost fails = { λ t item. first_passes (λ e. is_gt (S.side t.0.now e)) (T.entries item) };
 
     fn passes(&self, item: &T) -> bool {
-        !self.0.side(item.first()).is_gt()
+        !side_of_first(self.0, item).is_gt()
     }
 }

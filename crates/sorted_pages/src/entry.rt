@@ -1,7 +1,9 @@
 //! What an entry is, and what asks for a range of entries.
-ghost use Rattle.std.specs.Prelude.{◌≡◌, ◌≤◌, ℕ, IfOk};
+ghost use Rattle.std.specs.Prelude.{◌≡◌, ◌≤◌, ℕ, IfOk, Option, Some};
 ghost use Rattle.std.specs.Cmp.{IsTotalOrder};
 ghost use Rattle.std.specs.declared.cmp.Ordering.{Ordering};
+ghost use Rattle.std.specs.Ordering.{nat_cmp};
+ghost use Rattle.sorted_pages.specs.Keys.{KeyRises, TellsSide, told_apart};
 ghost use Rattle.sorted_pages.specs.Ranges.{IsMonotone};
 
 use std::alloc::AllocError;
@@ -13,6 +15,19 @@ pub trait Peaked {
 
     fn peak(&self) -> u64
         ensures { result ≡ peak self.now };
+}
+
+/// What has a first and a last entry, each with a key.
+pub(crate) trait Edged: Peaked {
+    ghost first_key: { Self → Option ℕ };
+
+    ghost last_key: { Self → Option ℕ };
+
+    fn first_key(&self) -> u64
+        ensures { Some result ≡ first_key self.now };
+
+    fn last_key(&self) -> u64
+        ensures { Some result ≡ last_key self.now };
 }
 
 /// An entry of a sorted list. Those that tie with it are told from it by nothing else.
@@ -27,6 +42,12 @@ pub trait Entry: Peaked + Drop {
         64
     }
 
+    ghost key: { Self → ℕ };
+
+    /// A number that never falls where entries rise. Each block keeps those of its first and last entry, so that most places are found by numbers that lie near.
+    fn key(&self) -> u64
+        ensures { result ≡ key self.now };
+
     /// How the entry stands to another one.
     fn order(&self, other: &Self) -> Ordering
         ensures { result ≡ order self.now other.now };
@@ -39,6 +60,18 @@ pub trait Entry: Peaked + Drop {
         ensures { IfOk result (λ e. e ≡ self.now) };
 
     ghost is_total: { IsTotalOrder order };
+
+    ghost key_rises: { KeyRises order key };
+}
+
+/// How a key stands to another one, where they differ.
+pub fn order_of_keys(key: u64, other: u64) -> Option<Ordering>
+    ensures { result ≡ told_apart (nat_cmp key other) }
+{
+    match key.cmp(&other) {
+        Ordering::Equal => None,
+        order => Some(order),
+    }
 }
 
 /// A range of entries: those at which the side is `Equal`.
@@ -48,6 +81,10 @@ pub trait Span<E: Entry>: Drop {
     /// `Less` where the entry stands before the range, `Greater` where it stands past it.
     fn side(&self, entry: &E) -> Ordering
         ensures { result ≡ side self.now entry.now };
+
+    /// The side of all entries of a key, where the key tells it.
+    fn side_of_key(&self, key: u64) -> Option<Ordering>
+        ensures { TellsSide E.key (side self.now) key result };
 
     ghost is_monotone: { (span : Self) → IsMonotone E.order (side span) };
 }

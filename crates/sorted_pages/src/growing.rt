@@ -4,7 +4,7 @@ ghost use Rattle.std.specs.List.{flat_map};
 
 use crate::block::Block;
 use crate::cutter::{Cutter, Layout};
-use crate::entry::{Entry, Peaked};
+use crate::entry::{Edged, Entry};
 use crate::level::Level;
 use std::alloc::{AllocError, Global};
 use std::sync::Arc;
@@ -28,7 +28,7 @@ impl<E: Entry, T: Level<E>> Growing<E, T> for Vec<T> {
 
 /// The items that stand in no block yet, over the list that takes the blocks.
 #[derive(Drop)]
-pub(crate) struct Tier<T: Peaked + Drop, U> {
+pub(crate) struct Tier<T: Edged + Drop, U> {
     above: U,
     rest: Cutter<T>,
 }

@@ -3,7 +3,7 @@ ghost use Rattle.std.specs.Prelude.{◌≡◌, ◌++◌, ◌∷◌, [], ◌-◌,
 ghost use Rattle.std.specs.List.{list_all, flat_map};
 ghost use Rattle.std.specs.Ordering.{is_lt};
 ghost use Rattle.sorted_pages.specs.Edges.{begins_with};
-ghost use Rattle.sorted_pages.specs.Pages.{held, IsFirstBlock};
+ghost use Rattle.sorted_pages.specs.Pages.{held, IsFirst, IsFirstBlock};
 ghost use Rattle.sorted_pages.specs.Sorted.{IsRising, AllBelow, PassesBelow};
 ghost use Rattle.sorted_pages.specs.Changes.{entry_of, entries_put, with_changes, without_tied};
 
@@ -11,7 +11,7 @@ use crate::block::Block;
 use crate::change::Change;
 use crate::cutter::Layout;
 use crate::edge::{Before, Below, Until, split_at_edge, split_before_edge};
-use crate::entry::{Entry, Peaked};
+use crate::entry::{Edged, Entry};
 use crate::growing::{Growing, Tier, begin, finish};
 use crate::level::{Leaf, Level};
 use crate::spans::Tie;
@@ -120,16 +120,18 @@ impl<E: Entry> Changing<E> for Leaf<E> {
     }
 }
 
-/// The changes that go before this entry, and the others.
-fn changes_before<'a, E: Entry>(
+/// The changes that go before the first entry of an item, and the others.
+fn changes_before<'a, E: Entry, T: Level<E>>(
     changes: &'a [Change<E>],
-    next: &E,
+    next: &T,
 ) -> (&'a [Change<E>], &'a [Change<E>])
     requires { IsRising E.order (map entry_of changes.now) }
     ensures parts { changes.now ≡ result.0.now ++ result.1.now }
-    ensures mine { Holds (list_all (λ e. is_lt (E.order e next.now)) (map entry_of result.0.now)) }
-    ensures later { Holds (begins_with (λ e. not (is_lt (E.order e next.now))) (map entry_of result.1.now)) }
+    ensures place { (first : E) × IsFirst first (T.entries next.now)
+        × Holds (list_all (λ e. is_lt (E.order e first)) (map entry_of result.0.now))
+        × Holds (begins_with (λ e. not (is_lt (E.order e first))) (map entry_of result.1.now)) }
 {
+    let _key = next.first_key();
     split_at_edge(changes, &Below(next))
 }
 
@@ -146,7 +148,7 @@ fn changes_before_all<'a, E: Entry, T: Level<E>>(
     ensures all { length items.now ≡ 0 → length result.1.now ≡ 0 }
 {
     match items.first() {
-        Some(item) => changes_before(changes, item.first()),
+        Some(item) => changes_before(changes, item),
         None => changes.split_at(changes.len()),
     }
 }
@@ -161,7 +163,7 @@ fn split_at_place<'a, E: Entry, T: Level<E>>(items: &'a [T], entry: &E) -> (&'a 
 }
 
 /// The items of the first block, if there is one, and the other blocks.
-pub(crate) fn split_first_block<T: Peaked>(blocks: &[Arc<Block<T>>]) -> (&[T], &[Arc<Block<T>>])
+pub(crate) fn split_first_block<T: Edged>(blocks: &[Arc<Block<T>>]) -> (&[T], &[Arc<Block<T>>])
     ensures first { IsFirstBlock blocks.now result.0.now result.1.now }
     ensures some { 0 < length blocks.now → 0 < length result.0.now }
     ensures fewer { length result.1.now ≡ length blocks.now - 1 }

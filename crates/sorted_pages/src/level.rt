@@ -1,15 +1,16 @@
 //! The levels of a list: entries, pages of entries, runs of pages and groups of runs.
-ghost use Rattle.std.specs.Prelude.{◌≡◌, ◌≤◌, ℕ, List, IfOk};
+ghost use Rattle.std.specs.Prelude.{◌≡◌, ◌≤◌, ℕ, List, IfOk, Some};
+ghost use Rattle.sorted_pages.specs.Keys.{BeginsWithKey, EndsWithKey};
 ghost use Rattle.sorted_pages.specs.Pages.{single, held, IsFirst, IsLast};
 
 use crate::block::Block;
-use crate::entry::{Entry, Peaked};
+use crate::entry::{Edged, Entry, Peaked};
 use std::alloc::AllocError;
 use std::marker::Model;
 use std::sync::Arc;
 
 /// What stands at one level of a list. It holds at least one entry.
-pub(crate) trait Level<E: Entry>: Peaked + Drop {
+pub(crate) trait Level<E: Entry>: Edged + Drop {
     ghost entries: { Self → List E };
 
     /// The most of these that a block holds.
@@ -29,6 +30,10 @@ pub(crate) trait Level<E: Entry>: Peaked + Drop {
     /// The same for one more block.
     fn share(&self) -> Result<Self, AllocError>
         ensures { IfOk result (λ item. entries item ≡ entries self.now) };
+
+    ghost first_keys: { (item : Self) (key : ℕ) → Some key ≡ Self.Edged.first_key item → BeginsWithKey E.key key (entries item) };
+
+    ghost last_keys: { (item : Self) (key : ℕ) → Some key ≡ Self.Edged.last_key item → EndsWithKey E.key key (entries item) };
 }
 
 /// An entry, which is the lowest level.
@@ -65,8 +70,28 @@ impl<E: Peaked> Peaked for Leaf<E> {
     }
 }
 
+impl<E: Entry> Edged for Leaf<E> {
+    ghost first_key = { λ leaf. Some (E.key leaf) };
+
+    ghost last_key = { λ leaf. Some (E.key leaf) };
+
+    fn first_key(&self) -> u64 {
+        self.entry.key()
+    }
+
+    fn last_key(&self) -> u64 {
+        self.entry.key()
+    }
+}
+
 impl<E: Entry> Level<E> for Leaf<E> {
     ghost entries = { λ leaf. single leaf };
+
+    ghost use Rattle.sorted_pages.specs.KeyEnds.{leaf_begins, leaf_ends};
+
+    ghost first_keys = { λ leaf key told. leaf_begins E.key leaf key told };
+
+    ghost last_keys = { λ leaf key told. leaf_ends E.key leaf key told };
 
     fn most() -> usize {
         E::most_in_page()
@@ -92,6 +117,13 @@ impl<E: Entry> Level<E> for Leaf<E> {
 
 impl<E: Entry, T: Level<E>> Level<E> for Arc<Block<T>> {
     ghost entries = { λ block. held T.entries block };
+
+    ghost use Rattle.std.specs.Arc.{arc_value};
+    ghost use Rattle.sorted_pages.specs.KeyEnds.{block_begins, block_ends};
+
+    ghost first_keys = { λ block key told. block_begins T.entries T.first_key E.key T.first_keys (arc_value block) key told };
+
+    ghost last_keys = { λ block key told. block_ends T.entries T.last_key E.key T.last_keys (arc_value block) key told };
 
     fn most() -> usize {
         32

@@ -23,7 +23,7 @@ mod rising;
 mod spans;
 
 pub use change::Change;
-pub use entry::{Entry, Peaked, Span};
+pub use entry::{Entry, Peaked, Span, order_of_keys};
 pub use paged::Paged;
 pub use range::Range;
 pub use rising::{are_rising, is_rising};

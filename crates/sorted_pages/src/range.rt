@@ -10,7 +10,7 @@ ghost use Rattle.sorted_pages.specs.Ranges.{from_span, until_span};
 
 use crate::block::{Block, greatest_of};
 use crate::edge::{Before, Test, Until, split_at_edge, split_before_edge};
-use crate::entry::{Entry, Peaked, Span};
+use crate::entry::{Edged, Entry, Span};
 use crate::laying::split_first_block;
 use crate::level::{Group, Leaf, Level, Page, Run};
 use std::marker::Model;
@@ -53,7 +53,7 @@ struct Back<'a, E: Entry> {
 }
 
 /// The same items, with the first one, if there is one, among the first.
-fn refill<'a, T: Peaked>(
+fn refill<'a, T: Edged>(
     first: &'a [T],
     blocks: &'a [Arc<Block<T>>],
 ) -> (&'a [T], &'a [Arc<Block<T>>])

@@ -2,7 +2,7 @@
 ghost use Rattle.std.specs.Prelude.{◌≡◌};
 ghost use Rattle.sorted_pages.specs.Ties.{between};
 
-use crate::entry::{Entry, Span};
+use crate::entry::{Entry, Span, order_of_keys};
 use std::cmp::Ordering;
 
 /// The range of what ties with an entry.
@@ -18,6 +18,10 @@ impl<'a, E: Entry> Span<E> for Tie<'a, E> {
 
     fn side(&self, entry: &E) -> Ordering {
         entry.order(self.0)
+    }
+
+    fn side_of_key(&self, key: u64) -> Option<Ordering> {
+        order_of_keys(key, self.0.key())
     }
 }
 
@@ -43,5 +47,15 @@ impl<'a, E: Entry> Span<E> for Between<'a, E> {
             return Ordering::Equal;
         }
         Ordering::Greater
+    }
+
+    fn side_of_key(&self, key: u64) -> Option<Ordering> {
+        if key < self.from.key() {
+            return Some(Ordering::Less);
+        }
+        if self.from.key() < key && key < self.until.key() {
+            return Some(Ordering::Equal);
+        }
+        None
     }
 }

@@ -8,17 +8,17 @@ pub returns-in-Some-clause-mine : goal.returns-in-Some-clause-mine
 returns-in-Some-clause-mine g c =
     let head : c.args.items.now ≡ c.in-Some.item.now ∷ drop 1 c.args.items.now = first_is c.args.items.now c.in-Some.item.now c.in-Some.ensures.value in
     mine_below g.E.Entry.order g.met.E.Entry.is_total (map entry_of c.changes_before.result.0.now) (flat_map g.T.Level.entries c.args.items.now)
-    (c.first-in-Some.ensures.0 ++ flat_map g.T.Level.entries (drop 1 c.args.items.now)) c.first-in-Some.result.now
-    (ap (flat_map g.T.Level.entries) head ∙ ap (λ es. es ++ flat_map g.T.Level.entries (drop 1 c.args.items.now)) c.first-in-Some.ensures.1)
-    c.requires.items c.changes_before.ensures.mine
+    (c.changes_before.ensures.place.1.0 ++ flat_map g.T.Level.entries (drop 1 c.args.items.now)) c.changes_before.ensures.place.0
+    (ap (flat_map g.T.Level.entries) head ∙ ap (λ es. es ++ flat_map g.T.Level.entries (drop 1 c.args.items.now)) c.changes_before.ensures.place.1.1)
+    c.requires.items c.changes_before.ensures.place.2
 
 pub returns-in-Some-clause-later : goal.returns-in-Some-clause-later
 returns-in-Some-clause-later g c =
     let head : c.args.items.now ≡ c.in-Some.item.now ∷ drop 1 c.args.items.now = first_is c.args.items.now c.in-Some.item.now c.in-Some.ensures.value in
     later_passes g.E.Entry.order g.met.E.Entry.is_total c.args.changes.now c.changes_before.result.0.now c.changes_before.result.1.now
-    (flat_map g.T.Level.entries c.args.items.now) (c.first-in-Some.ensures.0 ++ flat_map g.T.Level.entries (drop 1 c.args.items.now)) c.first-in-Some.result.now
-    (ap (flat_map g.T.Level.entries) head ∙ ap (λ es. es ++ flat_map g.T.Level.entries (drop 1 c.args.items.now)) c.first-in-Some.ensures.1)
-    c.changes_before.ensures.parts c.requires.changes c.changes_before.ensures.later
+    (flat_map g.T.Level.entries c.args.items.now) (c.changes_before.ensures.place.1.0 ++ flat_map g.T.Level.entries (drop 1 c.args.items.now)) c.changes_before.ensures.place.0
+    (ap (flat_map g.T.Level.entries) head ∙ ap (λ es. es ++ flat_map g.T.Level.entries (drop 1 c.args.items.now)) c.changes_before.ensures.place.1.1)
+    c.changes_before.ensures.parts c.requires.changes c.changes_before.ensures.place.3
 
 pub returns-in-None-clause-mine : goal.returns-in-None-clause-mine
 returns-in-None-clause-mine g c =

@@ -1,8 +1,9 @@
 use Rattle.std.proofs.Common.{◌≡◌, ◌∙◌, ap, sym, subst, refl, [], Option, Some, None}
 use Rattle.std.specs.Prelude.{unwrap_or}
 use Rattle.filing_model.specs.Text.{Text}
+use Rattle.filing_model.specs.Dimensions.{concept_of, period_of}
 use Rattle.filing_pages.specs.Codes.{code_of_concept, code_of_period}
-use Rattle.filing_index.specs.Stamps.{code_of_parts, group_code, group_of}
+use Rattle.filing_index.specs.Stamps.{code_of_parts, stamp_code}
 use Rattle.filing_index.proofs.stamp.StampKind.code.Goals as goal
 
 of_concept : (o : Option Text) (c : Text) → Some c ≡ o → code_of_concept (unwrap_or o []) ≡ code_of_parts None o None
@@ -14,9 +15,11 @@ of_period o p c e = subst (λ o. code_of_period (unwrap_or o []) p ≡ code_of_p
 pub returns-in-AnyPeriod : goal.returns-in-AnyPeriod
 returns-in-AnyPeriod c =
     c.concept_code.ensures.code ∙ of_concept _ _ c.concept_code.ensures.concept
-    ∙ ap (λ kind. group_code (group_of kind c.args.held.now.dims)) (sym c.in-AnyPeriod.is)
+    ∙ ap (λ fact. code_of_parts None (concept_of fact.dims) None) c.value-in-AnyPeriod.ensures
+    ∙ ap (λ kind. stamp_code kind c.args.held.now) (sym c.in-AnyPeriod.is)
 
 pub returns-in-OnePeriod : goal.returns-in-OnePeriod
 returns-in-OnePeriod c =
     c.period_code.ensures.code ∙ of_period _ _ _ c.period_code.ensures.concept
-    ∙ ap (λ kind. group_code (group_of kind c.args.held.now.dims)) (sym c.in-OnePeriod.is)
+    ∙ ap (λ fact. code_of_parts None (concept_of fact.dims) (Some (period_of fact.dims))) c.value-in-OnePeriod.ensures
+    ∙ ap (λ kind. stamp_code kind c.args.held.now) (sym c.in-OnePeriod.is)
