@@ -48,5 +48,7 @@ module _ (v : List Repository) (e : Repository) (old : ℕ) (len : length v ≡ 
   -- whatever the book is, the exchange adds the version to all that was seen where it finds the length expected
   pub adds : Moves IsKept shown moved 0 (v, (no_nib, None)) (λ n. either (n == old) (old + 1) n) (Adds (step 0 old (old + 1) e) (v, (no_nib, None)))
   adds cs log kept pre away =
-      let P : List Cell → Type 0 = λ c. (0 < length c) × ((cell c 0).1 ≡ true) × Goes IsKept shown moved 0 (v, (no_nib, None)) (λ n. either (n == old) (old + 1) n) (Adds (step 0 old (old + 1) e) (v, (no_nib, None))) c log in
+      let P : List Cell → Type 0 = λ c. (0 < length c) × ((cell c 0).1 ≡ true)
+      × Goes IsKept shown moved 0 (v, (no_nib, None)) (λ n. either (n == old) (old + 1) n)
+      (Adds (step 0 old (old + 1) e) (v, (no_nib, None))) c log in
       subst P (sym kept.words) (omega arith, refl, goes log kept.chain pre (length log == old) refl)

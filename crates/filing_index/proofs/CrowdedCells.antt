@@ -1,5 +1,7 @@
 -- Each cell that is not allowed has two facts or more, of which the first stands right before another one of its code.
-use Rattle.std.proofs.Common.{◌≡◌, ◌∙◌, ap, sym, refl, subst, ℕ, Bool, true, false, cond, not, ◌&&◌, ◌||◌, T, List, [], ◌∷◌, ◌++◌, map, filter, fold, Option, Some, None, Ordering, Less, Equal, Greater, is_eq, is_lt, true≢false}
+use Rattle.std.proofs.Common.{◌≡◌, ◌∙◌, ap, sym, refl, subst, ℕ, Bool, true, false, cond, not, ◌&&◌, ◌||◌, T, List}
+use Rattle.std.proofs.Common.{[], ◌∷◌, ◌++◌, map, filter, fold, Option, Some, None, Ordering, Less, Equal, Greater}
+use Rattle.std.proofs.Common.{is_eq, is_lt, true≢false}
 use Rattle.std.specs.Prelude.{◌==◌}
 use Rattle.std.specs.List.{list_any}
 use Rattle.std.specs.Ordering.{nat_cmp, ordering_then, ord_min}

@@ -1,5 +1,7 @@
 -- Facts under their codes, sorted, are an index of them.
-use Rattle.std.proofs.Common.{◌≡◌, ◌∙◌, ap, sym, subst, refl, ℕ, Bool, true, false, cond, ◌&&◌, T, List, [], ◌∷◌, map, Option, None, Some, is_eq, is_lt, IsPermutation, Ordering, Less, Equal, Greater, true≢false, not, get_or, ◌+◌}
+use Rattle.std.proofs.Common.{◌≡◌, ◌∙◌, ap, sym, subst, refl, ℕ, Bool, true, false, cond, ◌&&◌, T, List, [], ◌∷◌}
+use Rattle.std.proofs.Common.{map, Option, None, Some, is_eq, is_lt, IsPermutation, Ordering, Less, Equal, Greater}
+use Rattle.std.proofs.Common.{true≢false, not, get_or, ◌+◌}
 use Rattle.std.specs.Prelude.{◌==◌, option_and_then}
 use Rattle.std.specs.Ordering.{eq_by_cmp, nat_cmp, ordering_then, ordering_reverse}
 use Rattle.std.specs.List.{AllByRecursion, IsDistinct}

@@ -40,7 +40,8 @@ get-with_changes [] facts id = refl
 get-with_changes ((key, Some fact) ∷ es) facts id =
     get-insert (with_changes es facts) key fact id
     ∙ ap (λ o. cond (text_eq id key) (Some fact) o) (get-with_changes es facts id)
-    ∙ elim (text_eq id key) as (λ b. cond b (Some fact) (unwrap_or (find text_cmp id es) (get facts id)) ≡ unwrap_or (cond b (Some (Some fact)) (find text_cmp id es)) (get facts id)) [ true ↦ refl | false ↦ refl ]
+    ∙ elim (text_eq id key) as (λ b. cond b (Some fact) (unwrap_or (find text_cmp id es) (get facts id))
+    ≡ unwrap_or (cond b (Some (Some fact)) (find text_cmp id es)) (get facts id)) [ true ↦ refl | false ↦ refl ]
 get-with_changes ((key, None) ∷ es) facts id =
     get-remove (with_changes es facts) key id
     ∙ ap (λ o. cond (text_eq id key) None o) (get-with_changes es facts id)

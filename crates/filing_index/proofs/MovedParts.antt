@@ -1,5 +1,7 @@
 -- Which parts the stamps of moves stand in, and what they make of the stamps before.
-use Rattle.std.proofs.Common.{◌≡◌, ◌∙◌, ap, sym, subst, refl, ℕ, ◌≤◌, arith, Bool, true, false, cond, ◌&&◌, ◌||◌, List, [], ◌∷◌, ◌++◌, Option, Some, None, is_none, Ordering, Less, Equal, Greater, is_eq, true≢false}
+use Rattle.std.proofs.Common.{◌≡◌, ◌∙◌, ap, sym, subst, refl, ℕ, ◌≤◌, arith, Bool, true, false, cond, ◌&&◌, ◌||◌}
+use Rattle.std.proofs.Common.{List, [], ◌∷◌, ◌++◌, Option, Some, None, is_none, Ordering, Less, Equal, Greater}
+use Rattle.std.proofs.Common.{is_eq, true≢false}
 use Rattle.std.specs.Cmp.{Equal-is, tied_itself, tied_then, nat_cmp_total, eq_by_cmp_equiv}
 use Rattle.std.specs.List.{list_any, flat_map}
 use Rattle.std.specs.Option.{option_cmp, option_eq, option_map, option_map_or}
@@ -18,7 +20,9 @@ use Rattle.filing_pages.specs.Heads.{name_key}
 use Rattle.filing_model.proofs.DimensionSets.{dims_cmp-total, dims_cmp-Equal, nullable_Equal}
 use Rattle.filing_model.proofs.Tests.{both_are_equal}
 use Rattle.filing_index.specs.Moves.{Move, Part, Id, Cell, Range, is_moved, is_moved_in, stamped_by}
-use Rattle.filing_index.specs.Stamps.{Group, no_group, group_cmp, group_code, Stamp, stamp_cmp, stamps_of, stamps_if_there, stamps_of_move, stamps_of_moves, ArePuts, Between, is_upto, ids_side, among_side, part_among, stamp_in}
+use Rattle.filing_index.specs.Stamps.{Group, no_group, group_cmp, group_code, Stamp, stamp_cmp, stamps_of}
+use Rattle.filing_index.specs.Stamps.{stamps_if_there, stamps_of_move, stamps_of_moves, ArePuts, Between, is_upto}
+use Rattle.filing_index.specs.Stamps.{ids_side, among_side, part_among, stamp_in}
 use Rattle.std.proofs.lemmas.List.Folds.{list_any-append}
 use Rattle.filing_index.proofs.StampTies.{among_alike}
 use Rattle.filing_index.proofs.PutNumbers.{AllHave, put_all}
@@ -214,7 +218,9 @@ moves_have : (n : ℕ) (moves : List Move) → AllHave (λ s. s.number) n (flat_
 moves_have n [] = tt
 moves_have n (move ∷ moves) =
     both_have n (stamps_of_move n move) (flat_map (stamps_of_move n) moves)
-    (both_have n (stamps_if_there n (option_map (λ f. (move.id, f)) move.old)) (stamps_if_there n (option_map (λ f. (move.id, f)) move.new)) (fact_has n move.id move.old) (fact_has n move.id move.new))
+    (both_have n (stamps_if_there n (option_map (λ f. (move.id, f)) move.old))
+    (stamps_if_there n (option_map (λ f. (move.id, f)) move.new)) (fact_has n move.id move.old)
+    (fact_has n move.id move.new))
     (moves_have n moves)
 
 pub puts_of_these : {left these : List Stamp} {changes others : List (Change Stamp)} → left ≡ these → others ≡ changes → ArePuts left changes → ArePuts these others

@@ -1,5 +1,7 @@
 -- A report obeys its allowed duplicates exactly where each of its cells is allowed, and what the least disallowed cell is.
-use Rattle.std.proofs.Common.{◌≡◌, ◌∙◌, ap, sym, refl, subst, Bool, true, false, cond, not, ◌↔◌, ◌&&◌, ◌||◌, List, [], ◌∷◌, map, filter, find, fold, Some, None, option_map, Ordering, Less, Equal, Greater, is_lt, is_gt, true≢false}
+use Rattle.std.proofs.Common.{◌≡◌, ◌∙◌, ap, sym, refl, subst, Bool, true, false, cond, not, ◌↔◌, ◌&&◌, ◌||◌, List}
+use Rattle.std.proofs.Common.{[], ◌∷◌, map, filter, find, fold, Some, None, option_map, Ordering, Less, Equal}
+use Rattle.std.proofs.Common.{Greater, is_lt, is_gt, true≢false}
 use Rattle.std.specs.List.{list_all, list_any}
 use Rattle.std.specs.Ordering.{ord_min, ordering_reverse}
 use Rattle.std.specs.Cmp.{IsTotalOrder}
@@ -184,7 +186,9 @@ refused_where_some [] = (λ h. refl, λ h. refl)
 refused_where_some (e ∷ es) = by (refused_where_some es) (report_obeys e.1)
   where
     by : (list_all (λ (e : Text × Report). report_obeys e.1) es ≡ true) ↔ (option_map (λ (e : Text × Report). disallowed_cell e.0 e.1) (find (λ e. not (report_obeys e.1)) es) ≡ None)
-        → (b : Bool) → ((b && list_all (λ (e : Text × Report). report_obeys e.1) es) ≡ true) ↔ (option_map (λ (e : Text × Report). disallowed_cell e.0 e.1) (cond (not b) (Some e) (find (λ e. not (report_obeys e.1)) es)) ≡ None)
+        → (b : Bool) → ((b && list_all (λ (e : Text × Report). report_obeys e.1) es)
+        ≡ true) ↔ (option_map (λ (e : Text × Report). disallowed_cell e.0 e.1)
+        (cond (not b) (Some e) (find (λ e. not (report_obeys e.1)) es)) ≡ None)
     by rest true = rest
     by rest false = (λ h. absurd (true≢false (sym h)), λ h. let apart : Some (disallowed_cell e.0 e.1) ≡ None = h in cc)
 

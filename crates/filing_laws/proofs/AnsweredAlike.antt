@@ -122,7 +122,9 @@ module _ (c d : Repository) (name : Text) (r s : Report) (in_c : report_at c nam
       (added_alike id (is_some (fact_in r id)) (fit_of r.names raw)))
 
   removed_alike : (id : Text) (found : Bool)
-      → IsAlike c d (cond found (reply.Staged, with_fact_at c name id None) (reply.Absent, c)) (cond found (reply.Staged, with_fact_at d name id None) (reply.Absent, d)) (Some (thing.Id name id)) (Some (thing.Id name id))
+      → IsAlike c d (cond found (reply.Staged, with_fact_at c name id None) (reply.Absent, c))
+      (cond found (reply.Staged, with_fact_at d name id None) (reply.Absent, d)) (Some (thing.Id name id))
+      (Some (thing.Id name id))
   removed_alike id true = record { reply = refl; kept = λ t agree. agree_kept t c d name id None (there c name r in_c) (there d name s in_d) agree; read = refl }
   removed_alike id false = record { reply = refl; kept = λ t agree. agree; read = refl }
 

@@ -32,7 +32,9 @@ pub each_is_found : {X : Type 0} (es : List (Text × X)) → T (is_sorted text_c
 each_is_found [] sorted = tt
 each_is_found {X} (e ∷ es) sorted = (
   found_first e es,
-  each_mapped (λ x. find text_cmp x.0 es ≡ Some x.1) (λ x. find text_cmp x.0 (e ∷ es) ≡ Some x.1) (λ x found. found_behind e es x.0 x.1 (first_holds (below_all text_cmp e.0 es) (is_sorted text_cmp es) sorted) found)
+  each_mapped (λ x. find text_cmp x.0 es ≡ Some x.1) (λ x. find text_cmp x.0 (e ∷ es)
+      ≡ Some x.1) (λ x found. found_behind e es x.0 x.1
+      (first_holds (below_all text_cmp e.0 es) (is_sorted text_cmp es) sorted) found)
       es (each_is_found es (second_holds (below_all text_cmp e.0 es) (is_sorted text_cmp es) sorted)),
 )
 
@@ -68,7 +70,8 @@ module _ {X B : Type 0} (f : Text → X → Option B) where
   sorted-made : (es : List (Text × X)) → T (is_sorted text_cmp es) → T (is_sorted text_cmp (made es))
   sorted-made [] sorted = tt
   sorted-made (e ∷ es) sorted =
-      by (f e.0 e.1) (below-made e.0 es (first_holds (below_all text_cmp e.0 es) (is_sorted text_cmp es) sorted)) (sorted-made es (second_holds (below_all text_cmp e.0 es) (is_sorted text_cmp es) sorted))
+      by (f e.0 e.1) (below-made e.0 es (first_holds (below_all text_cmp e.0 es) (is_sorted text_cmp es) sorted))
+      (sorted-made es (second_holds (below_all text_cmp e.0 es) (is_sorted text_cmp es) sorted))
     where
       by : (o : Option B) → T (below_all text_cmp e.0 (made es)) → T (is_sorted text_cmp (made es)) → T (is_sorted text_cmp (cons_option (option_map (λ b. (e.0, b)) o) (made es)))
       by None below later = later
@@ -107,5 +110,7 @@ pub first_same : {X Y B : Type 0} (f : Text → X → Option B) (g : Text → Y 
     → find_map (keyed f) es ≡ find_map (keyed g) ys
 first_same f g es ys es_sorted ys_sorted alike =
     find_map-front (keyed f) es
-    ∙ ap front (same_entries text_cmp nat_list_cmp_total text_cmp-Equal (made f es) (made g ys) (sorted-made f es es_sorted) (sorted-made g ys ys_sorted) (λ q. find-made f q es es_sorted ∙ alike q ∙ sym (find-made g q ys ys_sorted)))
+    ∙ ap front (same_entries text_cmp nat_list_cmp_total text_cmp-Equal (made f es) (made g ys)
+    (sorted-made f es es_sorted) (sorted-made g ys ys_sorted) (λ q. find-made f q es es_sorted ∙ alike q
+    ∙ sym (find-made g q ys ys_sorted)))
     ∙ sym (find_map-front (keyed g) ys)

@@ -109,7 +109,8 @@ one_reply_to_a_commit = one_reply unchanged (Some 1) Commit (Committed 3) (playe
 
 pub one_reply_to_a_commit_of_duplicates : IsOneNextReply duplicated (Some 2) Commit (Disallowed r1 class.Complete (codes "a" ∷ codes "b" ∷ []))
 one_reply_to_a_commit_of_duplicates =
-    one_reply duplicated (Some 2) Commit (Disallowed r1 class.Complete (codes "a" ∷ codes "b" ∷ [])) (played_is_lawful no_duplicates_before) (2, Amend, record { of_it = refl; live = second_is_live }) refl
+    one_reply duplicated (Some 2) Commit (Disallowed r1 class.Complete (codes "a" ∷ codes "b" ∷ []))
+    (played_is_lawful no_duplicates_before) (2, Amend, record { of_it = refl; live = second_is_live }) refl
 
 -- the first load follows lawfully on nothing
 pub first_load_follows : FollowsLawfully (record { session = None; step = Load r1 blank; reply = Loaded 1 }) []

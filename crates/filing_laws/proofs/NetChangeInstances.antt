@@ -17,7 +17,10 @@ use Rattle.filing_model.proofs.Examples.Setting.{Line, played, load, amend, adds
 use Rattle.filing_model.proofs.Examples.Histories.{r1, no_duplicates_before}
 use Rattle.filing_laws.specs.NetChange.{IsUntouchedAmendment, copy_now, PutsFact, IsDisallowedCell, least_disallowed_of, IsDecidedByNewFacts}
 use Rattle.filing_laws.proofs.NetChanges.{each_net_change_makes_the_copy, each_commit_lays_its_net_change}
-use Rattle.filing_laws.proofs.NewFacts.{each_disallowed_cell_holds_a_new_fact, each_disallowed_cell_of_a_copy_holds_a_new_fact, each_change_is_decided_by_its_new_facts, each_copy_is_decided_by_its_new_facts}
+use Rattle.filing_laws.proofs.NewFacts.{each_disallowed_cell_holds_a_new_fact}
+use Rattle.filing_laws.proofs.NewFacts.{each_disallowed_cell_of_a_copy_holds_a_new_fact}
+use Rattle.filing_laws.proofs.NewFacts.{each_change_is_decided_by_its_new_facts}
+use Rattle.filing_laws.proofs.NewFacts.{each_copy_is_decided_by_its_new_facts}
 use Rattle.filing_laws.proofs.Instances.{played_is_lawful}
 
 -- a change of facts alone

@@ -1,5 +1,7 @@
 -- Where a change is laid over a repository that obeys, its new facts alone decide which cells are disallowed, but for reports that are to declare a value.
-use Rattle.std.proofs.Common.{◌≡◌, ◌∙◌, ap, sym, refl, subst, Bool, true, false, cond, not, ◌&&◌, ◌||◌, List, [], ◌∷◌, map, filter, filter_map, Option, Some, None, is_some, option_map, option_and_then, unwrap_or, true≢false, Ordering, Less, Equal, Greater, is_gt}
+use Rattle.std.proofs.Common.{◌≡◌, ◌∙◌, ap, sym, refl, subst, Bool, true, false, cond, not, ◌&&◌, ◌||◌, List, []}
+use Rattle.std.proofs.Common.{◌∷◌, map, filter, filter_map, Option, Some, None, is_some, option_map}
+use Rattle.std.proofs.Common.{option_and_then, unwrap_or, true≢false, Ordering, Less, Equal, Greater, is_gt}
 use Rattle.std.proofs.lemmas.Bool.{not-true}
 use Rattle.std.specs.List.{list_all, list_any, cons_option, find as find_in}
 use Rattle.std.specs.Option.{option_map_or, option_or}
@@ -22,7 +24,9 @@ use Rattle.filing_model.specs.Touches.{net_change_of}
 use Rattle.filing_model.specs.declared.duplicates.Allowed.{Allowed}
 use Rattle.filing_model.specs.declared.duplicates.Class.TheVariants.{Empty}
 use Rattle.filing_laws.specs.Obeying.{is_allowed}
-use Rattle.filing_laws.specs.NetChange.{IsDisallowedCell, least_disallowed_of, refusal_at, IsDecidedByNewFacts, EachDisallowedCellHoldsANewFact, EachDisallowedCellOfACopyHoldsANewFact, EachChangeIsDecidedByItsNewFacts, EachCopyIsDecidedByItsNewFacts}
+use Rattle.filing_laws.specs.NetChange.{IsDisallowedCell, least_disallowed_of, refusal_at, IsDecidedByNewFacts}
+use Rattle.filing_laws.specs.NetChange.{EachDisallowedCellHoldsANewFact, EachDisallowedCellOfACopyHoldsANewFact}
+use Rattle.filing_laws.specs.NetChange.{EachChangeIsDecidedByItsNewFacts, EachCopyIsDecidedByItsNewFacts}
 use Rattle.filing_laws.proofs.EachElement.{Each, OnEach, IsNever, never_parts}
 use Rattle.filing_model.proofs.EveryPair.{pairs_filter}
 use Rattle.filing_model.proofs.Texts.{text_cmp-Equal, text_same}
@@ -228,7 +232,9 @@ each_disallowed_cell_of_a_copy_holds_a_new_fact h s name dims amendment undeclar
 
 first_is_least : (c : Repository) (change : Change) → repository_obeys c ≡ true → first_disallowed (laid_over change c) change ≡ least_disallowed_of (laid_over change c)
 first_is_least c change holds =
-    first_same (λ name x. option_and_then (least_changed x) (report_at after name)) (λ name r. least_disallowed r.allowed r.facts.entries) change.entries after.reports.entries change.sorted after.reports.sorted
+    first_same (λ name x. option_and_then (least_changed x) (report_at after name))
+    (λ name r. least_disallowed r.allowed r.facts.entries) change.entries after.reports.entries change.sorted
+    after.reports.sorted
     (λ name. by name (report_at after name) refl)
   where
     after : Repository
@@ -249,7 +255,8 @@ first_is_least c change holds =
     nowhere (Some change) = refl
 
     by : (name : Text) (p : Option Report) → report_at after name ≡ p
-        → option_and_then (λ x. option_and_then (least_changed x) (report_at after name)) (get change name) ≡ option_and_then (λ (r : Report). least_disallowed r.allowed r.facts.entries) (report_at after name)
+        → option_and_then (λ x. option_and_then (least_changed x) (report_at after name)) (get change name)
+        ≡ option_and_then (λ (r : Report). least_disallowed r.allowed r.facts.entries) (report_at after name)
     by name None gone =
         ap (λ p. option_and_then (λ x. option_and_then (least_changed x) p) (get change name)) gone
         ∙ nowhere (get change name)
@@ -262,7 +269,9 @@ first_is_least c change holds =
 
 -- a refusal tells the least disallowed cell
 refused_at : (c : Repository) (es : List (Text × Report)) → Each (λ e. report_at c e.0 ≡ Some e.1) es
-    → option_map (λ e. disallowed_cell e.0 e.1) (find_in (λ e. not (report_obeys e.1)) es) ≡ option_map (refusal_at c) (find_map (λ e. option_map (λ dims. (e.0, dims)) (least_disallowed e.1.allowed e.1.facts.entries)) es)
+    → option_map (λ e. disallowed_cell e.0 e.1) (find_in (λ e. not (report_obeys e.1)) es)
+    ≡ option_map (refusal_at c)
+    (find_map (λ e. option_map (λ dims. (e.0, dims)) (least_disallowed e.1.allowed e.1.facts.entries)) es)
 refused_at c [] each = refl
 refused_at c (e ∷ es) each = by (report_obeys e.1) refl (least_disallowed e.1.allowed e.1.facts.entries) refl (refused_at c es each.1)
   where

@@ -1,5 +1,7 @@
 -- Two rising lists that have the same identifiers up to the first that a limit cuts from one of them: the limit leaves the same front of both and cuts the same identifier.
-use Rattle.std.proofs.Common.{◌≡◌, ◌∙◌, ap, sym, refl, subst, ℕ, zero, suc, Bool, true, false, cond, not, ◌&&◌, T, List, [], ◌∷◌, map, filter, take, Option, Some, None, Ordering, Less, Equal, Greater, is_lt, true≢false}
+use Rattle.std.proofs.Common.{◌≡◌, ◌∙◌, ap, sym, refl, subst, ℕ, zero, suc, Bool, true, false, cond, not, ◌&&◌, T}
+use Rattle.std.proofs.Common.{List, [], ◌∷◌, map, filter, take, Option, Some, None, Ordering, Less, Equal, Greater}
+use Rattle.std.proofs.Common.{is_lt, true≢false}
 use Rattle.std.specs.Option.{option_map_or}
 use Rattle.std.specs.Cmp.Lexicographic.{nat_list_cmp_total}
 use Rattle.std.specs.Cmp.{tied_itself}
@@ -204,7 +206,10 @@ sought_upto sought upto (e ∷ es) = by (answers_query sought.concept sought.per
     seen = filter (λ e. is_within sought.after upto e.0 && answers_query sought.concept sought.period e.1) es
 
     by : (a w : Bool) → is_after sought.after e.0 ≡ w → (u : Bool) → is_upto upto e.0 ≡ u → ids_upto upto (ids_after sought.after rest) ≡ map (λ e. e.0) seen
-        → ids_upto upto (ids_after sought.after (map (λ (e : Text × Fact). e.0) (cond a (e ∷ filter (λ e. answers_query sought.concept sought.period e.1) es) (filter (λ e. answers_query sought.concept sought.period e.1) es))))
+        → ids_upto upto (ids_after sought.after
+        (map (λ (e : Text × Fact). e.0)
+        (cond a (e ∷ filter (λ e. answers_query sought.concept sought.period e.1) es)
+        (filter (λ e. answers_query sought.concept sought.period e.1) es))))
         ≡ map (λ (e : Text × Fact). e.0) (cond ((w && u) && a) (e ∷ seen) seen)
     by true true after true last later =
         ap (λ b. ids_upto upto (cond b (e.0 ∷ ids_after sought.after rest) (ids_after sought.after rest))) after

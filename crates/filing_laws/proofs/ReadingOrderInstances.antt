@@ -14,7 +14,10 @@ use Rattle.filing_model.proofs.Examples.Histories.{r1, stored_run_lines, no_dupl
 use Rattle.filing_laws.specs.SameReplies.{reply_eq}
 use Rattle.filing_laws.specs.ReadingOrder.{read_all, IsLawfulInOrder, follows, IsDeparture, IsFirstThatDoesNotFollow, departure_of}
 use Rattle.filing_laws.proofs.SameReplies.{equal_replies_are_decided}
-use Rattle.filing_laws.proofs.ReadingOrders.{each_repository_is_read_in_order, lawful_in_order_is_lawful, each_next_entry_is_decided, each_departure_is_the_first_that_does_not_follow, each_departure_is_determined}
+use Rattle.filing_laws.proofs.ReadingOrders.{each_repository_is_read_in_order, lawful_in_order_is_lawful}
+use Rattle.filing_laws.proofs.ReadingOrders.{each_next_entry_is_decided}
+use Rattle.filing_laws.proofs.ReadingOrders.{each_departure_is_the_first_that_does_not_follow}
+use Rattle.filing_laws.proofs.ReadingOrders.{each_departure_is_determined}
 use Rattle.filing_laws.proofs.Instances.{played_is_lawful}
 
 -- ---- one session adds a fact, and the next reads it

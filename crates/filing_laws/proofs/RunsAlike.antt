@@ -22,7 +22,9 @@ use Rattle.filing_model.specs.declared.kind.Kind.{Kind}
 use Rattle.filing_model.specs.declared.faults.FactFault.{FactFault}
 use Rattle.filing_laws.proofs.EachElement.{Each, OnEach, each_mapped, each_parts, each_joined, IsNever, never_parts}
 use Rattle.filing_laws.proofs.WithOneFact.{names_at, fact_at-with_fact_at}
-use Rattle.filing_laws.proofs.WithOneValue.{bare_at, names_of_bare, value_for, last_value, names-declaring_if, declaring_twice, nothing_declared, bare_at-with_fact_at, bare_at-declaring_at, fact_at-declaring_at}
+use Rattle.filing_laws.proofs.WithOneValue.{bare_at, names_of_bare, value_for, last_value, names-declaring_if}
+use Rattle.filing_laws.proofs.WithOneValue.{declaring_twice, nothing_declared, bare_at-with_fact_at}
+use Rattle.filing_laws.proofs.WithOneValue.{bare_at-declaring_at, fact_at-declaring_at}
 use Rattle.filing_laws.proofs.AgreeOnThings.{Agree}
 use Rattle.filing_laws.proofs.AnsweredAlike.{Stays, call_alike, there}
 
@@ -205,7 +207,9 @@ readings_valid kind [] c = tt
 readings_valid kind (ask ∷ calls) c =
     let after = answer kind ask c in
     each_joined (λ t. IsValid t c) (read_by kind ask c) (reads kind after.1 calls) (reading_valid kind ask c)
-    (each_mapped (λ t. IsValid t after.1) (λ t. IsValid t c) (λ t valid. sym (ap is_some (call_leaves_names kind ask c (report_of t))) ∙ valid) (reads kind after.1 calls) (readings_valid kind calls after.1))
+    (each_mapped (λ t. IsValid t after.1) (λ t. IsValid t c)
+    (λ t valid. sym (ap is_some (call_leaves_names kind ask c (report_of t)))
+    ∙ valid) (reads kind after.1 calls) (readings_valid kind calls after.1))
 
 -- ---- a place that was staged was read
 

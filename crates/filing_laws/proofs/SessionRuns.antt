@@ -7,7 +7,9 @@ use Rattle.filing_model.specs.Calls.{Call}
 use Rattle.filing_model.specs.Replies as reply
 use Rattle.filing_model.specs.Replies.{Reply}
 use Rattle.filing_model.specs.Sessions.{Ending, Committing, Closing, Unended, solo, solo_replies, refusal_of}
-use Rattle.filing_model.specs.History.{Step, Load, Open, Ask, Commit, Close, Entry, History, Status, Unknown, Live, Ended, is_of, is_opening, call_in, reply_in, status_after, status_of, calls_of, replies_of, base_of, repository}
+use Rattle.filing_model.specs.History.{Step, Load, Open, Ask, Commit, Close, Entry, History, Status, Unknown, Live}
+use Rattle.filing_model.specs.History.{Ended, is_of, is_opening, call_in, reply_in, status_after, status_of}
+use Rattle.filing_model.specs.History.{calls_of, replies_of, base_of, repository}
 use Rattle.filing_model.specs.Lawful.{IsLawful, IsNext, IsNextStep, IsOngoing, IsCommitReply, openings}
 use Rattle.filing_model.specs.Versions.{counts}
 use Rattle.filing_model.specs.declared.kind.Kind.{Kind}
@@ -130,7 +132,9 @@ module _ (older : History) (session : Option ℕ) (s : ℕ) (r : Reply) where
   closing kind lawful live going is = record {
     committed = λ n e. absurd (untold (told_at_commit s older) n going.told e);
     opened =
-        λ k of_kind. subst (λ k. AreSoloReplies k Closing (base_of s older) (calls_of s older ++ []) (all_replies_of s older ++ r ∷ [])) (same_Some kind k (sym going.of_kind ∙ of_kind)) (closed_at kind lawful live going is);
+        λ k of_kind. subst (λ k. AreSoloReplies k Closing (base_of s older) (calls_of s older
+        ++ []) (all_replies_of s older ++ r ∷ [])) (same_Some kind k (sym going.of_kind ∙ of_kind))
+        (closed_at kind lawful live going is);
     unopened = was_opened (kind_of s older) kind (all_replies_of s older ++ r ∷ []) going.of_kind;
   }
 
@@ -164,7 +168,9 @@ module _ (older : History) (session : Option ℕ) (s : ℕ) (r : Reply) where
   committing kind lawful next mine live going is = record {
     committed = λ n e. passed kind n next mine live going (let told : Some r ≡ Some (reply.Committed n) = e in cc) (entry_case older entry next);
     opened =
-        λ k of_kind. subst (λ k. AreSoloReplies k Committing (base_of s older) (calls_of s older ++ []) (all_replies_of s older ++ r ∷ [])) (same_Some kind k (sym going.of_kind ∙ of_kind)) (committed_at kind lawful live going is);
+        λ k of_kind. subst (λ k. AreSoloReplies k Committing (base_of s older) (calls_of s older
+        ++ []) (all_replies_of s older ++ r ∷ [])) (same_Some kind k (sym going.of_kind ∙ of_kind))
+        (committed_at kind lawful live going is);
     unopened = was_opened (kind_of s older) kind (all_replies_of s older ++ r ∷ []) going.of_kind;
   }
 
@@ -236,7 +242,9 @@ going_known h s kind lawful live going = record {
   opened = λ k of_kind.
       subst (λ k. AreSoloReplies k (ending_of s h) (base_of s h) (calls_of s h) (all_replies_of s h)) (same_Some kind k (sym going.of_kind ∙ of_kind))
       (subst (λ ending. AreSoloReplies kind ending (base_of s h) (calls_of s h) (all_replies_of s h)) (sym going.ending)
-      (subst (AreSoloReplies kind Unended (base_of s h) (calls_of s h)) (sym (going.all ∙ ap (λ rs. reply.Opened ∷ rs) (own_replies h s kind lawful live))) (not_ended kind (base_of s h) (calls_of s h))));
+      (subst (AreSoloReplies kind Unended (base_of s h) (calls_of s h))
+      (sym (going.all ∙ ap (λ rs. reply.Opened ∷ rs) (own_replies h s kind lawful live)))
+      (not_ended kind (base_of s h) (calls_of s h))));
   unopened = was_opened (kind_of s h) kind (all_replies_of s h) going.of_kind;
 }
 

@@ -1,10 +1,14 @@
 -- A session that was not committed leaves the repository that would be there without its entries.
-use Rattle.std.proofs.Common.{◌≡◌, ◌∙◌, ap, sym, refl, subst, ℕ, ◌+◌, ◌==◌, arith, Bool, true, false, cond, not, ◌&&◌, [], ◌∷◌, ◌++◌, Option, Some, None, eq-eqb, eqb-true, ne_eqb, true≢false, append-nil}
+use Rattle.std.proofs.Common.{◌≡◌, ◌∙◌, ap, sym, refl, subst, ℕ, ◌+◌, ◌==◌, arith, Bool, true, false, cond, not}
+use Rattle.std.proofs.Common.{◌&&◌, [], ◌∷◌, ◌++◌, Option, Some, None, eq-eqb, eqb-true, ne_eqb, true≢false}
+use Rattle.std.proofs.Common.{append-nil}
 use Rattle.std.specs.Option.{option_map_or}
 use Rattle.filing_model.specs.Repository.{Repository}
 use Rattle.filing_model.specs.Replies as reply
 use Rattle.filing_model.specs.Replies.{Reply}
-use Rattle.filing_model.specs.History.{Step, Load, Open, Ask, Commit, Close, Entry, History, Status, Unknown, Live, Ended, is_of, call_in, status_after, status_of, calls_of, repository, effect_of, committed}
+use Rattle.filing_model.specs.History.{Step, Load, Open, Ask, Commit, Close, Entry, History, Status, Unknown, Live}
+use Rattle.filing_model.specs.History.{Ended, is_of, call_in, status_after, status_of, calls_of, repository}
+use Rattle.filing_model.specs.History.{effect_of, committed}
 use Rattle.filing_model.specs.Lawful.{IsLawful, IsNextStep, IsOngoing, openings}
 use Rattle.filing_laws.specs.WholeRuns.{is_commit, told_at_commit, IsCommitted, without}
 use Rattle.filing_model.specs.declared.kind.Kind.{Kind}

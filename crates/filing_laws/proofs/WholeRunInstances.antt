@@ -55,7 +55,9 @@ first_left_its_result = sym (skewed_is_serial.committed 1 first_was_committed).e
 pub second_ended_by_a_commit : ending_of 2 skewed ≡ Committing
 second_ended_by_a_commit = refl
 
-pub second_replied_as_at_its_opening : (r : Reply) × (Opened ∷ Cell Empty [] ∷ Staged ∷ Conflict 2 (thing.Cell r1 (of_concept (codes "ex:B"))) ∷ [] ≡ (solo Amend loaded (calls_of 2 skewed) Unended).replies ++ r ∷ [])
+pub second_replied_as_at_its_opening : (r : Reply)
+    × (Opened ∷ Cell Empty [] ∷ Staged ∷ Conflict 2 (thing.Cell r1 (of_concept (codes "ex:B"))) ∷ []
+    ≡ (solo Amend loaded (calls_of 2 skewed) Unended).replies ++ r ∷ [])
 second_replied_as_at_its_opening = skewed_is_serial.opened 2
 
 pub second_was_not_committed : ¬ IsCommitted 2 skewed
@@ -140,7 +142,9 @@ adder_left_its_result = sym (single_is_serial.committed 1 adder_was_committed).e
 pub duplicate_was_not_committed : ¬ IsCommitted 2 single
 duplicate_was_not_committed (n, told) = let differ : Some (Disallowed r1 Complete (codes "a" ∷ codes "b" ∷ [])) ≡ Some (Committed n) = told in cc
 
-pub duplicate_replied_as_at_its_opening : (r : Reply) × (Opened ∷ Staged ∷ Disallowed r1 Complete (codes "a" ∷ codes "b" ∷ []) ∷ [] ≡ (solo Amend (base_of 2 single) (calls_of 2 single) Unended).replies ++ r ∷ [])
+pub duplicate_replied_as_at_its_opening : (r : Reply)
+    × (Opened ∷ Staged ∷ Disallowed r1 Complete (codes "a" ∷ codes "b" ∷ []) ∷ []
+    ≡ (solo Amend (base_of 2 single) (calls_of 2 single) Unended).replies ++ r ∷ [])
 duplicate_replied_as_at_its_opening = single_is_serial.opened 2
 
 pub duplicate_left_nothing : repository (without 2 single) ≡ a_alone
@@ -148,7 +152,9 @@ duplicate_left_nothing = single_is_serial.refused.sessions 2 duplicate_was_not_c
 
 pub refusal_changed_nothing : a_alone ≡ repository (played no_duplicates_before)
 refusal_changed_nothing =
-    single_is_serial.refused.entries (record { session = Some 2; step = Commit; reply = Disallowed r1 Complete (codes "a" ∷ codes "b" ∷ []) }) (played no_duplicates_before) (record { newer = []; place = refl }) refl
+    single_is_serial.refused.entries
+    (record { session = Some 2; step = Commit; reply = Disallowed r1 Complete (codes "a" ∷ codes "b" ∷ []) })
+    (played no_duplicates_before) (record { newer = []; place = refl }) refl
 
 pub single_versions_obey : All (λ c. repository_obeys c ≡ true) (nothing ∷ with_report nothing r1 (report_with Never empty) ∷ a_alone ∷ [])
 single_versions_obey = single_is_serial.versions

@@ -37,7 +37,8 @@ EachNetChangeMakesTheCopy = (h : History) (s : ℕ) → IsUntouchedAmendment h s
 
 -- so each accepted commit of a lawful history leaves its net change laid over the repository before it
 abbrev pub EachCommitLaysItsNetChange : Type 0
-EachCommitLaysItsNetChange = (h : History) (e : Entry) (s n : ℕ) → IsLawful (e ∷ h) → e.session ≡ Some s → e.reply ≡ reply.Committed n → repository (e ∷ h) ≡ after_change (net_change_of s h) (repository h)
+EachCommitLaysItsNetChange = (h : History) (e : Entry) (s n : ℕ) → IsLawful (e ∷ h) → e.session ≡ Some s
+    → e.reply ≡ reply.Committed n → repository (e ∷ h) ≡ after_change (net_change_of s h) (repository h)
 
 -- ---- new facts and disallowed cells
 
@@ -56,11 +57,15 @@ pub record IsDisallowedCell (c : Repository) (name : Text) (dims : Dims) : Type 
 
 -- where a change is laid over a repository that obeys, it puts a fact into each cell that is then disallowed, but for reports that are to declare a value
 abbrev pub EachDisallowedCellHoldsANewFact : Type 0
-EachDisallowedCellHoldsANewFact = (c : Repository) (change : Change) (name : Text) (dims : Dims) → repository_obeys c ≡ true → declared_in change name ≡ None → IsDisallowedCell (laid_over change c) name dims → PutsFact change name dims
+EachDisallowedCellHoldsANewFact = (c : Repository) (change : Change) (name : Text) (dims : Dims)
+    → repository_obeys c ≡ true → declared_in change name ≡ None → IsDisallowedCell (laid_over change c) name dims
+    → PutsFact change name dims
 
 -- so does the net change of an untouched amendment into each disallowed cell of its copy
 abbrev pub EachDisallowedCellOfACopyHoldsANewFact : Type 0
-EachDisallowedCellOfACopyHoldsANewFact = (h : History) (s : ℕ) (name : Text) (dims : Dims) → IsUntouchedAmendment h s → declared_in (net_change_of s h) name ≡ None → IsDisallowedCell (copy_now h s) name dims → PutsFact (net_change_of s h) name dims
+EachDisallowedCellOfACopyHoldsANewFact = (h : History) (s : ℕ) (name : Text) (dims : Dims) → IsUntouchedAmendment h s
+    → declared_in (net_change_of s h) name ≡ None → IsDisallowedCell (copy_now h s) name dims
+    → PutsFact (net_change_of s h) name dims
 
 -- ---- the least of them
 

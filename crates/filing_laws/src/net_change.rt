@@ -1,6 +1,9 @@
 //! Of an open amendment's net change, laid over the repository as it is.
 
-ghost use Rattle.filing_laws.specs.NetChange.{EachNetChangeMakesTheCopy, EachCommitLaysItsNetChange, EachDisallowedCellHoldsANewFact, EachDisallowedCellOfACopyHoldsANewFact, EachChangeIsDecidedByItsNewFacts, EachCopyIsDecidedByItsNewFacts};
+ghost use Rattle.filing_laws.specs.NetChange.{EachNetChangeMakesTheCopy, EachCommitLaysItsNetChange};
+ghost use Rattle.filing_laws.specs.NetChange.{EachDisallowedCellHoldsANewFact};
+ghost use Rattle.filing_laws.specs.NetChange.{EachDisallowedCellOfACopyHoldsANewFact};
+ghost use Rattle.filing_laws.specs.NetChange.{EachChangeIsDecidedByItsNewFacts, EachCopyIsDecidedByItsNewFacts};
 
 /// Where nothing that an open amendment has read was touched, its net change, laid over the repository as it is, makes its copy at the end of its solo run there.
 #[tactic(auto, using(crate::proofs::NetChanges::each_net_change_makes_the_copy))]

@@ -71,17 +71,25 @@ module _ {A : Type 0} (pairing : A → A → Pair) where
 
   several : (a : Allowed) (x y : A) (xs : List A) → AreTogether (x ∷ y ∷ xs) → allows a (class_by pairing (x ∷ y ∷ xs)) ≡ every_pair (λ x y. permits a (pairing x y)) (x ∷ y ∷ xs)
   several allowed.Never x y xs together =
-      never_allows (every_pair (λ x y. is_complete (pairing x y)) (x ∷ y ∷ xs)) (every_pair (λ x y. is_consistent (pairing x y)) (x ∷ y ∷ xs)) (every_pair (λ x y. not (is_apart (pairing x y))) (x ∷ y ∷ xs))
+      never_allows (every_pair (λ x y. is_complete (pairing x y)) (x ∷ y ∷ xs))
+      (every_pair (λ x y. is_consistent (pairing x y)) (x ∷ y ∷ xs))
+      (every_pair (λ x y. not (is_apart (pairing x y))) (x ∷ y ∷ xs))
       ∙ sym (ap (λ b. (b && list_all (λ z. is_apart (pairing x z)) xs) && every_pair (λ x y. is_apart (pairing x y)) (y ∷ xs)) (first_not_apart x y xs together))
   several allowed.All x y xs together =
-      all_allows (every_pair (λ x y. is_complete (pairing x y)) (x ∷ y ∷ xs)) (every_pair (λ x y. is_consistent (pairing x y)) (x ∷ y ∷ xs)) (every_pair (λ x y. not (is_apart (pairing x y))) (x ∷ y ∷ xs)) together
+      all_allows (every_pair (λ x y. is_complete (pairing x y)) (x ∷ y ∷ xs))
+      (every_pair (λ x y. is_consistent (pairing x y)) (x ∷ y ∷ xs))
+      (every_pair (λ x y. not (is_apart (pairing x y))) (x ∷ y ∷ xs)) together
       ∙ sym (pairs_always (λ x y. true) (λ x y. refl) (x ∷ y ∷ xs))
   several allowed.Complete x y xs together =
-      complete_allows (every_pair (λ x y. is_complete (pairing x y)) (x ∷ y ∷ xs)) (every_pair (λ x y. is_consistent (pairing x y)) (x ∷ y ∷ xs)) (every_pair (λ x y. not (is_apart (pairing x y))) (x ∷ y ∷ xs))
+      complete_allows (every_pair (λ x y. is_complete (pairing x y)) (x ∷ y ∷ xs))
+      (every_pair (λ x y. is_consistent (pairing x y)) (x ∷ y ∷ xs))
+      (every_pair (λ x y. not (is_apart (pairing x y))) (x ∷ y ∷ xs))
       ∙ sym (pairs_same (λ x y. not (is_apart (pairing x y))) (λ x y. is_apart (pairing x y) || is_complete (pairing x y)) (λ x y. is_complete (pairing x y))
       (λ x y apart. ap (λ b. b || is_complete (pairing x y)) (not-true (is_apart (pairing x y)) apart)) (x ∷ y ∷ xs) together)
   several allowed.Consistent x y xs together =
-      consistent_allows (every_pair (λ x y. is_complete (pairing x y)) (x ∷ y ∷ xs)) (every_pair (λ x y. is_consistent (pairing x y)) (x ∷ y ∷ xs)) (every_pair (λ x y. not (is_apart (pairing x y))) (x ∷ y ∷ xs))
+      consistent_allows (every_pair (λ x y. is_complete (pairing x y)) (x ∷ y ∷ xs))
+      (every_pair (λ x y. is_consistent (pairing x y)) (x ∷ y ∷ xs))
+      (every_pair (λ x y. not (is_apart (pairing x y))) (x ∷ y ∷ xs))
       (pairs_implied (λ x y. is_complete (pairing x y)) (λ x y. is_consistent (pairing x y)) (λ x y e. complete_is_consistent (pairing x y) e) (x ∷ y ∷ xs))
       ∙ sym (pairs_same (λ x y. not (is_apart (pairing x y))) (λ x y. is_apart (pairing x y) || is_consistent (pairing x y)) (λ x y. is_consistent (pairing x y))
       (λ x y apart. ap (λ b. b || is_consistent (pairing x y)) (not-true (is_apart (pairing x y)) apart)) (x ∷ y ∷ xs) together)

@@ -1,5 +1,7 @@
 -- Proof that numbers are bounded: with `most_whole_digits` and `most_fraction_digits`, below 10^35 units.
-use Rattle.std.proofs.Common.{◌≡◌, ℕ, zero, suc, ◌+◌, ◌-◌, ◌*◌, ◌^◌, ◌<◌, ◌≤◌, nat_lt, Bool, true, false, ◌&&◌, [], ◌∷◌, ◌++◌, length, take, ℤ, nat_abs, Result, Ok, Err, refl, ap, sym, subst, ◌∙◌, arith, pow-add}
+use Rattle.std.proofs.Common.{◌≡◌, ℕ, zero, suc, ◌+◌, ◌-◌, ◌*◌, ◌^◌, ◌<◌, ◌≤◌, nat_lt, Bool, true, false, ◌&&◌, []}
+use Rattle.std.proofs.Common.{◌∷◌, ◌++◌, length, take, ℤ, nat_abs, Result, Ok, Err, refl, ap, sym, subst, ◌∙◌}
+use Rattle.std.proofs.Common.{arith, pow-add}
 use Rattle.std.proofs.Math.Nat.{mul-le-mul_right, mul-lt-mul_of_pos_right, pow-le-pow_right, pow-suc}
 use Rattle.std.proofs.lemmas.List.{length-append, take-append-drop}
 use Rattle.std.proofs.lemmas.List.Folds.{list_all-append}
@@ -8,7 +10,10 @@ use Rattle.std.proofs.lemmas.Bool.{and_parts}
 use Rattle.std.specs.Char.{is_ascii_digit}
 use Rattle.std.specs.List.{list_all, prefix_len, before_first, after_first}
 use Rattle.filing_model.specs.Text.{Text}
-use Rattle.filing_model.specs.Numerals.{is_zero, is_point, without_front, without_end, without_blanks, without_sign, is_negative, are_digits, are_few, size_of_few, size_of, scaled, place_sum, signed, with_sign, most_fraction_digits, most_whole_digits, NumbersAreBounded}
+use Rattle.filing_model.specs.Numerals.{is_zero, is_point, without_front, without_end, without_blanks}
+use Rattle.filing_model.specs.Numerals.{without_sign, is_negative, are_digits, are_few, size_of_few, size_of}
+use Rattle.filing_model.specs.Numerals.{scaled, place_sum, signed, with_sign, most_fraction_digits}
+use Rattle.filing_model.specs.Numerals.{most_whole_digits, NumbersAreBounded}
 use Rattle.filing_model.specs.declared.faults.NumberFault.{NumberFault}
 use Rattle.filing_model.specs.declared.faults.NumberFault.TheVariants.{NotANumber, TooLarge}
 use Rattle.filing_model.proofs.Trimming.{end_parts}
@@ -39,12 +44,16 @@ place_sum_below (d ∷ digits) e =
 cut_digits : (digits : Text) → list_all is_ascii_digit digits ≡ true → list_all is_ascii_digit (without_front is_zero digits) ≡ true
 cut_digits digits e =
     let front = take (prefix_len is_zero digits) digits in
-    (and_parts (list_all is_ascii_digit front) (list_all is_ascii_digit (without_front is_zero digits)) (sym (list_all-append is_ascii_digit front (without_front is_zero digits)) ∙ ap (λ l. list_all is_ascii_digit l) (take-append-drop (prefix_len is_zero digits) digits) ∙ e)).1
+    (and_parts (list_all is_ascii_digit front) (list_all is_ascii_digit (without_front is_zero digits))
+    (sym (list_all-append is_ascii_digit front (without_front is_zero digits))
+    ∙ ap (λ l. list_all is_ascii_digit l) (take-append-drop (prefix_len is_zero digits) digits) ∙ e)).1
 
 kept_digits : (digits : Text) → list_all is_ascii_digit digits ≡ true → list_all is_ascii_digit (without_end is_zero digits) ≡ true
 kept_digits digits e =
     let parts = end_parts is_zero digits in
-    (and_parts (list_all is_ascii_digit (without_end is_zero digits)) (list_all is_ascii_digit parts.0) (sym (list_all-append is_ascii_digit (without_end is_zero digits) parts.0) ∙ ap (λ l. list_all is_ascii_digit l) (sym parts.1) ∙ e)).0
+    (and_parts (list_all is_ascii_digit (without_end is_zero digits)) (list_all is_ascii_digit parts.0)
+    (sym (list_all-append is_ascii_digit (without_end is_zero digits) parts.0)
+    ∙ ap (λ l. list_all is_ascii_digit l) (sym parts.1) ∙ e)).0
 
 pub all_digits : (whole fraction : Text) → list_all is_ascii_digit (whole ++ fraction) ≡ true → list_all is_ascii_digit (without_front is_zero whole ++ without_end is_zero fraction) ≡ true
 all_digits whole fraction e =

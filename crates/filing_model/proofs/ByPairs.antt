@@ -1,5 +1,7 @@
 -- Lemmas of the slow functions that compare facts pair by pair.
-use Rattle.std.proofs.Common.{◌≡◌, suc, ◌-◌, ◌≤◌, Bool, true, false, not, cond, ◌&&◌, ◌||◌, List, [], ◌∷◌, map, length, take, drop, get_or, refl, ap, sym, ◌∙◌, arith, ◌≢◌, count_by, ℕ, ◌+◌, ◌<◌, Option, fold, add-one}
+use Rattle.std.proofs.Common.{◌≡◌, suc, ◌-◌, ◌≤◌, Bool, true, false, not, cond, ◌&&◌, ◌||◌, List, [], ◌∷◌, map}
+use Rattle.std.proofs.Common.{length, take, drop, get_or, refl, ap, sym, ◌∙◌, arith, ◌≢◌, count_by, ℕ, ◌+◌, ◌<◌}
+use Rattle.std.proofs.Common.{Option, fold, add-one}
 use Rattle.std.proofs.lemmas.List.{take_rest, drop_all, length-map}
 use Rattle.std.proofs.Math.Seq.{drop-cons}
 use Rattle.std.proofs.lemmas.List.Sums.{length-filter}
@@ -20,16 +22,23 @@ module _ {X Y : Type 0} (kept : Y → Bool) (view : X → Y) where
   pub list_all_kept : (test : Y → Bool) (xs : List X) → list_all (λ x. not (kept (view x)) || test (view x)) xs ≡ list_all test (filter kept (map view xs))
   list_all_kept test [] = refl
   list_all_kept test (x ∷ xs) =
-      elim (kept (view x)) as (λ b. ((not b || test (view x)) && list_all (λ x. not (kept (view x)) || test (view x)) xs) ≡ list_all test (cond b (view x ∷ filter kept (map view xs)) (filter kept (map view xs)))) [
+      elim (kept (view x)) as (λ b. ((not b || test (view x))
+      && list_all (λ x. not (kept (view x)) || test (view x)) xs)
+      ≡ list_all test (cond b (view x ∷ filter kept (map view xs)) (filter kept (map view xs)))) [
         | true ↦ ap (λ b. test (view x) && b) (list_all_kept test xs)
         | false ↦ list_all_kept test xs
       ]
 
   -- what is asked of the first element of a list, whether it is kept or not
   pub front : (test : Y → Y → Bool) (first : X) (rest : List X)
-      → every_pair test (filter kept (map view (first ∷ rest))) ≡ ((not (kept (view first)) || list_all (λ x. not (kept (view x)) || test (view first) (view x)) rest) && every_pair test (filter kept (map view rest)))
+      → every_pair test (filter kept (map view (first ∷ rest)))
+      ≡ ((not (kept (view first)) || list_all (λ x. not (kept (view x)) || test (view first) (view x)) rest)
+      && every_pair test (filter kept (map view rest)))
   front test first rest =
-      elim (kept (view first)) as (λ b. every_pair test (cond b (view first ∷ filter kept (map view rest)) (filter kept (map view rest))) ≡ ((not b || list_all (λ x. not (kept (view x)) || test (view first) (view x)) rest) && every_pair test (filter kept (map view rest)))) [
+      elim (kept (view first)) as
+      (λ b. every_pair test (cond b (view first ∷ filter kept (map view rest)) (filter kept (map view rest)))
+      ≡ ((not b || list_all (λ x. not (kept (view x)) || test (view first) (view x)) rest)
+      && every_pair test (filter kept (map view rest)))) [
         | true ↦ ap (λ b. b && every_pair test (filter kept (map view rest))) (sym (list_all_kept (test (view first)) rest))
         | false ↦ refl
       ]
@@ -56,7 +65,9 @@ module _ {X Y : Type 0} (kept : Y → Bool) (view : X → Y) where
   same_length : (xs : List X) → length (filter (λ x. kept (view x)) xs) ≡ length (filter kept (map view xs))
   same_length [] = refl
   same_length (x ∷ xs) =
-      elim (kept (view x)) as (λ b. length (cond b (x ∷ filter (λ x. kept (view x)) xs) (filter (λ x. kept (view x)) xs)) ≡ length (cond b (view x ∷ filter kept (map view xs)) (filter kept (map view xs)))) [
+      elim (kept (view x)) as (λ b. length
+      (cond b (x ∷ filter (λ x. kept (view x)) xs) (filter (λ x. kept (view x)) xs))
+      ≡ length (cond b (view x ∷ filter kept (map view xs)) (filter kept (map view xs)))) [
         | true ↦ ap (λ n. suc n) (same_length xs)
         | false ↦ same_length xs
       ]

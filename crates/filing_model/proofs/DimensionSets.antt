@@ -1,5 +1,7 @@
 -- Lemmas on dimension sets and prefixes that are made of lists: they may be sorted first.
-use Rattle.std.proofs.Common.{◌≡◌, Bool, true, false, cond, not, ◌&&◌, T, List, map, Option, is_none, codes, Result, Ok, Err, IsPermutation, Equal, ap, sym, subst, ◌∙◌, refl, true≢false, ◌||◌, [], ◌∷◌, None, Some, is_some, is_eq, Decides}
+use Rattle.std.proofs.Common.{◌≡◌, Bool, true, false, cond, not, ◌&&◌, T, List, map, Option, is_none, codes}
+use Rattle.std.proofs.Common.{Result, Ok, Err, IsPermutation, Equal, ap, sym, subst, ◌∙◌, refl, true≢false, ◌||◌}
+use Rattle.std.proofs.Common.{[], ◌∷◌, None, Some, is_some, is_eq, Decides}
 use Rattle.std.specs.Cmp.{IsTotalOrder, Equal-is, tied_itself, on_total, then_total}
 use Rattle.std.specs.Cmp.Lexicographic.{nat_list_cmp_total, options_total, lists_total}
 use Rattle.std.specs.Option.{option_cmp, option_flatten}
@@ -80,7 +82,9 @@ pub prefixes_of-IsPermutation : (bs cs : List (Text × Text)) → IsPermutation 
 prefixes_of-IsPermutation bs cs p =
     at_false (has_repeats (names bs)) (Err names_fault.NameTwice) (judged_prefixes bs bs) (judged_prefixes bs cs) (λ n i.
     cond (has_repeats (map (λ e. e.1) bs)) (Err names_fault.AliasTwice) (Ok (same_list (from_entries bs) (from_entries cs) (from_entries-IsPermutation bs cs p n) i)))
-    ∙ (λ i. cond (same_repeats bs cs p i) (Err names_fault.NameTwice) (cond (has_repeats-IsPermutation _ _ (IsPermutation-map (λ e. e.1) bs cs p) i) (Err names_fault.AliasTwice) (Ok (from_entries cs))))
+    ∙ (λ i. cond (same_repeats bs cs p i) (Err names_fault.NameTwice)
+    (cond (has_repeats-IsPermutation _ _ (IsPermutation-map (λ e. e.1) bs cs p) i) (Err names_fault.AliasTwice)
+    (Ok (from_entries cs))))
 
 -- ---- the order of dimension sets
 

@@ -7,7 +7,9 @@ use Rattle.std.specs.List.{list_all, filter}
 use Rattle.filing_model.specs.Text.{text_eq}
 use Rattle.filing_model.specs.Dimensions.{Dims, dims_cmp, dims_eq}
 use Rattle.filing_model.specs.Facts.{Fact, FactValue, Nil, Written, Number}
-use Rattle.filing_model.specs.Duplicates.{value_pair, pair_of, is_apart, every_pair, class_of, allows, permits, facts_of, has_dims, is_disallowed, lesser_dims, least_dims, ObeysWhereNoCellIsDisallowed}
+use Rattle.filing_model.specs.Duplicates.{value_pair, pair_of, is_apart, every_pair, class_of, allows, permits}
+use Rattle.filing_model.specs.Duplicates.{facts_of, has_dims, is_disallowed, lesser_dims, least_dims}
+use Rattle.filing_model.specs.Duplicates.{ObeysWhereNoCellIsDisallowed}
 use Rattle.filing_model.specs.declared.duplicates.Allowed.{Allowed}
 use Rattle.filing_model.specs.declared.duplicates.Allowed.TheVariants as allowed
 use Rattle.filing_model.specs.declared.duplicates.Pair.TheVariants as pair
@@ -100,7 +102,9 @@ others_pass : (test : Fact → Fact → Bool) → ((f g : Fact) → dims_eq f.di
     → list_all (test f) (filter (has_dims f.dims) facts) ≡ true → list_all (test f) facts ≡ true
 others_pass test other f [] e = refl
 others_pass test other f (g ∷ facts) e =
-    (elim (dims_eq f.dims g.dims) as (λ b. dims_eq f.dims g.dims ≡ b → list_all (test f) (cond b (g ∷ filter (has_dims f.dims) facts) (filter (has_dims f.dims) facts)) ≡ true → (test f g && list_all (test f) facts) ≡ true) [
+    (elim (dims_eq f.dims g.dims) as (λ b. dims_eq f.dims g.dims ≡ b
+    → list_all (test f) (cond b (g ∷ filter (has_dims f.dims) facts) (filter (has_dims f.dims) facts)) ≡ true
+    → (test f g && list_all (test f) facts) ≡ true) [
       | true ↦ (λ k h. let t = and_parts (test f g) (list_all (test f) (filter (has_dims f.dims) facts)) h in and_from (test f g) (list_all (test f) facts) t.0 (others_pass test other f facts t.1))
       | false ↦ (λ k h. and_from (test f g) (list_all (test f) facts) (other f g k) (others_pass test other f facts h))
     ]) refl e
@@ -119,7 +123,9 @@ unfolding within_cell
 from_cells test other [] e = refl
 from_cells test other (f ∷ facts) e =
     let t = and_parts (within_cell test (f ∷ facts) f.dims) (list_all (within_cell test (f ∷ facts)) (map (λ f. f.dims) facts)) e in
-    let cell : every_pair test (f ∷ filter (has_dims f.dims) facts) ≡ true = sym (ap (λ b. every_pair test (cond b (f ∷ filter (has_dims f.dims) facts) (filter (has_dims f.dims) facts))) (dims_eq-refl f.dims))
+    let cell : every_pair test (f ∷ filter (has_dims f.dims) facts)
+    ≡ true = sym (ap (λ b. every_pair test
+    (cond b (f ∷ filter (has_dims f.dims) facts) (filter (has_dims f.dims) facts))) (dims_eq-refl f.dims))
     ∙ t.0 in
     let first = (and_parts (list_all (test f) (filter (has_dims f.dims) facts)) (every_pair test (filter (has_dims f.dims) facts)) cell).0 in
     and_from (list_all (test f) facts) (every_pair test facts)

@@ -5,7 +5,9 @@ use Rattle.filing_model.specs.Text.{Text}
 use Rattle.filing_model.specs.Numerals.{number_of}
 use Rattle.filing_model.specs.Intervals.{accuracy_of, are_decimals}
 use Rattle.filing_model.specs.Dimensions.{concept_of, unit_of}
-use Rattle.filing_model.specs.Facts.{RawFact, Fact, FactValue, Nil, Written, Names, fit_of, fit_bound, with_value, value_of, numeric_value, number_with, written_value, number_fault, expanded, are_bound, is_numeric}
+use Rattle.filing_model.specs.Facts.{RawFact, Fact, FactValue, Nil, Written, Names, fit_of, fit_bound, with_value}
+use Rattle.filing_model.specs.Facts.{value_of, numeric_value, number_with, written_value, number_fault, expanded}
+use Rattle.filing_model.specs.Facts.{are_bound, is_numeric}
 use Rattle.filing_model.specs.Writing.{raw_of, text_of, decimals_in}
 use Rattle.filing_model.specs.declared.faults.NumberFault.{NumberFault}
 use Rattle.filing_model.specs.declared.faults.NumberFault.TheVariants.{DecimalsOutOfRange}

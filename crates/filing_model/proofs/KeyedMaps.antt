@@ -22,7 +22,8 @@ use Rattle.filing_model.proofs.MapsOfLists.{from_entries-sorted}
 pub find-keyed : {V X : Type 0} (f : V → X) (q : Text) (es : List (String Global × V)) → find text_cmp q (keyed f es) ≡ option_map f (lookup (is_at (λ k. text_cmp q (string_bytes k))) es)
 find-keyed f q [] = refl
 find-keyed f q (e ∷ es) =
-    elim (is_eq (text_cmp q (string_bytes e.0))) as (λ b. cond b (Some (f e.1)) (find text_cmp q (keyed f es)) ≡ option_map f (cond b (Some e.1) (lookup (is_at (λ k. text_cmp q (string_bytes k))) es))) [
+    elim (is_eq (text_cmp q (string_bytes e.0))) as (λ b. cond b (Some (f e.1)) (find text_cmp q (keyed f es))
+    ≡ option_map f (cond b (Some e.1) (lookup (is_at (λ k. text_cmp q (string_bytes k))) es))) [
       | true ↦ refl
       | false ↦ find-keyed f q es
     ]
@@ -35,7 +36,10 @@ pub keyed-insert_entry : {V X : Type 0} (f : V → X) (es : List (String Global 
     → keyed f (insert_entry string_cmp es k v) ≡ put text_cmp (string_bytes k) (f v) (keyed f es)
 keyed-insert_entry f [] k v = refl
 keyed-insert_entry f (e ∷ es) k v =
-    elim (text_cmp (string_bytes k) (string_bytes e.0)) as (λ o. keyed f (match_ordering o ((k, v) ∷ e ∷ es) ((e.0, v) ∷ es) (e ∷ insert_entry string_cmp es k v)) ≡ by_order o ((string_bytes k, f v) ∷ keyed f (e ∷ es)) ((string_bytes e.0, f v) ∷ keyed f es) ((string_bytes e.0, f e.1) ∷ put text_cmp (string_bytes k) (f v) (keyed f es))) [
+    elim (text_cmp (string_bytes k) (string_bytes e.0)) as
+    (λ o. keyed f (match_ordering o ((k, v) ∷ e ∷ es) ((e.0, v) ∷ es) (e ∷ insert_entry string_cmp es k v))
+    ≡ by_order o ((string_bytes k, f v) ∷ keyed f (e ∷ es)) ((string_bytes e.0, f v)
+    ∷ keyed f es) ((string_bytes e.0, f e.1) ∷ put text_cmp (string_bytes k) (f v) (keyed f es))) [
       | Less ↦ refl
       | Equal ↦ refl
       | Greater ↦ ap (λ rest. (string_bytes e.0, f e.1) ∷ rest) (keyed-insert_entry f es k v)
@@ -74,12 +78,18 @@ find-set_value {V} {X} f q r (e ∷ es) w there =
     → find text_cmp r (keyed f (cond b ((e.0, w) ∷ es) (e ∷ set_value (is_at (λ k. text_cmp q (string_bytes k))) es w))) ≡ cond (text_eq r q) (Some (f w)) (find text_cmp r (keyed f (e ∷ es)))) [
       | true ↦ λ same _.
           ap (λ x. cond (text_eq r x) (Some (f w)) (find text_cmp r (keyed f es))) (sym (text_same q (string_bytes e.0) same))
-          ∙ elim (text_eq r q) as (λ b. text_eq r q ≡ b → cond b (Some (f w)) (find text_cmp r (keyed f es)) ≡ cond b (Some (f w)) (cond (text_eq r (string_bytes e.0)) (Some (f e.1)) (find text_cmp r (keyed f es)))) [
+          ∙ elim (text_eq r q) as (λ b. text_eq r q ≡ b
+          → cond b (Some (f w)) (find text_cmp r (keyed f es))
+          ≡ cond b (Some (f w)) (cond (text_eq r (string_bytes e.0)) (Some (f e.1))
+          (find text_cmp r (keyed f es)))) [
             | true ↦ λ _. refl
             | false ↦ λ apart. ap (λ b. cond b (Some (f e.1)) (find text_cmp r (keyed f es))) (sym (ap (λ x. text_eq r x) (sym (text_same q (string_bytes e.0) same)) ∙ apart))
           ] refl
       | false ↦ λ other is_there.
-          elim (text_eq r (string_bytes e.0)) as (λ b. text_eq r (string_bytes e.0) ≡ b → cond b (Some (f e.1)) (find text_cmp r (keyed f (set_value (is_at (λ k. text_cmp q (string_bytes k))) es w))) ≡ cond (text_eq r q) (Some (f w)) (cond b (Some (f e.1)) (find text_cmp r (keyed f es)))) [
+          elim (text_eq r (string_bytes e.0)) as (λ b. text_eq r (string_bytes e.0) ≡ b
+          → cond b (Some (f e.1)) (find text_cmp r
+          (keyed f (set_value (is_at (λ k. text_cmp q (string_bytes k))) es w)))
+          ≡ cond (text_eq r q) (Some (f w)) (cond b (Some (f e.1)) (find text_cmp r (keyed f es)))) [
             | true ↦ λ here. elim (text_eq r q) as (λ b. text_eq r q ≡ b → Some (f e.1) ≡ cond b (Some (f w)) (Some (f e.1))) [
               | true ↦ λ there_too. absurd (true≢false (sym (contradiction r q (string_bytes e.0) here there_too) ∙ other))
               | false ↦ λ _. refl

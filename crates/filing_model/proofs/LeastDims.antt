@@ -1,5 +1,7 @@
 -- The least of some dimensions, whatever their order.
-use Rattle.std.proofs.Common.{◌≡◌, ◌∙◌, ap, sym, refl, Bool, true, false, cond, ◌&&◌, ◌||◌, List, [], ◌∷◌, filter, fold, Some, Ordering, Less, Equal, Greater, is_lt, true≢false, IsPermutation, T, subst}
+use Rattle.std.proofs.Common.{◌≡◌, ◌∙◌, ap, sym, refl, Bool, true, false, cond, ◌&&◌, ◌||◌, List, [], ◌∷◌, filter}
+use Rattle.std.proofs.Common.{fold, Some, Ordering, Less, Equal, Greater, is_lt, true≢false, IsPermutation, T}
+use Rattle.std.proofs.Common.{subst}
 use Rattle.std.specs.List.{list_any}
 use Rattle.std.specs.Ordering.{ord_min, ordering_reverse}
 use Rattle.std.proofs.lemmas.Bool.{or_parts, or_right}

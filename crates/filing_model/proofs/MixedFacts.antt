@@ -31,7 +31,9 @@ mixed_where_dims_differ [] differ = absurd (cc)
 mixed_where_dims_differ (f ∷ []) differ = absurd (cc)
 mixed_where_dims_differ (f ∷ g ∷ facts) differ =
     let all = f ∷ g ∷ facts in
-    λ i. cond (fails is_complete refl all differ i) class.Complete (cond (fails is_consistent refl all differ i) class.Consistent (cond (fails (λ p. not (is_apart p)) refl all differ i) class.Inconsistent class.Mixed))
+    λ i. cond (fails is_complete refl all differ i) class.Complete
+    (cond (fails is_consistent refl all differ i) class.Consistent
+    (cond (fails (λ p. not (is_apart p)) refl all differ i) class.Inconsistent class.Mixed))
 
 not_mixed : (complete consistent : Bool) → cond complete class.Complete (cond consistent class.Consistent class.Inconsistent) ≢ class.Mixed
 not_mixed true consistent = λ e. cc

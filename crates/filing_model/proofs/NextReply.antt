@@ -6,7 +6,9 @@ use Rattle.filing_model.specs.Replies.{Reply}
 use Rattle.filing_model.specs.Replies as reply
 use Rattle.filing_model.specs.Things.{Thing}
 use Rattle.filing_model.specs.History.{Step, Load, Open, Ask, Commit, Close, Entry, History, status_of}
-use Rattle.filing_model.specs.Lawful.{IsLawful, IsNext, IsNextStep, IsSessionStep, IsSessionReply, IsCommitReply, IsPassed, next_reply, reply_at_status, session_reply, commit_reply_of, passed_reply, conflict_of}
+use Rattle.filing_model.specs.Lawful.{IsLawful, IsNext, IsNextStep, IsSessionStep, IsSessionReply, IsCommitReply}
+use Rattle.filing_model.specs.Lawful.{IsPassed, next_reply, reply_at_status, session_reply, commit_reply_of}
+use Rattle.filing_model.specs.Lawful.{passed_reply, conflict_of}
 use Rattle.filing_model.specs.declared.kind.Kind.{Kind}
 use Rattle.filing_model.specs.declared.kind.Kind.TheVariants.{Review, Amend}
 

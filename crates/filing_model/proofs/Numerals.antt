@@ -1,5 +1,7 @@
 -- Proofs of the laws of numerals: the number of a text and the grammar of spellings agree.
-use Rattle.std.proofs.Common.{◌≡◌, ◌≢◌, ℕ, suc, ◌+◌, ◌-◌, ◌*◌, ◌^◌, ◌<◌, ◌≤◌, ◌==◌, nat_lt, Bool, true, false, not, cond, ◌||◌, [], ◌∷◌, ◌++◌, length, take, pos, ◌*ℤ◌, Option, Some, None, Ok, Err, refl, ap, sym, ◌∙◌, arith, append_assoc, zero, zero-mul, pow-add, eqb-true}
+use Rattle.std.proofs.Common.{◌≡◌, ◌≢◌, ℕ, suc, ◌+◌, ◌-◌, ◌*◌, ◌^◌, ◌<◌, ◌≤◌, ◌==◌, nat_lt, Bool, true, false, not}
+use Rattle.std.proofs.Common.{cond, ◌||◌, [], ◌∷◌, ◌++◌, length, take, pos, ◌*ℤ◌, Option, Some, None, Ok, Err}
+use Rattle.std.proofs.Common.{refl, ap, sym, ◌∙◌, arith, append_assoc, zero, zero-mul, pow-add, eqb-true}
 use Rattle.std.proofs.lemmas.List.{length-append, take-append-drop}
 use Rattle.std.proofs.lemmas.List.Folds.{list_all-append}
 use Rattle.std.proofs.lemmas.Bool.Decides.{nat_tests}
@@ -7,7 +9,14 @@ use Rattle.std.proofs.lemmas.Bool.{and_parts, and_from}
 use Rattle.std.specs.Char.{is_ascii_digit}
 use Rattle.std.specs.List.{list_all, prefix_len, before_first, after_first}
 use Rattle.filing_model.specs.Text.{Text}
-use Rattle.filing_model.specs.Numerals.{is_blank, is_minus, is_sign, is_point, is_zero, without_front, without_end, without_blanks, is_negative, without_sign, Sign, Unsigned, Plus, Minus, sign_text, is_minus_sign, fraction_text, fraction_digits, Spelling, IsSpelling, IsShort, spelled, are_digits, are_few, size_of_few, size_of_parts, size_of, scaled, place_sum, signed, with_sign, number_of_body, number_of, most_fraction_digits, most_whole_digits, ShortSpellingsHaveTheirNumber, LongSpellingsAreTooLarge, OnlySpellingsAreNumbers}
+use Rattle.filing_model.specs.Numerals.{is_blank, is_minus, is_sign, is_point, is_zero, without_front, without_end}
+use Rattle.filing_model.specs.Numerals.{without_blanks, is_negative, without_sign, Sign, Unsigned, Plus, Minus}
+use Rattle.filing_model.specs.Numerals.{sign_text, is_minus_sign, fraction_text, fraction_digits, Spelling}
+use Rattle.filing_model.specs.Numerals.{IsSpelling, IsShort, spelled, are_digits, are_few, size_of_few}
+use Rattle.filing_model.specs.Numerals.{size_of_parts, size_of, scaled, place_sum, signed, with_sign}
+use Rattle.filing_model.specs.Numerals.{number_of_body, number_of, most_fraction_digits, most_whole_digits}
+use Rattle.filing_model.specs.Numerals.{ShortSpellingsHaveTheirNumber, LongSpellingsAreTooLarge}
+use Rattle.filing_model.specs.Numerals.{OnlySpellingsAreNumbers}
 use Rattle.filing_model.specs.declared.faults.NumberFault.TheVariants.{NotANumber, TooLarge}
 use Rattle.filing_model.proofs.Trimming.{front_skip, front_keep, end_skip, end_keep, end_parts, dropped, front_cons, before_cons, after_cons}
 
@@ -289,7 +298,8 @@ only_spellings_are_numbers text number =
     let whole = before_first is_point tail in
     let digits : are_digits (whole ++ fraction_digits (fraction_of tail)) ≡ true = ap (λ l. are_digits (whole ++ l)) (fraction_is tail) ∙ has_digits text number in
     let tests = and_parts (nat_lt 0 (length (whole ++ fraction_digits (fraction_of tail)))) (list_all is_ascii_digit (whole ++ fraction_digits (fraction_of tail))) digits in
-    let grouped : front ++ (sign_text (sign_of body) ++ (whole ++ (fraction_text (fraction_of tail) ++ end.0))) ≡ front ++ ((sign_text (sign_of body) ++ (whole ++ fraction_text (fraction_of tail))) ++ end.0) =
+    let grouped : front ++ (sign_text (sign_of body) ++ (whole ++ (fraction_text (fraction_of tail) ++ end.0)))
+    ≡ front ++ ((sign_text (sign_of body) ++ (whole ++ fraction_text (fraction_of tail))) ++ end.0) =
     simp append_assoc in (
       record { before = front; sign = sign_of body; whole = whole; fraction = fraction_of tail; after = end.0 },
       record { before_is_blank = dropped is_blank text; after_is_blank = end.2; digits = tests.1; some_digit = some_length (whole ++ fraction_digits (fraction_of tail)) tests.0 },

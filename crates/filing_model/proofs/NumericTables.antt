@@ -26,7 +26,9 @@ module _ (test : Text × Text → Bool) where
   any_inserted : (row : Text × Text) (rows : Table) → list_any test (insert_key row_cmp rows row) ≡ (test row || list_any test rows)
   any_inserted row [] = refl
   any_inserted row (other ∷ rows) =
-      elim (row_cmp row other) as (λ o. row_cmp row other ≡ o → list_any test (match_ordering o (row ∷ other ∷ rows) (other ∷ rows) (other ∷ insert_key row_cmp rows row)) ≡ (test row || (test other || list_any test rows))) [
+      elim (row_cmp row other) as (λ o. row_cmp row other ≡ o
+      → list_any test (match_ordering o (row ∷ other ∷ rows) (other ∷ rows) (other
+      ∷ insert_key row_cmp rows row)) ≡ (test row || (test other || list_any test rows))) [
         | Less ↦ λ _. refl
         | Equal ↦ λ e. asked_twice (test other) (list_any test rows) ∙ ap (λ r. test r || (test other || list_any test rows)) (sym (row_cmp-Equal row other e))
         | Greater ↦ λ _. ap (λ b. test other || b) (any_inserted row rows) ∙ swapped (test other) (test row) (list_any test rows)

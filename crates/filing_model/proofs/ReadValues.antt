@@ -1,5 +1,7 @@
 -- What is read of a JSON text: whole numbers fit 64 bits, and the names of an object's members rise.
-use Rattle.std.proofs.Common.{◌≡◌, ℕ, zero, suc, ◌≤◌, ◌<◌, ◌^◌, Bool, true, false, cond, ◌&&◌, nat_lt, nat_le, ◌==◌, slice_index, drop, pos, negsuc, neg_ℤ, T, ◌∷◌, Option, Some, None, option_map, Float, Less, Equal, Greater, refl, sym, ap, arith, subst}
+use Rattle.std.proofs.Common.{◌≡◌, ℕ, zero, suc, ◌≤◌, ◌<◌, ◌^◌, Bool, true, false, cond, ◌&&◌, nat_lt, nat_le}
+use Rattle.std.proofs.Common.{◌==◌, slice_index, drop, pos, negsuc, neg_ℤ, T, ◌∷◌, Option, Some, None, option_map}
+use Rattle.std.proofs.Common.{Float, Less, Equal, Greater, refl, sym, ap, arith, subst}
 use Rattle.std.proofs.lemmas.Cmp.{nat_list_cmp_total}
 use Rattle.std.proofs.lemmas.Bool.{and_parts, ltb-true, leb-true}
 use Rattle.std.specs.Prelude.{⊤, IfSome}

@@ -1,5 +1,7 @@
 -- A thing is fixed by its rank and its parts, and by what a hasher is fed of it.
-use Rattle.std.proofs.Common.{◌≡◌, ◌∙◌, ◌↔◌, refl, ap, sym, ℕ, zero, suc, ◌==◌, false, eq-eqb, List, [], ◌∷◌, ◌++◌, Option, Some, None, Equal, is_eq, true≢false, Decides, unwrap_or, flat_map, append_assoc, append-nil}
+use Rattle.std.proofs.Common.{◌≡◌, ◌∙◌, ◌↔◌, refl, ap, sym, ℕ, zero, suc, ◌==◌, false, eq-eqb, List, [], ◌∷◌, ◌++◌}
+use Rattle.std.proofs.Common.{Option, Some, None, Equal, is_eq, true≢false, Decides, unwrap_or, flat_map}
+use Rattle.std.proofs.Common.{append_assoc, append-nil}
 use Rattle.std.specs.Cmp.{IsTotalOrder, Equal-is, tied_itself, on_total, then_total, nat_cmp_total}
 use Rattle.std.specs.Cmp.Lexicographic.{slice_cmp, nat_list_cmp_total, options_total, lists_total}
 use Rattle.std.specs.FinMap.{nat_cmp-IsAntisymmetric, slice_cmp-IsAntisymmetric}

@@ -35,7 +35,9 @@ module _ (p : ℕ → Bool) where
   pub dropped : (xs : Text) → list_all p (take (prefix_len p xs) xs) ≡ true
   dropped [] = refl
   dropped (x ∷ xs) = elim (p x) as (λ b. p x ≡ b → list_all p (take (cond b (1 + prefix_len p xs) 0) (x ∷ xs)) ≡ true) [
-    | true ↦ (λ e. let n : 1 + prefix_len p xs ≡ suc (prefix_len p xs) = omega arith in ap (λ k. list_all p (take k (x ∷ xs))) n ∙ and_from (p x) (list_all p (take (prefix_len p xs) xs)) e (dropped xs))
+    | true ↦ (λ e. let n : 1 + prefix_len p xs
+        ≡ suc (prefix_len p xs) = omega arith in ap (λ k. list_all p (take k (x ∷ xs))) n
+        ∙ and_from (p x) (list_all p (take (prefix_len p xs) xs)) e (dropped xs))
     | false ↦ (λ e. refl)
   ] refl
 

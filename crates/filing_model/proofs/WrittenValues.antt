@@ -1,5 +1,7 @@
 -- Values that are read back from their compact text.
-use Rattle.std.proofs.Common.{◌≡◌, ℕ, suc, ◌≤◌, ◌<◌, ◌^◌, max, false, true≢false, pos, negsuc, T, List, [], ◌++◌, Option, Some, None, option_map, option_and_then, Less, Greater, refl, sym, ap, ◌∙◌, arith, append-nil, subst, inl, inr, eq-or-lt_of_le}
+use Rattle.std.proofs.Common.{◌≡◌, ℕ, suc, ◌≤◌, ◌<◌, ◌^◌, max, false, true≢false, pos, negsuc, T, List, [], ◌++◌}
+use Rattle.std.proofs.Common.{Option, Some, None, option_map, option_and_then, Less, Greater, refl, sym, ap, ◌∙◌}
+use Rattle.std.proofs.Common.{arith, append-nil, subst, inl, inr, eq-or-lt_of_le}
 use Rattle.std.proofs.lemmas.Cmp.{nat_list_cmp_total}
 use Rattle.std.proofs.lemmas.Bool.{or_parts}
 use Rattle.std.specs.Prelude.{⊤}
@@ -16,7 +18,9 @@ use Rattle.json.specs.Tree as tree
 use Rattle.json.proofs.Printed.Decimals.{IsNumber-decimal, IsNumber-signed_decimal}
 use Rattle.json.proofs.Printed.Tokens.{tokens-print}
 use Rattle.json.proofs.Printed.Trees.{value-json_tokens, ArePrintable-json_tokens}
-use Rattle.serde_json.specs.Data.{Num, unsigned, negative, float, Data, null, boolean, number, string, array, object, Items, no_items, item, Members, no_members, member, put, depth, items_depth, members_depth}
+use Rattle.serde_json.specs.Data.{Num, unsigned, negative, float, Data, null, boolean, number, string, array}
+use Rattle.serde_json.specs.Data.{object, Items, no_items, item, Members, no_members, member, put, depth}
+use Rattle.serde_json.specs.Data.{items_depth, members_depth}
 use Rattle.serde_json.specs.Find.{is_float}
 use Rattle.serde_json.specs.Read.{of_json, of_items, of_members, number_of, max_depth, read}
 use Rattle.serde_json.specs.Written.{outline, items_outline, members_outline, number_text, compact_text, has_float, items_have_float, members_have_float}

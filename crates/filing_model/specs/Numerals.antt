@@ -1,5 +1,7 @@
 -- Numbers as texts (XML Schema 1.0 Part 2, decimal; no exponents). The limits on digits are the project's own.
-use Rattle.std.specs.Prelude.{◌≡◌, ℕ, ◌+◌, ◌-◌, ◌*◌, ◌^◌, ◌<◌, ◌≤◌, ◌≢◌, ◌==◌, nat_le, nat_lt, Bool, false, cond, ◌&&◌, ◌||◌, IsTrue, [], ◌∷◌, ◌++◌, length, take, drop, ℤ, pos, neg_ℤ, nat_abs, ◌*ℤ◌, Option, None, Some, Result, Ok, Err}
+use Rattle.std.specs.Prelude.{◌≡◌, ℕ, ◌+◌, ◌-◌, ◌*◌, ◌^◌, ◌<◌, ◌≤◌, ◌≢◌, ◌==◌, nat_le, nat_lt, Bool, false, cond}
+use Rattle.std.specs.Prelude.{◌&&◌, ◌||◌, IsTrue, [], ◌∷◌, ◌++◌, length, take, drop, ℤ, pos, neg_ℤ, nat_abs, ◌*ℤ◌}
+use Rattle.std.specs.Prelude.{Option, None, Some, Result, Ok, Err}
 use Rattle.std.specs.Char.{is_ascii_digit}
 use Rattle.std.specs.List.{list_all, prefix_len, suffix_len, before_first, after_first}
 use Rattle.filing_model.specs.Text.{Text}

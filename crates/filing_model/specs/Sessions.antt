@@ -91,7 +91,9 @@ repository_obeys c = list_all (λ e. report_obeys e.1) c.reports.entries
 
 -- the least cell of the report that it does not allow. Where it obeys there is none
 abbrev pub disallowed_cell : Text → Report → Reply
-disallowed_cell name r = option_map_or (λ dims. reply.Disallowed name (class_of (cell_facts dims r.facts)) (cell_ids dims r.facts)) (least_disallowed r.allowed r.facts.entries) (reply.Disallowed name Empty [])
+disallowed_cell name r = option_map_or
+    (λ dims. reply.Disallowed name (class_of (cell_facts dims r.facts)) (cell_ids dims r.facts))
+    (least_disallowed r.allowed r.facts.entries) (reply.Disallowed name Empty [])
 
 -- the refusal of a repository that disobeys: by its least report that does. One that obeys has none
 abbrev pub refusal_of : Repository → Option Reply

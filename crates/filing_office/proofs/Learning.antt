@@ -1,5 +1,7 @@
 -- What a reviewer knows that has learnt receipts.
-use Rattle.std.proofs.Common.{◌≡◌, ◌∙◌, ap, sym, subst, refl, arith, ℕ, ◌+◌, ◌≤◌, ◌<◌, List, [], ◌∷◌, ◌++◌, length, ◌-◌, length-append, Option, Some, None, Result, Ok, Err, is_some, option_map, true, false, true≢false}
+use Rattle.std.proofs.Common.{◌≡◌, ◌∙◌, ap, sym, subst, refl, arith, ℕ, ◌+◌, ◌≤◌, ◌<◌, List, [], ◌∷◌, ◌++◌, length}
+use Rattle.std.proofs.Common.{◌-◌, length-append, Option, Some, None, Result, Ok, Err, is_some, option_map, true}
+use Rattle.std.proofs.Common.{false, true≢false}
 use Rattle.std.specs.Prelude.{All, IfOk, OnOk, IfSome, IsSome, OnErr, take, drop, get_or, slice_index_or, zero, suc}
 use Rattle.std.proofs.lemmas.List.Elements.{All-append}
 use Rattle.std.proofs.Math.Seq.{take-suc}
@@ -40,7 +42,8 @@ pub nothing_within : {J : Type 0} (n : ℕ) → All (IsWithin {J = J} n) []
 nothing_within n = λ k d lt. absurd (omega (arith, lt))
 
 -- one outcome more
-pub one_more_within : {J : Type 0} (n : ℕ) (os : List (Outcome J)) (i : ℕ) (d : Outcome J) → i < length os → All (IsWithin n) (take i os) → IsWithin n (get_or os i d) → All (IsWithin n) (take (i + 1) os)
+pub one_more_within : {J : Type 0} (n : ℕ) (os : List (Outcome J)) (i : ℕ) (d : Outcome J) → i < length os
+    → All (IsWithin n) (take i os) → IsWithin n (get_or os i d) → All (IsWithin n) (take (i + 1) os)
 one_more_within {J} n os i d lt before here =
     let next : suc i ≡ i + 1 = omega arith in
     subst (λ m. All (IsWithin n) (take m os)) next
@@ -86,9 +89,13 @@ reply_so f (Err e) x y is same = tt
 pub all_learnt : {J : Type 0} (n i : ℕ) (os : List (Outcome J)) → All (IsWithin n) (take i os) → All (IsWithin n) (drop i os) → All (IsWithin n) os
 all_learnt n i os before others = subst (λ xs. All (IsWithin n) xs) (take-append-drop i os) (All-append (IsWithin n) (take i os) (drop i os) before others)
 
-module _ {J E : Type 0} (s t : Turning) (told : List (Outcome J)) (seen learned now : List Repository) (had : s.state.seen ≡ Some seen) (left : t.state ≡ record s.state { seen = Some now }) (begins : IsPrefix seen learned) where
+module _ {J E : Type 0} (s t : Turning) (told : List (Outcome J)) (seen learned now : List Repository)
+    (had : s.state.seen ≡ Some seen) (left : t.state
+    ≡ record s.state { seen = Some now }) (begins : IsPrefix seen learned) where
   -- a review after receipts were learnt
-  pub reviewed_from : (r : Result Repository E) → All (IsWithin (length learned)) told → IfOk r (λ last. EndsWith now last) → OnOk r (IsChain now) → OnOk r (IsPrefix learned now) → OnErr r (now ≡ learned) → IsReviewedFrom s t told r
+  pub reviewed_from : (r : Result Repository E) → All (IsWithin (length learned)) told
+      → IfOk r (λ last. EndsWith now last) → OnOk r (IsChain now) → OnOk r (IsPrefix learned now)
+      → OnErr r (now ≡ learned) → IsReviewedFrom s t told r
   reviewed_from (Ok last) all newest chain goes_on same = λ was is. (
     now,
     record {
@@ -118,13 +125,16 @@ grows (Ok x) old new begins same = prefix_length old new begins
 grows (Err e) old new begins same = omega (arith, ap length same)
 
 -- what was learnt is known to a reviewer that has seen more
-pub still_learnt : {J : Type 0} (i : ℕ) (reviewer : Option (List Repository)) (seen now : List Repository) (told : List (Outcome J)) → reviewer ≡ Some seen → length seen ≤ length now → HasLearnt i reviewer told
+pub still_learnt : {J : Type 0} (i : ℕ) (reviewer : Option (List Repository)) (seen now : List Repository)
+    (told : List (Outcome J)) → reviewer ≡ Some seen → length seen ≤ length now → HasLearnt i reviewer told
     → All (IsWithin (length now)) (take i told)
 still_learnt i reviewer seen now told is more known =
     all_within_more (length seen) (length now) (take i told) more (subst (λ o. HasLearnt i o told) is known)
 
 -- and so are the others
-pub all_known : {J T E : Type 0} (i : ℕ) (reviewer : Option (List Repository)) (seen now : List Repository) (told : List (Outcome J)) (r : Result T E) → reviewer ≡ Some seen → IsPrefix seen now → HasLearnt i reviewer told → is_ok r ≡ true
+pub all_known : {J T E : Type 0} (i : ℕ) (reviewer : Option (List Repository)) (seen now : List Repository)
+    (told : List (Outcome J)) (r : Result T E) → reviewer ≡ Some seen → IsPrefix seen now → HasLearnt i reviewer told
+    → is_ok r ≡ true
     → OnOk r (All (IsWithin (length now)) (take (length told - i) (drop i told))) → All (IsWithin (length now)) told
 all_known i reviewer seen now told r is begins known good others =
     all_learnt (length now) i told (still_learnt i reviewer seen now told is (prefix_length seen now begins) known)

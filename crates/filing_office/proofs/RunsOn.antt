@@ -13,7 +13,9 @@ RunsOn start now all rest told = (t : RunState) (os : List (Outcome _)) → Runs
 pub begins : {J : Type 0} (s : RunState) (all : List DeskStep) (told : List (Outcome J)) → told ≡ [] → RunsOn s s all all told
 begins s all told none = λ t os runs. subst (λ xs. Runs s t [] all (xs ++ os)) (sym none) (subst (λ xs. Runs s t xs all os) none runs)
 
-module _ {J : Type 0} (start now mid : RunState) (all rest : List DeskStep) (x : DeskStep) (told : List (Outcome J)) (o : Outcome J) (before : RunsOn start now all (x ∷ rest) told) (goes : Goes now mid told (string_bytes x.name) (step_of x.step) o) where
+module _ {J : Type 0} (start now mid : RunState) (all rest : List DeskStep) (x : DeskStep) (told : List (Outcome J))
+    (o : Outcome J) (before : RunsOn start now all (x ∷ rest) told)
+    (goes : Goes now mid told (string_bytes x.name) (step_of x.step) o) where
   pub goes_on : is_no_memory o ≡ false → RunsOn start mid all rest (told ++ o ∷ [])
   goes_on more = λ t os runs.
       subst (λ xs. Runs start t [] all xs) (sym (append_assoc told (o ∷ []) os))

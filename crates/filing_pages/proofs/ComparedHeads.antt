@@ -1,5 +1,7 @@
 -- Names whose heads differ stand as these do.
-use Rattle.std.proofs.Common.{◌≡◌, ◌∙◌, ap, sym, refl, ℕ, zero, suc, ◌+◌, ◌≤◌, ◌<◌, ◌*◌, arith, Bool, true, false, List, [], ◌∷◌, drop, length, get_or, nat_lt, Ordering, Less, Equal, Greater, is_lt, true≢false, ltb-true, ltb-false}
+use Rattle.std.proofs.Common.{◌≡◌, ◌∙◌, ap, sym, refl, ℕ, zero, suc, ◌+◌, ◌≤◌, ◌<◌, ◌*◌, arith, Bool, true, false}
+use Rattle.std.proofs.Common.{List, [], ◌∷◌, drop, length, get_or, nat_lt, Ordering, Less, Equal, Greater, is_lt}
+use Rattle.std.proofs.Common.{true≢false, ltb-true, ltb-false}
 use Rattle.std.specs.Cmp.{nat_cmp_is, ranks, tied_itself}
 use Rattle.std.specs.Cmp.Lexicographic.{slice_cmp, nat_list_cmp_total}
 use Rattle.std.specs.Ordering.{nat_cmp, ordering_then, ordering_reverse, MatchOrdering}

@@ -35,7 +35,10 @@ module _ {X : Type 0} where
       → entries (where_key name_cmp (λ k. not (eq_by_cmp name_cmp e k)) (keyed es)) ≡ where_key text_cmp (λ k. not (text_eq e.0 k)) es
   where_key-keyed e [] = refl
   where_key-keyed e (f ∷ fs) =
-      elim (not (text_eq e.0 f.0)) as (λ b. entries (cond b ((f, f) ∷ where_key name_cmp (λ k. not (eq_by_cmp name_cmp e k)) (keyed fs)) (where_key name_cmp (λ k. not (eq_by_cmp name_cmp e k)) (keyed fs)))
+      elim (not (text_eq e.0 f.0)) as
+      (λ b. entries (cond b ((f, f)
+      ∷ where_key name_cmp (λ k. not (eq_by_cmp name_cmp e k)) (keyed fs))
+      (where_key name_cmp (λ k. not (eq_by_cmp name_cmp e k)) (keyed fs)))
       ≡ cond b (f ∷ where_key text_cmp (λ k. not (text_eq e.0 k)) fs) (where_key text_cmp (λ k. not (text_eq e.0 k)) fs)) [
         | true ↦ ap (λ es. f ∷ es) (where_key-keyed e fs)
         | false ↦ where_key-keyed e fs

@@ -1,5 +1,7 @@
 -- Of two names the one with the lesser key is less.
-use Rattle.std.proofs.Common.{◌≡◌, ◌∙◌, ap, sym, subst, refl, ℕ, zero, suc, ◌+◌, ◌*◌, ◌<◌, ◌≤◌, min, arith, Bool, true, false, cond, [], ◌∷◌, nat_lt, Ordering, Less, Equal, Greater, is_lt, true≢false, ltb-true, ltb-false}
+use Rattle.std.proofs.Common.{◌≡◌, ◌∙◌, ap, sym, subst, refl, ℕ, zero, suc, ◌+◌, ◌*◌, ◌<◌, ◌≤◌, min, arith, Bool}
+use Rattle.std.proofs.Common.{true, false, cond, [], ◌∷◌, nat_lt, Ordering, Less, Equal, Greater, is_lt}
+use Rattle.std.proofs.Common.{true≢false, ltb-true, ltb-false}
 use Rattle.std.specs.Cmp.{nat_cmp_is, ranks}
 use Rattle.std.specs.Ordering.{nat_cmp, ordering_then, MatchOrdering}
 use Rattle.filing_model.specs.Text.{Text, text_cmp}

@@ -192,7 +192,9 @@ not_staged ask told after before same = refl
 review_stages_nothing : (ask : Call) (after : Repository) (before : Change) → change_after ask (answer Review ask after).0 (answer Review ask after).1 before ≡ before
 review_stages_nothing (call.Get name id) after before = not_staged (call.Get name id) (answer Review (call.Get name id) after).0 (answer Review (call.Get name id) after).1 before refl
 review_stages_nothing (call.Cell name dims) after before = not_staged (call.Cell name dims) (answer Review (call.Cell name dims) after).0 (answer Review (call.Cell name dims) after).1 before refl
-review_stages_nothing (call.Page name sought limit) after before = not_staged (call.Page name sought limit) (answer Review (call.Page name sought limit) after).0 (answer Review (call.Page name sought limit) after).1 before refl
+review_stages_nothing (call.Page name sought limit) after before = not_staged (call.Page name sought limit)
+    (answer Review (call.Page name sought limit) after).0 (answer Review (call.Page name sought limit) after).1
+    before refl
 review_stages_nothing (call.Add name id raw) after before = refl
 review_stages_nothing (call.Remove name id) after before = refl
 review_stages_nothing (call.Declared name) after before = not_staged (call.Declared name) (answer Review (call.Declared name) after).0 (answer Review (call.Declared name) after).1 before refl

@@ -10,7 +10,9 @@ use Rattle.filing_model.specs.History.{Ask}
 use Rattle.filing_step.specs.declared.step.Step.{Step}
 use Rattle.filing_text.specs.AskedStep.{AreAsked, IsAsked, asking_in}
 use Rattle.filing_text.specs.Script.{call_read}
-use Rattle.filing_text.specs.ScriptLines.{◌>>=◌, Asking, Get, Cell, Page, Add, Remove, Declared, Declare, text_at, object_at, asked_at, nullable_at, limit_at, ends_at, get_at, cell_at, page_at, add_at, remove_at, declared_at, declare_at, asking_at}
+use Rattle.filing_text.specs.ScriptLines.{◌>>=◌, Asking, Get, Cell, Page, Add, Remove, Declared, Declare, text_at}
+use Rattle.filing_text.specs.ScriptLines.{object_at, asked_at, nullable_at, limit_at, ends_at, get_at, cell_at}
+use Rattle.filing_text.specs.ScriptLines.{page_at, add_at, remove_at, declared_at, declare_at, asking_at}
 
 -- behind a report, or behind a report and an identifier
 abbrev HasPart : ℕ → Data → Option Asking → Type 0

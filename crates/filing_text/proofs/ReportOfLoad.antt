@@ -1,5 +1,7 @@
 -- Where the report of a load stands in its line.
-use Rattle.std.proofs.Common.{◌≡◌, ◌∙◌, ap, sym, subst, refl, Bool, true, false, cond, codes, Option, Some, None, is_some, unwrap_or, option_and_then, ◌||◌, Result, Ok, Err, IfOk, String, string_bytes}
+use Rattle.std.proofs.Common.{◌≡◌, ◌∙◌, ap, sym, subst, refl, Bool, true, false, cond, codes, Option, Some, None}
+use Rattle.std.proofs.Common.{is_some, unwrap_or, option_and_then, ◌||◌, Result, Ok, Err, IfOk, String}
+use Rattle.std.proofs.Common.{string_bytes}
 use Rattle.std.specs.declared.alloc.Global.{Global}
 use Rattle.std.specs.declared.alloc.AllocError.{AllocError}
 use Rattle.serde_json.specs.Data.{Data}
@@ -9,7 +11,9 @@ use Rattle.std.specs.Option.{option_map_or}
 use Rattle.filing_model.specs.Text.{Text}
 use Rattle.filing_text.specs.ReplyText.{bad_line_text}
 use Rattle.filing_text.specs.Script.{State, Told, report_in, judged_load, judged_line, answered, value_answer}
-use Rattle.filing_text.specs.ScriptLines.{◌>>=◌, Asking, Line, Load, Open, Ask, Commit, Close, Export, kind_of_word, text_at, ends_at, load_of, open_of, commit_of, close_of, export_of, asking_at, asking_of_word, line_of_word, line_of}
+use Rattle.filing_text.specs.ScriptLines.{◌>>=◌, Asking, Line, Load, Open, Ask, Commit, Close, Export}
+use Rattle.filing_text.specs.ScriptLines.{kind_of_word, text_at, ends_at, load_of, open_of, commit_of, close_of}
+use Rattle.filing_text.specs.ScriptLines.{export_of, asking_at, asking_of_word, line_of_word, line_of}
 
 -- a load has its report as the third part of the value
 abbrev pub HasReport : Data → Option Line → Type 0

@@ -1,5 +1,7 @@
 -- The version that a load or a change makes, by the reports that it holds.
-use Rattle.std.proofs.Common.{◌≡◌, ◌∙◌, ap, sym, refl, subst, T, Bool, true, false, cond, ◌&&◌, ◌||◌, List, [], ◌∷◌, map, Option, Some, None, is_some, option_map, option_and_then, unwrap_or, ℕ, ◌+◌, true≢false, arith}
+use Rattle.std.proofs.Common.{◌≡◌, ◌∙◌, ap, sym, refl, subst, T, Bool, true, false, cond, ◌&&◌, ◌||◌, List, []}
+use Rattle.std.proofs.Common.{◌∷◌, map, Option, Some, None, is_some, option_map, option_and_then, unwrap_or, ℕ}
+use Rattle.std.proofs.Common.{◌+◌, true≢false, arith}
 use Rattle.std.specs.Prelude.{◌≤◌}
 use Rattle.std.specs.List.{list_any}
 use Rattle.std.specs.Option.{option_map_or}
@@ -85,7 +87,9 @@ module _ (number : ℕ) (change : Change) (filed : TextMap Filed) where
   abbrev after : TextMap Filed
   after = filed_after (number + 1) change.entries filed
 
-  reported : (o : Option ReportChange) (p : Option Filed) → option_map (λ f. f.report) (option_map (changed_by (number + 1) o) p) ≡ option_map (changed (unwrap_or o no_change)) (option_map (λ f. f.report) p)
+  reported : (o : Option ReportChange) (p : Option Filed)
+      → option_map (λ f. f.report) (option_map (changed_by (number + 1) o) p)
+      ≡ option_map (changed (unwrap_or o no_change)) (option_map (λ f. f.report) p)
   reported o None = refl
   reported None (Some f) = refl
   reported (Some c) (Some f) = refl
@@ -151,7 +155,8 @@ module _ (number : ℕ) (change : Change) (filed : TextMap Filed) where
 
     moved_range : (sought : _) (upto : Option Text) → is_moved moves (Range sought upto)
         ≡ list_any (λ e. is_within sought.after upto e.0 && passes_at (answers_query sought.concept sought.period) base next name e.0) c.facts.entries
-    moved_range sought upto = any_same (is_moved_in (Range sought upto)) (λ id. is_within sought.after upto id && passes_at (answers_query sought.concept sought.period) base next name id) c.facts.entries
+    moved_range sought upto = any_same (is_moved_in (Range sought upto)) (λ id. is_within sought.after upto id
+        && passes_at (answers_query sought.concept sought.period) base next name id) c.facts.entries
         (λ id new found. ap (λ b. is_within sought.after upto id && b) (passes_there (answers_query sought.concept sought.period) id new found)) each_there
 
     -- one identifier is among the changed ones exactly where something is found under it
@@ -188,16 +193,26 @@ module _ (number : ℕ) (change : Change) (filed : TextMap Filed) where
         (moved_cell dims ∙ λ i. list_any (λ e. passes_at (has_dims dims) base next (sym is i) e.0) (unwrap_or (sym (ap (get change) is ∙ changes) i) no_change).facts.entries)
     stamped_there (thing.Range other sought upto) is =
         ap (λ b. cond b (number + 1) (f.stamp (Range sought upto)))
-        (moved_range sought upto ∙ λ i. list_any (λ e. is_within sought.after upto e.0 && passes_at (answers_query sought.concept sought.period) base next (sym is i) e.0) (unwrap_or (sym (ap (get change) is ∙ changes) i) no_change).facts.entries)
+        (moved_range sought upto
+        ∙ λ i. list_any (λ e. is_within sought.after upto e.0
+        && passes_at (answers_query sought.concept sought.period) base next (sym is i) e.0)
+        (unwrap_or (sym (ap (get change) is ∙ changes) i) no_change).facts.entries)
     stamped_there (thing.Policy other) is =
         ap (λ o. cond (is_some (unwrap_or o no_change).declared) (number + 1) f.declared) (sym (ap (get change) is ∙ changes))
 
   -- nothing is stamped in a report that the change leaves as it is
   unstamped : (t : Thing) → get change (report_of t) ≡ None → is_stamped (version_of number filed).repository (after_change change (version_of number filed).repository) change t ≡ false
   unstamped (thing.Report name) is = refl
-  unstamped (thing.Id name id) is = ap (λ o. is_some (get (unwrap_or o no_change).facts id) && passes_at (λ fact. true) (version_of number filed).repository (after_change change (version_of number filed).repository) name id) is
-  unstamped (thing.Cell name dims) is = ap (λ o. list_any (λ e. passes_at (has_dims dims) (version_of number filed).repository (after_change change (version_of number filed).repository) name e.0) (unwrap_or o no_change).facts.entries) is
-  unstamped (thing.Range name sought upto) is = ap (λ o. list_any (λ e. is_within sought.after upto e.0 && passes_at (answers_query sought.concept sought.period) (version_of number filed).repository (after_change change (version_of number filed).repository) name e.0) (unwrap_or o no_change).facts.entries) is
+  unstamped (thing.Id name id) is = ap (λ o. is_some (get (unwrap_or o no_change).facts id)
+      && passes_at (λ fact. true) (version_of number filed).repository
+      (after_change change (version_of number filed).repository) name id) is
+  unstamped (thing.Cell name dims) is = ap
+      (λ o. list_any (λ e. passes_at (has_dims dims) (version_of number filed).repository
+      (after_change change (version_of number filed).repository) name e.0) (unwrap_or o no_change).facts.entries) is
+  unstamped (thing.Range name sought upto) is = ap
+      (λ o. list_any (λ e. is_within sought.after upto e.0
+      && passes_at (answers_query sought.concept sought.period) (version_of number filed).repository
+      (after_change change (version_of number filed).repository) name e.0) (unwrap_or o no_change).facts.entries) is
   unstamped (thing.Policy name) is = ap (λ o. is_some (unwrap_or o no_change).declared) is
 
   stamps_after : ChangesWhatIsThere change filed → (t : Thing)

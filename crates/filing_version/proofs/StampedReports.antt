@@ -1,5 +1,7 @@
 -- The version that stamped reports are, look-up by look-up, and after a load or a change.
-use Rattle.std.proofs.Common.{◌≡◌, ◌∙◌, ap, sym, refl, subst, cond, true, false, Bool, ◌||◌, filter, filter_map, fold, true≢false, List, [], ◌∷◌, Option, Some, None, option_map, option_and_then, is_some, ℕ, arith}
+use Rattle.std.proofs.Common.{◌≡◌, ◌∙◌, ap, sym, refl, subst, cond, true, false, Bool, ◌||◌, filter, filter_map}
+use Rattle.std.proofs.Common.{fold, true≢false, List, [], ◌∷◌, Option, Some, None, option_map, option_and_then}
+use Rattle.std.proofs.Common.{is_some, ℕ, arith}
 use Rattle.std.specs.Prelude.{◌≤◌}
 use Rattle.std.specs.Option.{option_map_or, option_or}
 use Rattle.std.proofs.lemmas.Bool.{and_parts}
@@ -24,7 +26,9 @@ use Rattle.filing_model.proofs.Texts.{text_same}
 use Rattle.filing_index.specs.Moves.{Part, Id, Cell, Range, Move, moves_of, passes, is_moved_in, is_moved, stamped_by, with_changes}
 use Rattle.filing_index.specs.Moved.{moves_in}
 use Rattle.filing_index.specs.Stamps.{stamp_in as part_stamp}
-use Rattle.filing_version.specs.Filed.{Filed, mapped, stamp_in, stamp_at, changed_filed, filed_after, StampedReport, filed_of, StampedReports, KeepsItsStamps, IsStampedUpTo, version_of, version_in, repository_in}
+use Rattle.filing_version.specs.Filed.{Filed, mapped, stamp_in, stamp_at, changed_filed, filed_after}
+use Rattle.filing_version.specs.Filed.{StampedReport, filed_of, StampedReports, KeepsItsStamps, IsStampedUpTo}
+use Rattle.filing_version.specs.Filed.{version_of, version_in, repository_in}
 use Rattle.filing_version.proofs.FiledReports.{get-mapped, report_at-version_of}
 
 -- ---- look-ups
@@ -233,7 +237,9 @@ pub changed_front : (change : ReportChange) (front : Report) (facts : TextMap Fa
     → record (declaring_if change.declared front) { facts = with_changes change.facts.entries facts } ≡ changed change (record front { facts = facts })
 changed_front change front facts =
     same_front change.declared front facts (with_changes change.facts.entries facts)
-    ∙ ap (λ m. record (declaring_if change.declared (record front { facts = facts })) { facts = with_changes change.facts.entries m }) (sym (declared_facts change.declared (record front { facts = facts })))
+    ∙ ap (λ m. record (declaring_if change.declared (record front { facts = facts }))
+    { facts = with_changes change.facts.entries m })
+    (sym (declared_facts change.declared (record front { facts = facts })))
     ∙ sym (with_facts-report change.facts.entries (declaring_if change.declared (record front { facts = facts })))
 
 -- ---- another report of the same stamps

@@ -1,5 +1,7 @@
 -- Prefixes with their URIs that are sorted by either column.
-use Rattle.std.proofs.Common.{◌≡◌, ◌∙◌, ap, sym, refl, subst, Bool, true, false, cond, T, List, [], ◌∷◌, map, Result, Ok, Err, IsPermutation, is_lt, string_bytes, ℕ, length, get_or, Option, Some, None, MatchResult}
+use Rattle.std.proofs.Common.{◌≡◌, ◌∙◌, ap, sym, refl, subst, Bool, true, false, cond, T, List, [], ◌∷◌, map}
+use Rattle.std.proofs.Common.{Result, Ok, Err, IsPermutation, is_lt, string_bytes, ℕ, length, get_or, Option, Some}
+use Rattle.std.proofs.Common.{None, MatchResult}
 use Rattle.std.specs.Result.{result_map_both}
 use Rattle.std.specs.Cmp.{IsStrictWeakOrder}
 use Rattle.std.specs.Cmp.Lexicographic.{nat_list_cmp_total}

@@ -1,5 +1,7 @@
 -- A numeric table that is sorted with no row twice is the table of its rows.
-use Rattle.std.proofs.Common.{◌≡◌, ◌∙◌, ap, sym, refl, subst, ℕ, Bool, true, false, ◌&&◌, ◌||◌, cond, T, List, [], ◌∷◌, map, fold, Option, Some, None, is_some, Less, Equal, Greater, is_lt, true≢false, IsPermutation, String, string_bytes, Result, is_ok, length}
+use Rattle.std.proofs.Common.{◌≡◌, ◌∙◌, ap, sym, refl, subst, ℕ, Bool, true, false, ◌&&◌, ◌||◌, cond, T, List, []}
+use Rattle.std.proofs.Common.{◌∷◌, map, fold, Option, Some, None, is_some, Less, Equal, Greater, is_lt, true≢false}
+use Rattle.std.proofs.Common.{IsPermutation, String, string_bytes, Result, is_ok, length}
 use Rattle.std.specs.Cmp.{first_so, second_so, tied_then}
 use Rattle.std.specs.Cmp.Lexicographic.{texts_ties, same_text}
 use Rattle.std.specs.Ordering.{match_ordering, eq_by_cmp}

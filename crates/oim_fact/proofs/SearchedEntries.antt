@@ -1,5 +1,7 @@
 -- What a binary search answers of entries whose keys strictly rise: what a look-up in them finds.
-use Rattle.std.proofs.Common.{◌≡◌, ◌∙◌, ap, sym, refl, ℕ, zero, suc, ◌+◌, ◌<◌, arith, false, cond, T, List, [], ◌∷◌, map, length, get_or, Some, None, Result, Ok, Err, is_ok, is_some, MatchResult, Ordering, Less, Equal, Greater, is_eq, is_lt, inl, inr}
+use Rattle.std.proofs.Common.{◌≡◌, ◌∙◌, ap, sym, refl, ℕ, zero, suc, ◌+◌, ◌<◌, arith, false, cond, T, List, []}
+use Rattle.std.proofs.Common.{◌∷◌, map, length, get_or, Some, None, Result, Ok, Err, is_ok, is_some, MatchResult}
+use Rattle.std.proofs.Common.{Ordering, Less, Equal, Greater, is_eq, is_lt, inl, inr}
 use Rattle.std.specs.Cmp.{IsTotalOrder, tied_back}
 use Rattle.std.specs.Ordering.{ordering_reverse}
 use Rattle.std.specs.List.Sorted.{IsSortedBy, IsBinarySearchResult, IsSearchInRange}

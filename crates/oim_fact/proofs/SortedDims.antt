@@ -1,5 +1,7 @@
 -- Dimensions that were sorted: the set is the list itself, unless a test fails.
-use Rattle.std.proofs.Common.{cond, not, None, Some, Result, Ok, Err, string_bytes, IsPermutation, ◌≡◌, ◌∙◌, ap, sym, subst, refl, true, false, List, [], ◌∷◌, map, Option, Ordering, Less, Equal, Greater, is_lt, IsSorted}
+use Rattle.std.proofs.Common.{cond, not, None, Some, Result, Ok, Err, string_bytes, IsPermutation, ◌≡◌, ◌∙◌, ap}
+use Rattle.std.proofs.Common.{sym, subst, refl, true, false, List, [], ◌∷◌, map, Option, Ordering, Less, Equal}
+use Rattle.std.proofs.Common.{Greater, is_lt, IsSorted}
 use Rattle.std.specs.Ordering.{ordering_then}
 use Rattle.std.specs.List.{list_any}
 use Rattle.std.specs.String.{string_cmp}

@@ -1,5 +1,8 @@
 -- The lines of a numeric table, one by one.
-use Rattle.std.proofs.Common.{◌≡◌, ◌≢◌, ◌∙◌, ap, sym, refl, ℕ, suc, ◌+◌, ◌-◌, ◌<◌, arith, Bool, true, false, cond, not, ◌&&◌, nat_lt, List, [], ◌∷◌, length, take, get_or, Option, Some, None, ◌++◌, ◌≤◌, take-append-drop, drop-cons, map, filter, option_map, Result, Ok, Bor, IfSome, String}
+use Rattle.std.proofs.Common.{◌≡◌, ◌≢◌, ◌∙◌, ap, sym, refl, ℕ, suc, ◌+◌, ◌-◌, ◌<◌, arith, Bool, true, false, cond}
+use Rattle.std.proofs.Common.{not, ◌&&◌, nat_lt, List, [], ◌∷◌, length, take, get_or, Option, Some, None, ◌++◌}
+use Rattle.std.proofs.Common.{◌≤◌, take-append-drop, drop-cons, map, filter, option_map, Result, Ok, Bor, IfSome}
+use Rattle.std.proofs.Common.{String}
 use Rattle.std.proofs.lemmas.List.{drop_all, map-append}
 use Rattle.std.specs.declared.alloc.Global.{Global}
 use Rattle.std.proofs.lemmas.Bool.{ne_eqb}

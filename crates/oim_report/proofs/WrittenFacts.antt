@@ -1,5 +1,7 @@
 -- The JSON object that stands for a raw fact: what is written of it, and what is read of it.
-use Rattle.std.proofs.Common.{◌≡◌, ℤ, pos, negsuc, T, ◌&&◌, Bool, true, false, cond, [], ◌∷◌, ◌++◌, codes, Option, Some, None, option_map, Ok, Err, is_lt, refl, sym, ap, ◌∙◌, arith, append_assoc, subst, lt-ltb}
+use Rattle.std.proofs.Common.{◌≡◌, ℤ, pos, negsuc, T, ◌&&◌, Bool, true, false, cond, [], ◌∷◌, ◌++◌, codes, Option}
+use Rattle.std.proofs.Common.{Some, None, option_map, Ok, Err, is_lt, refl, sym, ap, ◌∙◌, arith, append_assoc}
+use Rattle.std.proofs.Common.{subst, lt-ltb}
 use Rattle.std.specs.Prelude.{⊤}
 use Rattle.std.specs.Option.{option_and_then, ok_or}
 use Rattle.std.specs.Fmt.{signed_decimal}

@@ -1,5 +1,7 @@
 -- The JSON object that stands for a report: what is written of it, and what is read of it.
-use Rattle.std.proofs.Common.{◌≡◌, ◌-◌, ℤ, pos, negsuc, neg_ℤ, T, ◌&&◌, Bool, true, false, cond, int_le, List, [], ◌∷◌, ◌++◌, codes, Option, Some, None, Result, Ok, Err, IfOk, is_lt, le-leb, ◌≤◌, refl, sym, ap, ◌∙◌, arith, append_assoc, subst}
+use Rattle.std.proofs.Common.{◌≡◌, ◌-◌, ℤ, pos, negsuc, neg_ℤ, T, ◌&&◌, Bool, true, false, cond, int_le, List, []}
+use Rattle.std.proofs.Common.{◌∷◌, ◌++◌, codes, Option, Some, None, Result, Ok, Err, IfOk, is_lt, le-leb, ◌≤◌}
+use Rattle.std.proofs.Common.{refl, sym, ap, ◌∙◌, arith, append_assoc, subst}
 use Rattle.std.proofs.lemmas.Bool.{leb-true, and_parts}
 use Rattle.std.specs.Option.{option_and_then, ok_or}
 use Rattle.std.specs.FinMap.Entries.{is_sorted, below_all}
@@ -19,7 +21,9 @@ use Rattle.filing_model.specs.Facts.{RawFact, Fact, FactValue, Names, fit_of, fi
 use Rattle.filing_model.specs.Fitted.{AreLinks, IsFitted}
 use Rattle.filing_model.specs.Reports.{Report}
 use Rattle.filing_model.specs.ReadFact.{raw_fact_of}
-use Rattle.filing_model.specs.ReadReport.{NotJson, WrongDocumentType, NotWhole, BadFact, document_info_of, allowed_of_features, prefixes_of_namespaces, whole_text_of, entry_of, facts_of, report_of, read_report_of}
+use Rattle.filing_model.specs.ReadReport.{NotJson, WrongDocumentType, NotWhole, BadFact, document_info_of}
+use Rattle.filing_model.specs.ReadReport.{allowed_of_features, prefixes_of_namespaces, whole_text_of, entry_of}
+use Rattle.filing_model.specs.ReadReport.{facts_of, report_of, read_report_of}
 use Rattle.filing_model.specs.Writing.{decimals_in, raw_of, fact_text, listed, member_text, report_text}
 use Rattle.filing_model.specs.declared.faults.NumberFault.{NumberFault}
 use Rattle.filing_model.specs.declared.faults.NumberFault.TheVariants.{DecimalsOutOfRange}

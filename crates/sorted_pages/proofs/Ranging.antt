@@ -1,5 +1,7 @@
 -- The ranges over blocks, from those over their items, and the parts of a range in a row.
-use Rattle.std.proofs.Common.{◌≡◌, ◌∙◌, ap, sym, subst, refl, Bool, false, cond, not, T, List, [], ◌∷◌, ◌++◌, append_assoc, append-nil, Option, Some, None, Ordering, Less, Equal, Greater, is_lt, is_eq}
+use Rattle.std.proofs.Common.{◌≡◌, ◌∙◌, ap, sym, subst, refl, Bool, false, cond, not, T, List, [], ◌∷◌, ◌++◌}
+use Rattle.std.proofs.Common.{append_assoc, append-nil, Option, Some, None, Ordering, Less, Equal, Greater, is_lt}
+use Rattle.std.proofs.Common.{is_eq}
 use Rattle.std.specs.List.{flat_map, list_all}
 use Rattle.std.specs.Ordering.{is_gt, ordering_reverse}
 use Rattle.std.specs.Cmp.{IsTotalOrder}

@@ -1,5 +1,7 @@
 -- A step of a loop that lays changes: what is done, and what is ahead.
-use Rattle.std.proofs.Common.{◌≡◌, ◌∙◌, ap, sym, subst, refl, Bool, true, not, T, List, [], ◌∷◌, ◌++◌, map, drop, length, arith, append_assoc, slice_get, None, Some, Ordering, Less, Equal, Greater, is_lt, is_some}
+use Rattle.std.proofs.Common.{◌≡◌, ◌∙◌, ap, sym, subst, refl, Bool, true, not, T, List, [], ◌∷◌, ◌++◌, map, drop}
+use Rattle.std.proofs.Common.{length, arith, append_assoc, slice_get, None, Some, Ordering, Less, Equal, Greater}
+use Rattle.std.proofs.Common.{is_lt, is_some}
 use Rattle.std.proofs.lemmas.List.{map-append}
 use Rattle.std.specs.List.{list_all, flat_map}
 use Rattle.std.specs.Cmp.{IsTotalOrder}
@@ -10,7 +12,9 @@ use Rattle.sorted_pages.specs.Changes.{entry_of, with_changes, entries_put, with
 use Rattle.sorted_pages.specs.Edges.{ends_with, begins_with, first_passes, is_before_edge}
 use Rattle.sorted_pages.proofs.Edges.{first, second}
 use Rattle.sorted_pages.proofs.Flats.{flat_map-append}
-use Rattle.sorted_pages.proofs.Orders.{less_from, holds_from, rising_left, rising_right, rising_apart, all_pass, less_upto, below_from, AllBelow-none, AllBelow_left, AllBelow_along, AllBelow_from, AllBelow_upto}
+use Rattle.sorted_pages.proofs.Orders.{less_from, holds_from, rising_left, rising_right, rising_apart, all_pass}
+use Rattle.sorted_pages.proofs.Orders.{less_upto, below_from, AllBelow-none, AllBelow_left, AllBelow_along}
+use Rattle.sorted_pages.proofs.Orders.{AllBelow_from, AllBelow_upto}
 use Rattle.sorted_pages.proofs.Parts.{laid_apart, laid_one, rising-without_tied}
 
 pub first_is : {X : Type 0} (xs : List X) (x : X) → Some x ≡ slice_get xs 0 → xs ≡ x ∷ drop 1 xs

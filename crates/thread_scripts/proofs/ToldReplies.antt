@@ -1,5 +1,7 @@
 -- Replies that are put together one after another.
-use Rattle.std.proofs.Common.{◌≡◌, ◌<◌, ◌+◌, ℕ, suc, add-one, length, drop, get_or, ◌∙◌, ap, sym, refl, subst, true, false, List, [], ◌∷◌, ◌++◌, append_assoc, append-nil, Option, Some, None, String, string_bytes, true≢false}
+use Rattle.std.proofs.Common.{◌≡◌, ◌<◌, ◌+◌, ℕ, suc, add-one, length, drop, get_or, ◌∙◌, ap, sym, refl, subst}
+use Rattle.std.proofs.Common.{true, false, List, [], ◌∷◌, ◌++◌, append_assoc, append-nil, Option, Some, None}
+use Rattle.std.proofs.Common.{String, string_bytes, true≢false}
 use Rattle.std.proofs.Math.Seq.{drop-cons}
 use Rattle.std.specs.Option.{option_map_or}
 use Rattle.std.specs.declared.alloc.Global.{Global}

@@ -26,7 +26,9 @@ fitted concept value decimals = fit_of names (raw (of_concept concept) value dec
 pub a_text : fitted (codes "ex:Name") (Some (codes "Acme")) None ≡ Ok (fact (of_concept (codes "ex:Name")) (Written (codes "Acme")))
 a_text = refl
 
-pub a_number_keeps_its_text : fitted (codes "ex:Assets") (Some (codes " +1000.0")) (Some (neg_ℤ (pos 3))) ≡ Ok (fact (of_concept (codes "ex:Assets")) (Number (codes " +1000.0") (pos 1000000000000000000) (Some (neg_ℤ (pos 3)))))
+pub a_number_keeps_its_text : fitted (codes "ex:Assets") (Some (codes " +1000.0")) (Some (neg_ℤ (pos 3)))
+    ≡ Ok (fact (of_concept (codes "ex:Assets"))
+    (Number (codes " +1000.0") (pos 1000000000000000000) (Some (neg_ℤ (pos 3)))))
 a_number_keeps_its_text = refl
 
 pub an_exact_number : fitted (codes "ex:Assets") (Some (codes "6")) None ≡ Ok (fact (of_concept (codes "ex:Assets")) (Number (codes "6") (pos 6000000000000000) None))
@@ -38,7 +40,9 @@ null_drops_its_decimals = refl
 pub null_drops_its_decimals_where_the_concept_is_not_numeric : fitted (codes "ex:Name") None (Some (pos 0)) ≡ Ok (fact (of_concept (codes "ex:Name")) Nil)
 null_drops_its_decimals_where_the_concept_is_not_numeric = refl
 
-pub links_are_kept : fit_of names (record { dims = of_concept (codes "ex:Name"); value = None; decimals = None; links = Some (codes "{}") }) ≡ Ok (record { dims = of_concept (codes "ex:Name"); value = Nil; links = Some (codes "{}") })
+pub links_are_kept : fit_of names
+    (record { dims = of_concept (codes "ex:Name"); value = None; decimals = None; links = Some (codes "{}") })
+    ≡ Ok (record { dims = of_concept (codes "ex:Name"); value = Nil; links = Some (codes "{}") })
 links_are_kept = refl
 
 -- ---- refusals
@@ -61,7 +65,9 @@ a_name_is_split_at_its_first_colon = refl
 pub a_dimension_that_is_not_bound : fit_of names (raw ((codes "concept", Some (codes "ex:Name")) ∷ (codes "zz:axis", None) ∷ []) None None) ≡ Err UnboundPrefix
 a_dimension_that_is_not_bound = refl
 
-pub a_dimension_that_is_bound : fit_of names (raw ((codes "concept", Some (codes "ex:Name")) ∷ (codes "ex:axis", None) ∷ []) None None) ≡ Ok (fact ((codes "concept", Some (codes "ex:Name")) ∷ (codes "ex:axis", None) ∷ []) Nil)
+pub a_dimension_that_is_bound : fit_of names
+    (raw ((codes "concept", Some (codes "ex:Name")) ∷ (codes "ex:axis", None) ∷ []) None None)
+    ≡ Ok (fact ((codes "concept", Some (codes "ex:Name")) ∷ (codes "ex:axis", None) ∷ []) Nil)
 a_dimension_that_is_bound = refl
 
 pub decimals_beside_a_text : fitted (codes "ex:Name") (Some (codes "1")) (Some (pos 0)) ≡ Err Misplaced
@@ -73,11 +79,17 @@ a_unit_beside_a_text = refl
 pub a_unit_beside_null : fit_of names (raw ((codes "concept", Some (codes "ex:Name")) ∷ (codes "unit", Some (codes "ex:EUR")) ∷ []) None None) ≡ Err Misplaced
 a_unit_beside_null = refl
 
-pub a_unit_beside_a_number : fit_of names (raw ((codes "concept", Some (codes "ex:Assets")) ∷ (codes "unit", Some (codes "ex:EUR")) ∷ []) (Some (codes "1")) None) ≡ Ok (fact ((codes "concept", Some (codes "ex:Assets")) ∷ (codes "unit", Some (codes "ex:EUR")) ∷ []) (Number (codes "1") (pos 1000000000000000) None))
+pub a_unit_beside_a_number : fit_of names
+    (raw ((codes "concept", Some (codes "ex:Assets")) ∷ (codes "unit", Some (codes "ex:EUR"))
+    ∷ []) (Some (codes "1")) None)
+    ≡ Ok (fact ((codes "concept", Some (codes "ex:Assets")) ∷ (codes "unit", Some (codes "ex:EUR"))
+    ∷ []) (Number (codes "1") (pos 1000000000000000) None))
 a_unit_beside_a_number = refl
 
 -- the concept's prefix is looked at before the other names, and all names before the rest
-pub the_prefixes_are_looked_at_first : fit_of names (raw ((codes "concept", Some (codes "ex:Name")) ∷ (codes "unit", Some (codes "ex:EUR")) ∷ (codes "zz:axis", None) ∷ []) (Some (codes "1")) (Some (pos 99))) ≡ Err UnboundPrefix
+pub the_prefixes_are_looked_at_first : fit_of names
+    (raw ((codes "concept", Some (codes "ex:Name")) ∷ (codes "unit", Some (codes "ex:EUR")) ∷ (codes "zz:axis", None)
+    ∷ []) (Some (codes "1")) (Some (pos 99))) ≡ Err UnboundPrefix
 the_prefixes_are_looked_at_first = refl
 
 pub no_number : fitted (codes "ex:Assets") (Some (codes "1E3")) (Some (pos 99)) ≡ Err NotANumber

@@ -10,7 +10,9 @@ use Rattle.filing_model.specs.Calls.{Without}
 use Rattle.filing_model.specs.Things as thing
 use Rattle.filing_model.specs.Lawful.{IsLawful}
 use Rattle.filing_model.proofs.NextReply.{not_lawful}
-use Rattle.filing_model.proofs.Examples.Setting.{report_with, holding, of_concept, raw_of, raw, fact, Line, load, amend, review, gets, looks, sought, one, two, ten, pages, adds, removes, commits, closes, played, told, with_last_reply}
+use Rattle.filing_model.proofs.Examples.Setting.{report_with, holding, of_concept, raw_of, raw, fact, Line, load}
+use Rattle.filing_model.proofs.Examples.Setting.{amend, review, gets, looks, sought, one, two, ten, pages, adds}
+use Rattle.filing_model.proofs.Examples.Setting.{removes, commits, closes, played, told, with_last_reply}
 use Rattle.filing_model.specs.declared.duplicates.Allowed.TheVariants.{Never, All}
 use Rattle.filing_model.specs.declared.duplicates.Class.TheVariants.{Empty, Single, Complete}
 use Rattle.filing_model.specs.declared.faults.FactFault.TheVariants.{UnboundPrefix, Misplaced}

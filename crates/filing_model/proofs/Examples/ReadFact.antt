@@ -21,7 +21,13 @@ abbrev pub raw : Text → Option Text → Option ℤ → RawFact
 raw name value decimals = record { dims = (codes "concept", Some name) ∷ []; value = value; decimals = decimals; links = None }
 
 pub all_members : read_raw (codes "{\"value\": \"1000\", \"links\": {\"b\": [], \"a\": 1}, \"decimals\": -3, \"dimensions\": {\"unit\": \"u\", \"concept\": \"ex:Assets\"}, \"x\": 1.5}")
-    ≡ Ok (record { dims = (codes "concept", Some (codes "ex:Assets")) ∷ (codes "unit", Some (codes "u")) ∷ []; value = Some (codes "1000"); decimals = Some (negsuc 2); links = Some (codes "{\"a\":1,\"b\":[]}") })
+    ≡ Ok (record {
+      dims = (codes "concept", Some (codes "ex:Assets")) ∷ (codes "unit", Some (codes "u"))
+          ∷ [];
+      value = Some (codes "1000");
+      decimals = Some (negsuc 2);
+      links = Some (codes "{\"a\":1,\"b\":[]}");
+    })
 unfolding filing_on_literals
 all_members = refl
 
@@ -29,7 +35,9 @@ pub null_decimals_are_none : read_raw (codes "{\"value\":null,\"decimals\":null,
 unfolding filing_on_literals
 null_decimals_are_none = refl
 
-pub least_decimals : read_raw (codes "{\"value\":null,\"decimals\":-9223372036854775808,\"dimensions\":{\"concept\":\"ex:Name\"}}") ≡ Ok (raw (codes "ex:Name") None (Some (negsuc 9223372036854775807)))
+pub least_decimals : read_raw
+    (codes "{\"value\":null,\"decimals\":-9223372036854775808,\"dimensions\":{\"concept\":\"ex:Name\"}}")
+    ≡ Ok (raw (codes "ex:Name") None (Some (negsuc 9223372036854775807)))
 unfolding filing_on_literals
 least_decimals = refl
 

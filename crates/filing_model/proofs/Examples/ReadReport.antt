@@ -39,7 +39,15 @@ bound = codes ",\"namespaces\":{\"ex\":\"http://e.org/t\"}"
 abbrev pub basic : Text
 basic = codes "{\"documentInfo\":" ++ (info_with bound ++ codes "}")
 
-pub no_facts : read_literal basic ≡ Ok (record { info = info_with bound; names = record { prefixes = from_entries ((codes "ex", codes "http://e.org/t") ∷ []); table = table }; allowed = All; facts = empty })
+pub no_facts : read_literal basic
+    ≡ Ok (record {
+      info = info_with bound;
+      names = record
+          { prefixes = from_entries ((codes "ex", codes "http://e.org/t") ∷ []); table = table };
+      allowed = All;
+      facts =
+          empty;
+    })
 unfolding filing_on_literals
 no_facts = refl
 
@@ -52,7 +60,9 @@ unfolding filing_on_literals
 after_two_marks = refl
 
 -- facts in byte order of their identifiers; Assets is numeric, Name is not
-pub facts_are_fitted : read_literal (report_with bound (codes "{\"b\":{\"value\":\"1000\",\"decimals\":-3,\"dimensions\":{\"concept\":\"ex:Assets\"}},\"a\":{\"value\":\"1000\",\"dimensions\":{\"concept\":\"ex:Name\"}},\"\":{\"value\":null,\"decimals\":7,\"dimensions\":{\"concept\":\"ex:Name\",\"ex:d\":null}}}"))
+pub facts_are_fitted : read_literal
+    (report_with bound (codes
+    "{\"b\":{\"value\":\"1000\",\"decimals\":-3,\"dimensions\":{\"concept\":\"ex:Assets\"}},\"a\":{\"value\":\"1000\",\"dimensions\":{\"concept\":\"ex:Name\"}},\"\":{\"value\":null,\"decimals\":7,\"dimensions\":{\"concept\":\"ex:Name\",\"ex:d\":null}}}"))
     ≡ Ok (record {
       info = info_with bound;
       names = record { prefixes = from_entries ((codes "ex", codes "http://e.org/t") ∷ []); table = table };
@@ -183,7 +193,9 @@ pub unbound_prefix : read_literal (report_with bound (codes "{\"f\":{\"value\":\
 unfolding filing_on_literals
 unbound_prefix = refl
 
-pub misplaced_decimals : read_literal (report_with bound (codes "{\"f\":{\"value\":\"1\",\"decimals\":0,\"dimensions\":{\"concept\":\"ex:Name\"}}}")) ≡ Err (BadFact (codes "f") (trouble.Fit Misplaced))
+pub misplaced_decimals : read_literal
+    (report_with bound (codes "{\"f\":{\"value\":\"1\",\"decimals\":0,\"dimensions\":{\"concept\":\"ex:Name\"}}}"))
+    ≡ Err (BadFact (codes "f") (trouble.Fit Misplaced))
 unfolding filing_on_literals
 misplaced_decimals = refl
 

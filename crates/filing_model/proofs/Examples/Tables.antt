@@ -12,7 +12,8 @@ in_byte_order = refl
 pub twice_counts_once : read_table_of (codes "http://e.org/t Cash\nhttp://e.org/t Cash") ≡ Ok ((codes "http://e.org/t", codes "Cash") ∷ [])
 twice_counts_once = refl
 
-pub carriage_return_is_dropped : read_table_of (codes "\r\nhttp://e.org/t Cash\r\n\r\nhttp://e.org/t Debt\r") ≡ Ok ((codes "http://e.org/t", codes "Cash") ∷ (codes "http://e.org/t", codes "Debt") ∷ [])
+pub carriage_return_is_dropped : read_table_of (codes "\r\nhttp://e.org/t Cash\r\n\r\nhttp://e.org/t Debt\r")
+    ≡ Ok ((codes "http://e.org/t", codes "Cash") ∷ (codes "http://e.org/t", codes "Debt") ∷ [])
 carriage_return_is_dropped = refl
 
 pub one_carriage_return_alone : read_table_of (codes "http://e.org/t Cash\r\r\n") ≡ Ok ((codes "http://e.org/t", codes "Cash\r") ∷ [])

@@ -50,10 +50,13 @@ pub largest_whole_number : rewritten (report_with (codes ",\"x\":184467440737095
 unfolding filing_on_literals
 largest_whole_number = refl
 
-pub members_in_byte_order : rewritten (report_with bound (codes "{\"b\":{\"value\":\"1000\",\"decimals\":-3,\"dimensions\":{\"concept\":\"ex:Assets\"}},\"a\":{\"value\":null,\"links\":{\"y\":1,\"x\":[]},\"dimensions\":{\"ex:d\":null,\"concept\":\"ex:Name\"}}}")) ≡ Ok (report_with bound (codes "{\"a\":{\"dimensions\":{\"concept\":\"ex:Name\",\"ex:d\":null},\"links\":{\"x\":[],\"y\":1},\"value\":null},\"b\":{\"decimals\":-3,\"dimensions\":{\"concept\":\"ex:Assets\"},\"value\":\"1000\"}}"))
+pub members_in_byte_order : rewritten
+    (report_with bound (codes
+    "{\"b\":{\"value\":\"1000\",\"decimals\":-3,\"dimensions\":{\"concept\":\"ex:Assets\"}},\"a\":{\"value\":null,\"links\":{\"y\":1,\"x\":[]},\"dimensions\":{\"ex:d\":null,\"concept\":\"ex:Name\"}}}")) ≡ Ok (report_with bound (codes "{\"a\":{\"dimensions\":{\"concept\":\"ex:Name\",\"ex:d\":null},\"links\":{\"x\":[],\"y\":1},\"value\":null},\"b\":{\"decimals\":-3,\"dimensions\":{\"concept\":\"ex:Assets\"},\"value\":\"1000\"}}"))
 unfolding filing_on_literals
 members_in_byte_order = refl
 
-pub document_info_in_byte_order : rewritten (codes " { \"documentInfo\" : { \"x\" : 1 , \"namespaces\" : { } , \"documentType\":\"https://xbrl.org/2021/xbrl-json\" } , \"y\" : 0.5 } ") ≡ Ok (report_with (codes ",\"namespaces\":{},\"x\":1") (codes "{}"))
+pub document_info_in_byte_order : rewritten
+    (codes " { \"documentInfo\" : { \"x\" : 1 , \"namespaces\" : { } , \"documentType\":\"https://xbrl.org/2021/xbrl-json\" } , \"y\" : 0.5 } ") ≡ Ok (report_with (codes ",\"namespaces\":{},\"x\":1") (codes "{}"))
 unfolding filing_on_literals
 document_info_in_byte_order = refl

@@ -43,5 +43,7 @@ returns-in_ok-disallowed-in-Some c =
     let told = refused before next name report dims none there least in
     record {
       told_so = ap (λ o. o.reply) c.told-in-Some.ensures ∙ c.in_ok-disallowed-in-Some.ensures ∙ sym told;
-      next_so = ap (λ o. option_map version_in o.next) c.told-in-Some.ensures ∙ ap (λ b. cond b (Some (version_with name report v)) None) (sym (refusal_at_is_quiet next (name, dims)) ∙ ap counts (sym told));
+      next_so = ap (λ o. option_map version_in o.next) c.told-in-Some.ensures
+          ∙ ap (λ b. cond b (Some (version_with name report v)) None) (sym (refusal_at_is_quiet next (name, dims))
+          ∙ ap counts (sym told));
     }

@@ -20,7 +20,10 @@ returns-in-Cell-Cell c same =
 pub returns-in-Range-Range : goal.returns-in-Range-Range
 returns-in-Range-Range c same =
     c.then-in-Range-Range-2.ensures
-    ∙ (λ i. ordering_then ((c.then-in-Range-Range.ensures ∙ (λ j. ordering_then (c.cmp-in-Range-Range.ensures j) ((c.order_sought.ensures ∙ (λ k. sought_order (c.deref.ensures k) (c.deref-in-Range-Range.ensures k))) j))) i) (c.order_nullable.ensures i))
+    ∙ (λ i. ordering_then ((c.then-in-Range-Range.ensures
+    ∙ (λ j. ordering_then (c.cmp-in-Range-Range.ensures j)
+    ((c.order_sought.ensures ∙ (λ k. sought_order (c.deref.ensures k) (c.deref-in-Range-Range.ensures k))) j)))
+    i) (c.order_nullable.ensures i))
     ∙ ranges_by_parts (string_bytes c.in-Range-Range.report) (string_bytes c.in-Range-Range.other) c.in-Range-Range.sought.value c.in-Range-Range.other_sought.value
     (text_view c.in-Range-Range.upto) (text_view c.in-Range-Range.other_upto)
     ∙ (λ i. slice_cmp (option_cmp text_cmp) (parts_of (thing_of (sym c.in-Range-Range.is-0 i))) (parts_of (thing_of (sym c.in-Range-Range.is-1 i))))

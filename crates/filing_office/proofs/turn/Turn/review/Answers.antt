@@ -15,7 +15,9 @@ returns-clause-opened g c =
     reviewed_from c.args.self.now t c.args.told.now seen learned now (sym (ap (λ (u : Turning). u.state.seen) c.self.view_is) ∙ c.in-Some.is)
     (ap (λ (u : Turning). record u.state { seen = Some now }) c.self.view_is) c.learn_all.ensures.goes_on
     c.open.result
-    (all_known c.self.inside.learnt c.self.inside.reviewer seen learned c.args.told.now c.learn_all.result c.in-Some.is c.learn_all.ensures.goes_on known.receipts c.if-is_err.ensures.negation c.learn_all.ensures.learnt)
+    (all_known c.self.inside.learnt c.self.inside.reviewer seen learned c.args.told.now c.learn_all.result
+    c.in-Some.is c.learn_all.ensures.goes_on known.receipts c.if-is_err.ensures.negation
+    c.learn_all.ensures.learnt)
     c.open.ensures.newest c.open.ensures.chain c.open.ensures.goes_on c.open.ensures.err
 
 pub returns-clause-learnt : goal.returns-clause-learnt
@@ -25,7 +27,8 @@ returns-clause-learnt g c =
     let now = c.open.new.self in
     let told = c.args.told.now in
     let known = subst (λ (u : Turning). IsLearnt u told) (sym c.self.view_is) c.requires.learnt in
-    let all = all_known c.self.inside.learnt c.self.inside.reviewer seen learned told c.learn_all.result c.in-Some.is c.learn_all.ensures.goes_on known.receipts c.if-is_err.ensures.negation c.learn_all.ensures.learnt in
+    let all = all_known c.self.inside.learnt c.self.inside.reviewer seen learned told c.learn_all.result c.in-Some.is
+    c.learn_all.ensures.goes_on known.receipts c.if-is_err.ensures.negation c.learn_all.ensures.learnt in
     record {
       few = omega arith;
       receipts =

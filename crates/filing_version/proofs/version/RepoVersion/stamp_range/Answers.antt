@@ -10,11 +10,31 @@ use Rattle.filing_version.proofs.version.RepoVersion.stamp_range.Goals as goal
 pub returns-in-Some : goal.returns-in-Some
 returns-in-Some c =
     c.of_range.ensures
-    ∙ ap (λ (s : List Stamp). part_stamp s (Range (record { concept = c.args.concept.now; period = asked_of c.args.period; after = option_map (λ t. t.now) c.args.after }) (option_map (λ t. t.now) c.args.upto))) c.stamps.ensures
-    ∙ stamp_there c.args.self.now.reports (thing.Range c.args.report.now (record { concept = c.args.concept.now; period = asked_of c.args.period; after = option_map (λ t. t.now) c.args.after }) (option_map (λ t. t.now) c.args.upto)) c.in-Some.filed.now
+    ∙ ap (λ (s : List Stamp). part_stamp s
+    (Range (record {
+      concept = c.args.concept.now;
+      period = asked_of c.args.period;
+      after = option_map
+          (λ t. t.now) c.args.after;
+    }) (option_map (λ t. t.now) c.args.upto))) c.stamps.ensures
+    ∙ stamp_there c.args.self.now.reports
+    (thing.Range c.args.report.now
+    (record {
+      concept = c.args.concept.now;
+      period = asked_of c.args.period;
+      after = option_map (λ t. t.now)
+          c.args.after;
+    }) (option_map (λ t. t.now) c.args.upto)) c.in-Some.filed.now
     ((λ i. get (sym c.self.view_is i).reports c.args.report.now) ∙ sym c.in-Some.ensures)
 
 pub returns-in-None : goal.returns-in-None
 returns-in-None c =
-    stamp_nowhere c.args.self.now.reports (thing.Range c.args.report.now (record { concept = c.args.concept.now; period = asked_of c.args.period; after = option_map (λ t. t.now) c.args.after }) (option_map (λ t. t.now) c.args.upto))
+    stamp_nowhere c.args.self.now.reports
+    (thing.Range c.args.report.now
+    (record {
+      concept = c.args.concept.now;
+      period = asked_of c.args.period;
+      after = option_map (λ t. t.now)
+          c.args.after;
+    }) (option_map (λ t. t.now) c.args.upto))
     ((λ i. get (sym c.self.view_is i).reports c.args.report.now) ∙ sym c.in-None.ensures)

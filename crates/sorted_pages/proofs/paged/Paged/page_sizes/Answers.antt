@@ -21,10 +21,14 @@ pub loop-page-smaller : goal.loop-page-smaller
 loop-page-smaller g c =
     let same : length c.items.result.now ≡ length (arc_value c.in-Some.page.now) = ap length (c.items.ensures.items ∙ c.deref-in-Some.ensures) in
     let held : length c.items.result.now ≡ length c.deref-in-Some.result.now = ap length c.items.ensures.items in
-    let page : length (ahead [] c.loop-page.left.pages.now c.loop-page.left.runs.now c.loop-page.left.groups.now) ≡ length (arc_value c.in-Some.page.now) + length (ahead [] c.in-Some.pages.now c.loop-page.left.runs.now c.loop-page.left.groups.now) =
+    let page : length (ahead [] c.loop-page.left.pages.now c.loop-page.left.runs.now c.loop-page.left.groups.now)
+    ≡ length (arc_value c.in-Some.page.now) + length
+    (ahead [] c.in-Some.pages.now c.loop-page.left.runs.now c.loop-page.left.groups.now) =
     one_page c.loop-page.left.pages.now c.in-Some.pages.now c.in-Some.page.now c.loop-page.left.runs.now c.loop-page.left.groups.now
     c.in-Some.ensures.cases.0 in
-    let rest : length (ahead [] c.with_pages-left-in-Some.result.pages.now c.with_pages-left-in-Some.result.runs.now c.with_pages-left-in-Some.result.groups.now) ≡ length (ahead [] c.in-Some.pages.now c.loop-page.left.runs.now c.loop-page.left.groups.now) =
+    let rest : length (ahead [] c.with_pages-left-in-Some.result.pages.now c.with_pages-left-in-Some.result.runs.now
+    c.with_pages-left-in-Some.result.groups.now)
+    ≡ length (ahead [] c.in-Some.pages.now c.loop-page.left.runs.now c.loop-page.left.groups.now) =
     ap length c.with_pages-left-in-Some.ensures.same in
     omega (arith, same, held, page, rest, c.items.ensures.some)
 
@@ -34,10 +38,14 @@ loop-page-preserved g c =
     let held : length c.items.result.now ≡ length c.deref-in-Some.result.now = ap length c.items.ensures.items in
     let low : 0 < length c.items.result.now = omega (arith, held, c.items.ensures.some) in
     let high : length c.items.result.now ≤ 64 = omega (arith, held, c.items.ensures.few) in
-    let page : length (ahead [] c.loop-page.left.pages.now c.loop-page.left.runs.now c.loop-page.left.groups.now) ≡ length (arc_value c.in-Some.page.now) + length (ahead [] c.in-Some.pages.now c.loop-page.left.runs.now c.loop-page.left.groups.now) =
+    let page : length (ahead [] c.loop-page.left.pages.now c.loop-page.left.runs.now c.loop-page.left.groups.now)
+    ≡ length (arc_value c.in-Some.page.now) + length
+    (ahead [] c.in-Some.pages.now c.loop-page.left.runs.now c.loop-page.left.groups.now) =
     one_page c.loop-page.left.pages.now c.in-Some.pages.now c.in-Some.page.now c.loop-page.left.runs.now c.loop-page.left.groups.now
     c.in-Some.ensures.cases.0 in
-    let rest : length (ahead [] c.with_pages-left-in-Some.result.pages.now c.with_pages-left-in-Some.result.runs.now c.with_pages-left-in-Some.result.groups.now) ≡ length (ahead [] c.in-Some.pages.now c.loop-page.left.runs.now c.loop-page.left.groups.now) =
+    let rest : length (ahead [] c.with_pages-left-in-Some.result.pages.now c.with_pages-left-in-Some.result.runs.now
+    c.with_pages-left-in-Some.result.groups.now)
+    ≡ length (ahead [] c.in-Some.pages.now c.loop-page.left.runs.now c.loop-page.left.groups.now) =
     ap length c.with_pages-left-in-Some.ensures.same in
     let next : AreSizes c.push.new.self.items (sum c.loop-page.sizes.items + length c.items.result.now) =
     sizes_push c.loop-page.sizes.items c.push.new.self.items (sum c.loop-page.sizes.items) (length c.items.result.now)
