@@ -2,6 +2,7 @@
 use Rattle.std.proofs.Common.{◌≡◌, ◌∙◌, ap, sym, subst, refl, ℕ, ◌≤◌, arith, Bool, true, false, cond, ◌&&◌, ◌||◌}
 use Rattle.std.proofs.Common.{List, [], ◌∷◌, ◌++◌, Option, Some, None, is_none, Ordering, Less, Equal, Greater}
 use Rattle.std.proofs.Common.{is_eq, true≢false}
+use Rattle.std.proofs.Math.Bool.{or_self}
 use Rattle.std.specs.Cmp.{Equal-is, tied_itself, tied_then, nat_cmp_total, eq_by_cmp_equiv}
 use Rattle.std.specs.List.{list_any, flat_map}
 use Rattle.std.specs.Option.{option_cmp, option_eq, option_map, option_map_or}
@@ -17,11 +18,12 @@ use Rattle.filing_model.specs.Queries.{is_after, answers_query}
 use Rattle.filing_model.specs.Touches.{is_within}
 use Rattle.filing_model.proofs.Texts.{text_cmp-Equal, text_eq-sym}
 use Rattle.filing_pages.specs.Heads.{name_key}
-use Rattle.filing_model.proofs.DimensionSets.{dims_cmp-total, dims_cmp-Equal, nullable_Equal}
+use Rattle.filing_model.proofs.DimensionSets.{dims_cmp-total, dims_cmp-Equal, dims_same, nullable_Equal}
 use Rattle.filing_model.proofs.Tests.{both_are_equal}
 use Rattle.filing_index.specs.Moves.{Move, Part, Id, Cell, Range, is_moved, is_moved_in, stamped_by}
 use Rattle.filing_index.specs.Stamps.{Group, no_group, group_cmp, group_code, Stamp, stamp_cmp, stamps_of}
-use Rattle.filing_index.specs.Stamps.{stamps_if_there, stamps_of_move, stamps_of_moves, ArePuts, Between, is_upto}
+use Rattle.filing_index.specs.Stamps.{stamps_if_there, stamps_beside, stamps_of_move, stamps_of_moves}
+use Rattle.filing_index.specs.Stamps.{ArePuts, Between, is_upto}
 use Rattle.filing_index.specs.Stamps.{ids_side, among_side, part_among, stamp_in}
 use Rattle.std.proofs.lemmas.List.Folds.{list_any-append}
 use Rattle.filing_index.proofs.StampTies.{among_alike}
@@ -176,6 +178,33 @@ if_there : (part : Part) (n : ℕ) (id : Text) (fact : Option Fact) → hits par
 if_there part n id None = refl
 if_there part n id (Some fact) = fact_hits part n id fact
 
+-- facts of the same dimensions stand in the same parts
+stands_alike : (part : Part) (id : Text) (f g : Fact) → f.dims ≡ g.dims → stands_in part id f ≡ stands_in part id g
+stands_alike (Id x) id f g e = refl
+stands_alike (Cell dims) id f g e = ap (dims_eq dims) e
+stands_alike (Range sought upto) id f g e =
+    let answers = answers_query sought.concept sought.period in
+    ap (λ dims. is_within sought.after upto id && answers (record f { dims = dims })) e
+
+-- so what a new fact leaves beside what the old one leaves is all that is to be left
+both_hit : (part : Part) (n : ℕ) (id : Text) (old new : Option Fact)
+    → (hits part (stamps_if_there n (option_map (λ f. (id, f)) old))
+    || hits part (stamps_beside n (option_map (λ f. (id, f)) old) (option_map (λ f. (id, f)) new)))
+    ≡ (option_map_or (stands_in part id) old false || option_map_or (stands_in part id) new false)
+both_hit part n id old None = ap (λ b. b || false) (if_there part n id old)
+both_hit part n id None (Some new) = fact_hits part n id new
+both_hit part n id (Some old) (Some new) = by (dims_eq old.dims new.dims) refl
+  where
+    by : (same : Bool) → dims_eq old.dims new.dims ≡ same
+        → (hits part (stamps_of n (id, old)) || hits part (cond same [] (stamps_of n (id, new))))
+        ≡ (stands_in part id old || stands_in part id new)
+    by true e =
+        or_false _
+        ∙ fact_hits part n id old
+        ∙ sym (or_self (stands_in part id old))
+        ∙ ap (λ b. stands_in part id old || b) (stands_alike part id old new (dims_same old.dims new.dims e))
+    by false e = λ i. fact_hits part n id old i || fact_hits part n id new i
+
 -- a test before one of two that may be missing
 either_both : {X : Type 0} (a : Bool) (p : X → Bool) (x y : Option X)
     → (option_map_or (λ f. a && p f) x false || option_map_or (λ f. a && p f) y false) ≡ (a && (option_map_or p x false || option_map_or p y false))
@@ -203,12 +232,24 @@ moves_hit : (part : Part) (n : ℕ) (moves : List Move) → hits part (flat_map 
 moves_hit part n [] = refl
 moves_hit part n (move ∷ moves) =
     list_any-append (λ s. is_eq (among_side (part_among part) s)) (stamps_of_move n move) (flat_map (stamps_of_move n) moves)
-    ∙ (λ i. (list_any-append (λ s. is_eq (among_side (part_among part) s)) (stamps_if_there n (option_map (λ f. (move.id, f)) move.old)) (stamps_if_there n (option_map (λ f. (move.id, f)) move.new))
-    ∙ (λ j. if_there part n move.id move.old j || if_there part n move.id move.new j) ∙ move_stands part move) i || moves_hit part n moves i)
+    ∙ (λ i. (list_any-append (λ s. is_eq (among_side (part_among part) s))
+    (stamps_if_there n (option_map (λ f. (move.id, f)) move.old))
+    (stamps_beside n (option_map (λ f. (move.id, f)) move.old) (option_map (λ f. (move.id, f)) move.new))
+    ∙ both_hit part n move.id move.old move.new ∙ move_stands part move) i || moves_hit part n moves i)
 
 fact_has : (n : ℕ) (id : Text) (fact : Option Fact) → AllHave (λ s. s.number) n (stamps_if_there n (option_map (λ f. (id, f)) fact))
 fact_has n id None = tt
 fact_has n id (Some fact) = (refl, (refl, (refl, (refl, tt))))
+
+beside_has : (n : ℕ) (id : Text) (old new : Option Fact)
+    → AllHave (λ s. s.number) n (stamps_beside n (option_map (λ f. (id, f)) old) (option_map (λ f. (id, f)) new))
+beside_has n id old None = tt
+beside_has n id None (Some new) = fact_has n id (Some new)
+beside_has n id (Some old) (Some new) = by (dims_eq old.dims new.dims)
+  where
+    by : (same : Bool) → AllHave (λ s. s.number) n (cond same [] (stamps_of n (id, new)))
+    by true = tt
+    by false = fact_has n id (Some new)
 
 both_have : (n : ℕ) (xs ys : List Stamp) → AllHave (λ s. s.number) n xs → AllHave (λ s. s.number) n ys → AllHave (λ s. s.number) n (xs ++ ys)
 both_have n [] ys a b = b
@@ -219,8 +260,8 @@ moves_have n [] = tt
 moves_have n (move ∷ moves) =
     both_have n (stamps_of_move n move) (flat_map (stamps_of_move n) moves)
     (both_have n (stamps_if_there n (option_map (λ f. (move.id, f)) move.old))
-    (stamps_if_there n (option_map (λ f. (move.id, f)) move.new)) (fact_has n move.id move.old)
-    (fact_has n move.id move.new))
+    (stamps_beside n (option_map (λ f. (move.id, f)) move.old) (option_map (λ f. (move.id, f)) move.new))
+    (fact_has n move.id move.old) (beside_has n move.id move.old move.new))
     (moves_have n moves)
 
 pub puts_of_these : {left these : List Stamp} {changes others : List (Change Stamp)} → left ≡ these → others ≡ changes → ArePuts left changes → ArePuts these others

@@ -1,5 +1,6 @@
 -- The stamps of one report: what touched facts leave behind, each with the number of the last touch. The project's own.
-use Rattle.std.specs.Prelude.{◌≡◌, ℕ, ◌+◌, ◌*◌, ◌/◌, min, Bool, true, cond, not, List, [], ◌∷◌, ◌++◌, map, Option, Some, None}
+use Rattle.std.specs.Prelude.{◌≡◌, ℕ, ◌+◌, ◌*◌, ◌/◌, min, Bool, true, false, cond, not}
+use Rattle.std.specs.Prelude.{List, [], ◌∷◌, ◌++◌, map, Option, Some, None}
 use Rattle.std.specs.List.{AllByRecursion, flat_map, list_any}
 use Rattle.std.specs.Option.{option_cmp, option_map, option_map_or}
 use Rattle.std.specs.Ordering.{on, then_cmp, ordering_then, nat_cmp, is_lt}
@@ -10,7 +11,7 @@ use Rattle.sorted_pages.specs.declared.change.Change.{Change}
 use Rattle.sorted_pages.specs.declared.change.Change.TheVariants.{Put}
 use Rattle.sorted_pages.specs.Ranges.{within}
 use Rattle.filing_model.specs.Text.{Text, text_cmp}
-use Rattle.filing_model.specs.Dimensions.{Dims, dims_cmp, concept_of, period_of}
+use Rattle.filing_model.specs.Dimensions.{Dims, dims_cmp, dims_eq, concept_of, period_of}
 use Rattle.filing_model.specs.Facts.{Fact}
 use Rattle.filing_model.specs.Queries.{is_after}
 use Rattle.filing_model.specs.Calls.{Asked, Any, Without, Exactly}
@@ -110,10 +111,21 @@ abbrev pub stamps_if_there : ℕ → Option (Text × Fact) → List Stamp
 stamps_if_there number None = []
 stamps_if_there number (Some held) = stamps_of number held
 
+-- whether a fact, where there was one, had these dimensions
+abbrev pub had_dims : Option (Text × Fact) → Dims → Bool
+had_dims None dims = false
+had_dims (Some held) dims = dims_eq held.1.dims dims
+
+-- what the new fact of an identifier leaves beside what the old one leaves: nothing where that had the same dimensions
+abbrev pub stamps_beside : ℕ → Option (Text × Fact) → Option (Text × Fact) → List Stamp
+stamps_beside number old None = []
+stamps_beside number old (Some held) = cond (had_dims old held.1.dims) [] (stamps_of number held)
+
 -- of the fact before and of the fact after
 abbrev pub stamps_of_move : ℕ → Move → List Stamp
 stamps_of_move number move =
-    stamps_if_there number (option_map (λ f. (move.id, f)) move.old) ++ stamps_if_there number (option_map (λ f. (move.id, f)) move.new)
+    stamps_if_there number (option_map (λ f. (move.id, f)) move.old)
+    ++ stamps_beside number (option_map (λ f. (move.id, f)) move.old) (option_map (λ f. (move.id, f)) move.new)
 
 -- each that moves leave, some more than once
 abbrev pub stamps_of_moves : ℕ → List Move → List Stamp

@@ -9,7 +9,7 @@ ghost use Rattle.filing_model.specs.TextMap.{TextMap};
 ghost use Rattle.filing_model.specs.Facts.{Fact as PlainFact};
 ghost use Rattle.filing_model.specs.Duplicates.{class_of, facts_of, is_disallowed, lesser_dims, least_disallowed};
 ghost use Rattle.filing_model.specs.Queries.{cell_facts};
-ghost use Rattle.filing_pages.specs.Codes.{cell_code};
+ghost use Rattle.filing_pages.specs.Codes.{cell_code, code_of_dims};
 ghost use Rattle.filing_index.specs.Index.{coded_cmp, IsIndex};
 ghost use Rattle.filing_index.specs.Cells.{shares_code, crowded, are_these, facts_given, least_among_facts};
 
@@ -21,19 +21,21 @@ use oim_fact::{Allowed, Class, DimSet, allows, class_over};
 use sorted_pages::{Paged, Range};
 use std::marker::Model;
 
-/// The class of the facts with these dimensions.
-pub(crate) fn class_in(index: &Paged<Coded>, dims: &DimSet) -> Class
+/// The class of the facts with these dimensions, whose code is given.
+pub(crate) fn class_in(index: &Paged<Coded>, code: u64, dims: &DimSet) -> Class
+    requires { code ≡ code_of_dims dims.now }
     ensures { (facts : TextMap PlainFact) → IsIndex cell_code facts index.now
         → result ≡ class_of (cell_facts dims.now facts) }
 {
-    let cell = Found::of(index, Wanted::Cell(dims), None);
+    let cell = Found::under(index, code, Wanted::Cell(dims), None);
     class_over(cell.map(|held| held.value().fact()))
 }
 
-fn dims_of<'a>(held: &'a Named<Held>) -> &'a DimSet
-    ensures { result.now ≡ held.now.1.dims }
+/// The dimensions of a fact.
+pub(crate) fn dims_of<'a>(held: &'a Held) -> &'a DimSet
+    ensures { result.now ≡ held.now.dims }
 {
-    &held.value().fact().dims
+    &held.fact().dims
 }
 
 /// Whether an entry, where there is one, has the code of another.
@@ -122,22 +124,23 @@ fn lesser<'a>(least: Option<&'a DimSet>, dims: &'a DimSet) -> Option<&'a DimSet>
     }
 }
 
-/// The lesser of the least so far and these dimensions, where their cell is not allowed.
+/// The lesser of the least so far and the dimensions of a fact, where their cell is not allowed.
 pub(crate) fn with_cell<'a>(
     index: &Paged<Coded>,
     allowed: Allowed,
     least: Option<&'a DimSet>,
-    dims: &'a DimSet,
+    held: &'a Held,
 ) -> Option<&'a DimSet>
     ensures { (facts : TextMap PlainFact) → IsIndex cell_code facts index.now
         → option_map (λ d. d.now) result
         ≡ fold lesser_dims (option_map (λ d. d.now) least.entry)
-        (filter (is_disallowed allowed (facts_of facts.entries)) (dims.now ∷ [])) }
+        (filter (is_disallowed allowed (facts_of facts.entries)) (held.now.dims ∷ [])) }
 {
     if matches!(allowed, Allowed::All) {
         return least;
     }
-    if allows(allowed, class_in(index, dims)) {
+    let dims = dims_of(held);
+    if allows(allowed, class_in(index, held.cell_code(), dims)) {
         return least;
     }
     lesser(least, dims)
@@ -160,9 +163,10 @@ pub(crate) fn least_disallowed_among<'a, I: Iterator<Item = &'a Named<Held>> + D
     let mut least = None;
     let mut before = None;
     for held in facts {
-        let dims = dims_of(held);
+        let fact = held.value();
+        let dims = dims_of(fact);
         if !are_these(before, dims) {
-            least = with_cell(index, allowed, least, dims);
+            least = with_cell(index, allowed, least, fact);
         }
         before = Some(dims);
     }

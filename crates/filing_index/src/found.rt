@@ -5,7 +5,7 @@ ghost use Rattle.filing_model.specs.Facts.{Fact as PlainFact};
 ghost use Rattle.filing_model.specs.TextMap.{TextMap};
 ghost use Rattle.filing_index.specs.Index.{IsIndex};
 ghost use Rattle.filing_index.specs.Found.{passing, found, side_after};
-ghost use Rattle.filing_index.specs.Wanted.{is_wanted, coded_by};
+ghost use Rattle.filing_index.specs.Wanted.{is_wanted, code_of, coded_by};
 
 use crate::coded::Coded;
 use crate::wanted::Wanted;
@@ -122,10 +122,21 @@ impl<'a> Found<'a> {
         ensures { (facts : TextMap PlainFact) → IsIndex (coded_by wanted.entry) facts index.now
             → result ≡ found (is_wanted wanted.entry) (option_map (λ t. t.now) after.entry) facts }
     {
-        let entries = index.range(&OfCode {
-            code: wanted.code(),
-            after,
-        });
+        Found::under(index, wanted.code(), wanted, after)
+    }
+
+    /// The same under the code of what is looked for, where that is known. To make it again costs a hash.
+    pub(crate) fn under(
+        index: &'a Paged<Coded>,
+        code: u64,
+        wanted: Wanted<'a>,
+        after: Option<&str>,
+    ) -> Found<'a>
+        requires { code ≡ code_of wanted }
+        ensures { (facts : TextMap PlainFact) → IsIndex (coded_by wanted.entry) facts index.now
+            → result ≡ found (is_wanted wanted.entry) (option_map (λ t. t.now) after.entry) facts }
+    {
+        let entries = index.range(&OfCode { code, after });
         Found { entries, wanted }
     }
 }

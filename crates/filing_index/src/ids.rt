@@ -4,7 +4,7 @@ ghost use Rattle.std.specs.Iterator.{YieldsFirstRef, item_count};
 ghost use Rattle.filing_model.specs.Facts.{Fact as PlainFact};
 ghost use Rattle.filing_model.specs.TextMap.{TextMap};
 ghost use Rattle.filing_model.specs.Queries.{cell_ids, ids_for};
-ghost use Rattle.filing_pages.specs.Codes.{cell_code, query_code};
+ghost use Rattle.filing_pages.specs.Codes.{cell_code, code_of_dims, query_code};
 ghost use Rattle.filing_index.specs.Index.{IsIndex};
 ghost use Rattle.filing_index.specs.Wanted.{asked_of};
 
@@ -33,12 +33,13 @@ impl<'a> Model for Ids<'a> {
 }
 
 impl<'a> Ids<'a> {
-    /// Those of a cell, out of the index by dimensions.
-    pub(crate) fn of_cell(index: &'a Paged<Coded>, dims: &'a DimSet) -> Ids<'a>
+    /// Those of a cell, out of the index by dimensions. The code is that of the dimensions.
+    pub(crate) fn of_cell(index: &'a Paged<Coded>, code: u64, dims: &'a DimSet) -> Ids<'a>
+        requires { code ≡ code_of_dims dims.now }
         ensures { (facts : TextMap PlainFact) → IsIndex cell_code facts index.now
             → result ≡ cell_ids dims.now facts }
     {
-        let facts = Found::of(index, Wanted::Cell(dims), None);
+        let facts = Found::under(index, code, Wanted::Cell(dims), None);
         Ids { facts }
     }
 

@@ -6,26 +6,22 @@ ghost use Rattle.filing_model.specs.Queries.{cell_facts, cell_ids, ids_for};
 ghost use Rattle.filing_index.specs.Cells.{WasLookedAt};
 ghost use Rattle.filing_index.specs.Wanted.{asked_of};
 
-use crate::cells::{are_these, class_in, least_disallowed, with_cell};
+use crate::cells::{are_these, class_in, dims_of, least_disallowed, with_cell};
 use crate::facts::Facts;
 use crate::ids::Ids;
 use crate::order::Order;
 use crate::wanted::Asked;
+use filing_pages::{Held, code_of_dims};
 use oim_fact::{Allowed, Class, DimSet};
 
 impl Facts {
-    /// The class of the facts with these dimensions.
-    pub fn class_of_cell(&self, dims: &DimSet) -> Class
-        ensures { result ≡ class_of (cell_facts dims.now self.now) }
+    /// The class of the facts with these dimensions, and their identifiers in byte order.
+    pub fn cell<'a>(&'a self, dims: &'a DimSet) -> (Class, Ids<'a>)
+        ensures { result ≡ (class_of (cell_facts dims.now self.now), cell_ids dims.now self.now) }
     {
-        class_in(self.index(Order::Cell), dims)
-    }
-
-    /// Their identifiers, in byte order.
-    pub fn ids_of_cell<'a>(&'a self, dims: &'a DimSet) -> Ids<'a>
-        ensures { result ≡ cell_ids dims.now self.now }
-    {
-        Ids::of_cell(self.index(Order::Cell), dims)
+        let index = self.index(Order::Cell);
+        let code = code_of_dims(dims);
+        (class_in(index, code, dims), Ids::of_cell(index, code, dims))
     }
 
     /// The identifiers of a query, in byte order: those that are greater than one, where one is given.
@@ -44,23 +40,24 @@ impl Facts {
         Ids::of_query(self.index(period.order()), concept, period, after)
     }
 
-    /// The lesser of the least so far, where there is one, and other dimensions, where their cell is not allowed. Dimensions that were looked at right before are not looked at again.
+    /// The lesser of the least so far, where there is one, and the dimensions of a fact, where their cell is not
+    /// allowed. Dimensions that were looked at right before are not looked at again.
     pub fn lesser_disallowed<'a>(
         &self,
         allowed: Allowed,
         least: Option<&'a DimSet>,
         before: Option<&DimSet>,
-        dims: &'a DimSet,
+        held: &'a Held,
     ) -> Option<&'a DimSet>
         ensures { WasLookedAt (is_disallowed allowed (facts_of self.now.entries)) (option_map (λ d. d.now) before.entry) (option_map (λ d. d.now) least.entry)
             → option_map (λ d. d.now) result
             ≡ fold lesser_dims (option_map (λ d. d.now) least.entry)
-            (filter (is_disallowed allowed (facts_of self.now.entries)) (dims.now ∷ [])) }
+            (filter (is_disallowed allowed (facts_of self.now.entries)) (held.now.dims ∷ [])) }
     {
-        if are_these(before, dims) {
+        if are_these(before, dims_of(held)) {
             return least;
         }
-        with_cell(self.index(Order::Cell), allowed, least, dims)
+        with_cell(self.index(Order::Cell), allowed, least, held)
     }
 
     /// The least dimensions whose cell is not allowed. It is one walk.

@@ -7,8 +7,10 @@ ghost use Rattle.sorted_pages.specs.Sorted.{IsRising};
 ghost use Rattle.sorted_pages.specs.Changes.{entry_of};
 ghost use Rattle.filing_index.specs.Moves.{Part, Id, Cell, Range, stamped_by};
 ghost use Rattle.filing_index.specs.Wanted.{asked_of};
-ghost use Rattle.filing_index.specs.Stamps.{ArePuts, among_side, coded_stamp, stamps_of, stamps_if_there, stamps_of_move, stamps_of_moves, stamp_cmp, stamp_in};
+ghost use Rattle.filing_index.specs.Stamps.{ArePuts, among_side, coded_stamp, stamps_of, stamps_if_there, had_dims};
+ghost use Rattle.filing_index.specs.Stamps.{stamps_beside, stamps_of_move, stamps_of_moves, stamp_cmp, stamp_in};
 
+use crate::cells::dims_of;
 use crate::moves::Move;
 use crate::stamp::{Group, Stamp, StampKind};
 use crate::stamp_spans::{Among, IdRange};
@@ -75,12 +77,41 @@ fn leave_if_there(
     }
 }
 
+/// Whether a fact, where there was one, had these dimensions.
+fn had_dims(old: Option<&Named<Held>>, dims: &DimSet) -> bool
+    ensures { result ≡ had_dims (option_copied old.entry) dims.now }
+{
+    match old {
+        Some(old) => dims_of(old.value()) == dims,
+        None => false,
+    }
+}
+
+/// Appends the stamps that a new fact leaves beside those of the old one. Where both have the same dimensions, these
+/// would only tie.
+fn leave_beside(
+    stamps: &mut Vec<Stamp>,
+    old: Option<&Named<Held>>,
+    new: Option<&Named<Held>>,
+    number: u64,
+) -> Result<(), AllocError>
+    ensures { OnOk result (stamps.new.items
+        ≡ stamps.old.items ++ stamps_beside number (option_copied old.entry) (option_copied new.entry)) }
+{
+    if let Some(new) = new {
+        if !had_dims(old, dims_of(new.value())) {
+            leave(stamps, new, number)?;
+        }
+    }
+    Ok(())
+}
+
 /// Appends the stamps of what becomes of a fact.
 fn leave_both(stamps: &mut Vec<Stamp>, each: &Move, number: u64) -> Result<(), AllocError>
     ensures { OnOk result (stamps.new.items ≡ stamps.old.items ++ stamps_of_move number each.now) }
 {
     leave_if_there(stamps, each.old(), number)?;
-    leave_if_there(stamps, each.new(), number)?;
+    leave_beside(stamps, each.old(), each.new(), number)?;
     Ok(())
 }
 

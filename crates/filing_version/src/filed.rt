@@ -287,9 +287,8 @@ impl FiledReport {
         let mut before = None;
         for put in puts.iter() {
             if let Some(held) = put.value() {
-                let dims = &held.fact().dims;
-                least = self.facts.lesser_disallowed(allowed, least, before, dims);
-                before = Some(dims);
+                least = self.facts.lesser_disallowed(allowed, least, before, held);
+                before = Some(&held.fact().dims);
             }
         }
         least

@@ -83,7 +83,7 @@ impl RepoVersion {
             (report_at (repository_in self.now) report.now) }
     {
         let facts = self.reports.get(report)?.facts();
-        Some((facts.class_of_cell(dims), facts.ids_of_cell(dims)))
+        Some(facts.cell(dims))
     }
 
     /// The identifiers, in byte order, of the facts with a concept and a period that is asked for; those that are greater than one, where one is given. None where the report is not there.

@@ -11,6 +11,7 @@ returns c = λ facts index.
     let (given, (end, (last, given_by, over)), class) = c.class_over.ensures in
     let all = items_from_drains given (last, given_by, λ _. (end, over))
     (YieldsList-from_map_by _ (λ f. arc_value f.now) (λ e. e.1)
-    (YieldsList-at c.map.ensures.source (YieldsList-from_first (λ x. x.now) (λ f. f) c.of-cell.result refl))
+    (YieldsList-at c.map.ensures.source (YieldsList-from_first (λ x. x.now) (λ f. f) c.under-cell.result refl))
     c.map.ensures.closure (λ x r q k. search rules)) in
-    class ∙ ap class_of (all ∙ ap (map (λ e. e.1)) (c.of-cell.ensures facts index ∙ found_all (has_dims c.args.dims.now) facts))
+    let found = c.under-cell.ensures facts index ∙ found_all (has_dims c.args.dims.now) facts in
+    class ∙ ap class_of (all ∙ ap (map (λ e. e.1)) found)

@@ -30,14 +30,16 @@ loop-held-preserved g c = λ all index.
     let before = option_map (λ d. d.now) c.loop-held.before in
     let least = option_map (λ d. d.now) c.loop-held.least in
     let so_far = c.loop-held.invariant all index in
-    taken a all given held c.dims_of-dims.result.now (option_map (λ d. d.now) c.if-not-are_these.least) c.dims_of-dims.ensures
+    let of_held = ap (λ (f : Fact). f.dims) c.value-fact.ensures in
+    let dims = c.dims_of-dims.ensures ∙ of_held in
+    taken a all given held c.dims_of-dims.result.now (option_map (λ d. d.now) c.if-not-are_these.least) dims
     (elim c.if-not-are_these.branch [
       | then-not-are_these w ↦ one_more a all (facts_given given) held.now.1 before least (option_map (λ d. d.now) c.if-not-are_these.least) so_far
           (ap (option_map (λ d. d.now)) w.least-is ∙ w.with_cell-least.ensures all index
-          ∙ ap (λ d. fold lesser_dims least (filter (is_disallowed a (facts_of all.entries)) (d ∷ []))) c.dims_of-dims.ensures)
+          ∙ ap (λ d. fold lesser_dims least (filter (is_disallowed a (facts_of all.entries)) (d ∷ []))) of_held)
       | else-not-are_these w ↦ subst (λ m. IsLeastSoFar a all (facts_given given ++ held.now.1 ∷ []) (Some held.now.1.dims) m) (sym (ap (option_map (λ d. d.now)) w.least-is))
           (passed_over a all (facts_given given) held.now.1 before least so_far
-          (ap (are_these before) (sym c.dims_of-dims.ensures) ∙ sym c.are_these.ensures ∙ w.if-not-are_these.false))
+          (ap (are_these before) (sym dims) ∙ sym c.are_these.ensures ∙ w.if-not-are_these.false))
     ])
 
 pub returns : goal.returns

@@ -1,7 +1,8 @@
 use Rattle.std.proofs.Common.{◌∙◌, ap, sym, refl, not, [], ◌∷◌, cond, true, filter, true≢false}
 use Rattle.std.specs.List.{fold}
 use Rattle.std.specs.Option.{option_map}
-use Rattle.filing_model.specs.Duplicates.{has_dims, facts_of, is_disallowed, lesser_dims}
+use Rattle.filing_model.specs.Duplicates.{class_of, has_dims, facts_of, is_disallowed, lesser_dims}
+use Rattle.filing_model.specs.Queries.{cell_facts}
 use Rattle.filing_model.specs.declared.duplicates.Allowed.TheVariants.{All}
 use Rattle.filing_model.proofs.EveryPair.{pairs_always}
 use Rattle.filing_model.proofs.DisallowedCells.{allows-cell}
@@ -13,7 +14,7 @@ use Rattle.filing_index.proofs.cells.with_cell.Goals.{in-All, in_default}
 pub returns-then-matches : goal.returns-then-matches
 returns-then-matches c = λ facts index.
     let least = option_map (λ d. d.now) c.args.least in
-    let dims = c.args.dims.now in
+    let dims = c.args.held.now.dims in
     elim c.match-matches.branch [
       | in-All w ↦ sym (ap (λ a. fold lesser_dims least (filter (is_disallowed a (facts_of facts.entries)) (dims ∷ []))) w.in-All.is
           ∙ ap (λ b. fold lesser_dims least (cond (not b) (dims ∷ []) []))
@@ -23,13 +24,19 @@ returns-then-matches c = λ facts index.
 
 pub returns-then-allows : goal.returns-then-allows
 returns-then-allows c = λ facts index.
-    sym (ap (λ b. fold lesser_dims (option_map (λ d. d.now) c.args.least) (cond b (c.args.dims.now ∷ []) []))
-    (disallowed_by_class c.args.allowed c.args.dims.now facts c.class_in.result (c.class_in.ensures facts index)
+    let dims = c.args.held.now.dims in
+    let class = c.class_in.ensures facts index ∙ ap (λ d. class_of (cell_facts d facts)) c.dims_of-dims.ensures in
+    sym (ap (λ b. fold lesser_dims (option_map (λ d. d.now) c.args.least) (cond b (dims ∷ []) []))
+    (disallowed_by_class c.args.allowed dims facts c.class_in.result class
     ∙ ap not (sym c.allows.ensures ∙ c.if-allows.true)))
 
 pub returns : goal.returns
 returns c = λ facts index.
+    let dims = c.args.held.now.dims in
+    let least = option_map (λ d. d.now) c.args.least in
+    let class = c.class_in.ensures facts index ∙ ap (λ d. class_of (cell_facts d facts)) c.dims_of-dims.ensures in
     c.lesser.ensures
-    ∙ sym (ap (λ b. fold lesser_dims (option_map (λ d. d.now) c.args.least) (cond b (c.args.dims.now ∷ []) []))
-    (disallowed_by_class c.args.allowed c.args.dims.now facts c.class_in.result (c.class_in.ensures facts index)
+    ∙ ap (lesser_dims least) c.dims_of-dims.ensures
+    ∙ sym (ap (λ b. fold lesser_dims least (cond b (dims ∷ []) []))
+    (disallowed_by_class c.args.allowed dims facts c.class_in.result class
     ∙ ap not (sym c.allows.ensures ∙ c.if-allows.false)))

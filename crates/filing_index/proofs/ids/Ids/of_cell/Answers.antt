@@ -4,4 +4,5 @@ use Rattle.filing_index.proofs.FoundEntries.{found_all}
 use Rattle.filing_index.proofs.ids.Ids.of_cell.Goals as goal
 
 pub returns : goal.returns
-returns c = λ facts index. ap (map (λ e. e.0)) (c.of-facts.ensures facts index ∙ found_all (has_dims c.args.dims.now) facts)
+returns c = λ facts index.
+    ap (map (λ e. e.0)) (c.under-facts.ensures facts index ∙ found_all (has_dims c.args.dims.now) facts)

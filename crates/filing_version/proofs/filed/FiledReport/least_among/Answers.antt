@@ -21,7 +21,7 @@ loop-put-preserved-in-Some-value c =
     (λ i. is_disallowed (c.allowed-allowed.ensures i) (facts_of (c.self.view_is i).report.facts.entries)) in
     let before : Option Dims = option_map (λ d. d.now) c.loop-put.before in
     let one = c.lesser_disallowed-least.ensures (subst (λ p. WasLookedAt p before least) (sym same) c.loop-put.invariant.0)
-    ∙ (λ i. fold lesser_dims least (filter (same i) (dims i ∷ []))) in
+    ∙ (λ i. fold lesser_dims least (filter (same i) (held.dims ∷ []))) in
     let steps : c.loop-put.put-iterator ≡ c.in-Some.put.now ∷ rest = c.in-Some.ensures.steps in
     let put : c.in-Some.put.now.1 ≡ Some held = sym c.value.ensures ∙ c.in-Some-value.is in (
       subst (λ d. WasLookedAt bad (Some d) (option_map (λ d. d.now) c.lesser_disallowed-least.result)) (sym dims)

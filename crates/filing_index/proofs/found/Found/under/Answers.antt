@@ -5,11 +5,13 @@ use Rattle.filing_index.specs.Wanted.{is_wanted, code_of, coded_by}
 use Rattle.filing_index.proofs.WantedCodes.{code_of_wanted}
 use Rattle.filing_index.proofs.FoundEntries.{found_is}
 use Rattle.sorted_pages.specs.Ranges.{within}
-use Rattle.filing_index.proofs.found.Found.of.Goals as goal
+use Rattle.filing_index.proofs.found.Found.under.Goals as goal
 
 pub returns : goal.returns
 returns c = λ facts index.
     let w = c.args.wanted in
     let after = option_map (λ t. t.now) c.args.after in
-    ap (passing (is_wanted w)) (c.range-entries.ensures.entries ∙ ap (λ n. within (side_of n after) c.args.index.now) c.code.ensures)
-    ∙ found_is (code_of w) after (is_wanted w) (coded_by w) (code_of_wanted w) facts c.args.index.now c.range-entries.ensures.rising index
+    let coded = ap (λ n. within (side_of n after) c.args.index.now) c.requires in
+    ap (passing (is_wanted w)) (c.range-entries.ensures.entries ∙ coded)
+    ∙ found_is (code_of w) after (is_wanted w) (coded_by w) (code_of_wanted w)
+    facts c.args.index.now c.range-entries.ensures.rising index
