@@ -1,33 +1,62 @@
 -- A run, step by step.
-use Rattle.std.proofs.Common.{◌≡◌, sym, subst, refl, cond, Bool, true, false, not, length, List, [], ◌∷◌, ◌++◌, append-nil, append_assoc}
+use Rattle.std.proofs.Common.{◌≡◌, ◌∙◌, ap, sym, subst, refl, cond, Bool, true, false, not, length, List, [], ◌∷◌, ◌++◌, append-nil, append_assoc}
 use Rattle.std.specs.Prelude.{string_bytes}
 use Rattle.filing_step.specs.Steps.{step_of}
 use Rattle.filing_office.specs.declared.outcome.Outcome.{Outcome}
 use Rattle.filing_office.specs.declared.work.DeskStep.{DeskStep}
-use Rattle.filing_office.specs.Runs.{RunState, Goes, Runs, is_no_memory}
+use Rattle.filing_office.specs.Runs.{RunState, Goes, Runs, RanAfter, is_no_memory}
 
--- what the rest of the steps makes of the state as it is, the whole makes of the first
-abbrev pub RunsOn : {J : Type 0} → RunState → RunState → List DeskStep → List DeskStep → List (Outcome J) → Type 0
-RunsOn start now all rest told = (t : RunState) (os : List (Outcome _)) → Runs now t told rest os → Runs start t [] all (told ++ os)
+-- what the rest of the steps makes of the state as it is, all of them make of the first, after these outcomes
+pub record RunsOn {J : Type 0} (start now : RunState) (before : List (Outcome J)) (all rest : List DeskStep)
+    (told : List (Outcome J)) : Type 0 where
+  pub so_far : List (Outcome J)
+  pub are : told ≡ before ++ so_far
+  pub on : (t : RunState) (os : List (Outcome J)) → Runs now t told rest os → Runs start t before all (so_far ++ os)
 
-pub begins : {J : Type 0} (s : RunState) (all : List DeskStep) (told : List (Outcome J)) → told ≡ [] → RunsOn s s all all told
-begins s all told none = λ t os runs. subst (λ xs. Runs s t [] all (xs ++ os)) (sym none) (subst (λ xs. Runs s t xs all os) none runs)
+pub begins : {J : Type 0} (s : RunState) (all : List DeskStep) (told : List (Outcome J)) → RunsOn s s told all all told
+begins s all told = record { so_far = []; are = sym (append-nil told); on = λ t os runs. runs }
 
-module _ {J : Type 0} (start now mid : RunState) (all rest : List DeskStep) (x : DeskStep) (told : List (Outcome J))
-    (o : Outcome J) (before : RunsOn start now all (x ∷ rest) told)
+module _ {J : Type 0} (start now mid : RunState) (before : List (Outcome J)) (all rest : List DeskStep) (x : DeskStep)
+    (told : List (Outcome J)) (o : Outcome J) (run : RunsOn start now before all (x ∷ rest) told)
     (goes : Goes now mid told (string_bytes x.name) (step_of x.step) o) where
-  pub goes_on : is_no_memory o ≡ false → RunsOn start mid all rest (told ++ o ∷ [])
-  goes_on more = λ t os runs.
-      subst (λ xs. Runs start t [] all xs) (sym (append_assoc told (o ∷ []) os))
-      (before t (o ∷ os) (mid, goes, subst (λ b. cond b ((os ≡ []) × (t ≡ mid)) (Runs mid t (told ++ o ∷ []) rest os)) (sym more) runs))
+  one_more : told ++ o ∷ [] ≡ before ++ (run.so_far ++ o ∷ [])
+  one_more = ap (λ os. os ++ o ∷ []) run.are ∙ append_assoc before run.so_far (o ∷ [])
 
-  pub stops : is_no_memory o ≡ true → Runs start mid [] all (told ++ o ∷ [])
+  pub goes_on : is_no_memory o ≡ false → RunsOn start mid before all rest (told ++ o ∷ [])
+  goes_on more = record {
+    so_far = run.so_far ++ o ∷ [];
+    are = one_more;
+    on = λ t os runs.
+        subst (λ xs. Runs start t before all xs) (sym (append_assoc run.so_far (o ∷ []) os))
+        (run.on t (o ∷ os) (
+          mid,
+          goes,
+          subst (λ b. cond b ((os ≡ []) × (t ≡ mid)) (Runs mid t (told ++ o ∷ []) rest os)) (sym more) runs,
+        ));
+  }
+
+  pub stops : is_no_memory o ≡ true → RanAfter start mid before all (told ++ o ∷ [])
   stops last =
-      let none : List (Outcome J) = [] in
-      before mid (o ∷ []) (mid, goes, subst (λ b. cond b ((none ≡ []) × (mid ≡ mid)) (Runs mid mid (told ++ o ∷ []) rest [])) (sym last) (refl, refl))
+      let none : List (Outcome J) = [] in (
+        run.so_far ++ o ∷ [],
+        run.on mid (o ∷ []) (
+          mid,
+          goes,
+          subst (λ b. cond b ((none ≡ []) × (mid ≡ mid)) (Runs mid mid (told ++ o ∷ []) rest [])) (sym last) (refl, refl),
+        ),
+        one_more,
+      )
 
-pub ends : {J : Type 0} (start now : RunState) (all : List DeskStep) (told : List (Outcome J)) → RunsOn start now all [] told → Runs start now [] all told
-ends start now all told before = subst (λ xs. Runs start now [] all xs) (append-nil told) (before now [] (refl, refl))
+pub ends : {J : Type 0} (start now : RunState) (before : List (Outcome J)) (all : List DeskStep) (told : List (Outcome J))
+    → RunsOn start now before all [] told → RanAfter start now before all told
+ends start now before all told run = (run.so_far ++ [], run.on now [] (refl, refl), run.are ∙ ap (λ os. before ++ os) (sym (append-nil run.so_far)))
+
+-- a run after no outcomes has only its own
+pub from_none : {J : Type 0} (s t : RunState) (before : List (Outcome J)) (steps : List DeskStep) (all : List (Outcome J))
+    → before ≡ [] → RanAfter s t before steps all → Runs s t [] steps all
+from_none s t before steps all none ran =
+    subst (λ os. Runs s t [] steps os) (sym (ran.2 ∙ ap (λ os. os ++ ran.0) none))
+    (subst (λ os. Runs s t os steps ran.0) none ran.1)
 
 pub not_from_true : (b : Bool) → not b ≡ true → b ≡ false
 not_from_true true is = sym is

@@ -153,6 +153,10 @@ Runs s t told (x ∷ xs) (o ∷ os) =
     × Goes s mid told (string_bytes x.name) (step_of x.step) o
     × cond (is_no_memory o) ((os ≡ []) × (t ≡ mid)) (Runs mid t (told ++ o ∷ []) xs os)
 
+-- so after earlier outcomes, behind which those of these steps are put
+abbrev pub RanAfter : {J : Type 0} → RunState → RunState → List (Outcome J) → List DeskStep → List (Outcome J) → Type 0
+RanAfter s t told steps all = (os : List (Outcome _)) × Runs s t told steps os × (all ≡ told ++ os)
+
 -- ---- how a run keeps to them
 
 -- the reviewer has learnt the receipts of so many outcomes

@@ -1,17 +1,16 @@
 //! `run_desks`: a thread for each desk.
 
-ghost use Rattle.std.specs.Prelude.{◌≡◌, ◌+◌, ◌∷◌, ◌++◌, ◌<◌, ◌≤◌, [], not, length, map, vec_len, vec_capacity, string_bytes, IfOk};
+ghost use Rattle.std.specs.Prelude.{◌≡◌, ◌≤◌, [], map, vec_len, vec_capacity, IfOk};
 ghost use denote.Param.Send.{IsSync};
-ghost use Rattle.filing_step.specs.Steps.{step_of};
-ghost use Rattle.filing_office.specs.declared.outcome.Outcome.{Outcome as Told};
-ghost use Rattle.filing_office.specs.Runs.{Goes, Runs, IsLearnt, is_no_memory};
 ghost use Rattle.filing_office.specs.Rans.{RanOf, EachRan};
 
+use crate::access::EachStep;
 use crate::fault::RunFault;
 use crate::office::Office;
 use crate::outcome::Outcome;
+use crate::steps::take_steps;
 use crate::turn::Turn;
-use crate::work::{DeskStep, Gate, Ran, Work};
+use crate::work::{Gate, Ran, Work};
 use filing_editions::Naming;
 use std::alloc::{AllocError, Global};
 use std::marker::{Send, Sync};
@@ -57,56 +56,6 @@ fn jobs_of<L: Ledger + Naming, M: Ledger>(
     Ok(jobs)
 }
 
-/// Takes one step between the calls of the gate, and keeps its outcome. Whether the desk goes on.
-fn take_one<L: Ledger + Naming, M: Ledger, G: Gate, R: Wait>(
-    rt: &R,
-    office: &Office<L, M>,
-    alloc: Global,
-    gate: &G,
-    at: (usize, usize),
-    turn: &mut Turn<L, M>,
-    step: DeskStep,
-    outcomes: &mut Vec<Outcome<L>>,
-) -> bool
-    requires learnt { IsLearnt turn.old outcomes.old.items }
-    requires room { vec_len outcomes.old < vec_capacity outcomes.old }
-    ensures goes { (o : Told L) × Goes turn.old.state turn.new.state outcomes.old.items (string_bytes step.name) (step_of step.step) o
-        × (outcomes.new.items ≡ outcomes.old.items ++ o ∷ []) × (result ≡ not (is_no_memory o)) }
-    ensures learnt { IsLearnt turn.new outcomes.new.items }
-    ensures len { vec_len outcomes.new ≡ vec_len outcomes.old + 1 }
-    ensures room { vec_capacity outcomes.new ≡ vec_capacity outcomes.old }
-{
-    let (place, k) = at;
-    gate.before(place, k);
-    let outcome = turn.take(rt, office, alloc, step, outcomes.as_slice());
-    gate.after(place, k);
-    let goes_on = !outcome.is_no_memory();
-    outcomes.push_reserved(outcome);
-    goes_on
-}
-
-/// Takes the steps one after the other, up to the first want of memory.
-fn take_all<L: Ledger + Naming, M: Ledger, G: Gate, R: Wait>(
-    rt: &R,
-    office: &Office<L, M>,
-    alloc: Global,
-    gate: &G,
-    place: usize,
-    turn: &mut Turn<L, M>,
-    steps: Vec<DeskStep>,
-    outcomes: &mut Vec<Outcome<L>>,
-)
-    requires first { (outcomes.old.items ≡ []) × (turn.old.learnt ≡ 0) }
-    requires room { vec_len steps ≤ vec_capacity outcomes.old }
-    ensures { Runs turn.old.state turn.new.state [] steps.items outcomes.new.items }
-{
-    for (k, step) in steps.into_iter().enumerate() {
-        if !take_one(rt, office, alloc, gate, (place, k), turn, step, outcomes) {
-            break;
-        }
-    }
-}
-
 /// Does the work of one desk.
 fn run_desk<L: Ledger + Naming, M: Ledger, G: Gate, R: Wait>(
     rt: &R,
@@ -128,16 +77,8 @@ fn run_desk<L: Ledger + Naming, M: Ledger, G: Gate, R: Wait>(
         steps,
     } = work;
     let mut turn = Turn::new(alloc, desk, reviewer);
-    take_all(
-        rt,
-        office,
-        alloc,
-        gate,
-        place,
-        &mut turn,
-        steps,
-        &mut outcomes,
-    );
+    let mut access = EachStep { rt, office, alloc };
+    take_steps(&mut access, gate, place, &mut turn, steps, &mut outcomes);
     let (desk, reviewer) = turn.into_parts();
     (desk, reviewer, outcomes)
 }

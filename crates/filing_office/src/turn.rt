@@ -6,13 +6,14 @@ ghost use Rattle.filing_model.specs.TextMap.{empty, get, insert, remove};
 ghost use Rattle.filing_model.specs.Repository.{Repository};
 ghost use Rattle.filing_step.specs.Steps.{reply_of, step_of};
 ghost use Rattle.filing_office.specs.Answers.{is_of_session};
+ghost use Rattle.filing_office.specs.declared.outcome.Outcome.{Outcome as Told};
 ghost use Rattle.filing_office.specs.declared.outcome.Outcome.TheVariants.{Answered};
 ghost use Rattle.filing_office.specs.declared.place.Place.TheVariants as place;
 ghost use Rattle.filing_office.specs.Runs.{ends, names_after, reviewed, outcome_of, Loads, OpensUnder, OfficeOpens, ReviewOpens, StepsUnder, GoesOnAt, Goes, IsReviewedFrom, IsLearnt, IsWithin};
 
+use crate::access::Access;
 use crate::answer::Answer;
 use crate::desk::Desk;
-use crate::office::Office;
 use crate::outcome::Outcome;
 use crate::place::Place;
 use crate::work::DeskStep;
@@ -22,12 +23,13 @@ use filing_step::{Kind, Reply, SessionNames};
 use oim_report::Report;
 use std::alloc::{AllocError, Global};
 use std::marker::Model;
+use std::sync::Arc;
 use std::sync::ledger::Ledger;
-use std::sync::{Arc, Wait};
 
 /// A desk that takes steps under names. Contracts see what is known of it, and of how many outcomes its reviewer has learnt the receipts.
 #[derive(Drop)]
-pub(crate) struct Turn<L: Ledger + Naming, M: Ledger> {
+pub struct Turn<L: Ledger + Naming, M: Ledger> {
+    alloc: Global,
     desk: Desk<L, M>,
     reviewer: Option<Reviewer<L>>,
     names: SessionNames<Place>,
@@ -103,11 +105,12 @@ fn learn_all<J: Naming>(
 
 impl<L: Ledger + Naming, M: Ledger> Turn<L, M> {
     /// Before the first step.
-    pub(crate) fn new(alloc: Global, desk: Desk<L, M>, reviewer: Option<Reviewer<L>>) -> Turn<L, M>
+    pub fn new(alloc: Global, desk: Desk<L, M>, reviewer: Option<Reviewer<L>>) -> Turn<L, M>
         ensures state { result.state ≡ record { tally = desk; seen = reviewer; names = empty } }
-        ensures learnt { result.learnt ≡ 0 }
+        ensures learnt { (told : List (Told L)) → IsLearnt result told }
     {
         Turn {
+            alloc,
             desk,
             reviewer,
             names: SessionNames::new(alloc),
@@ -116,7 +119,7 @@ impl<L: Ledger + Naming, M: Ledger> Turn<L, M> {
     }
 
     /// The desk and its reviewer.
-    pub(crate) fn into_parts(self) -> (Desk<L, M>, Option<Reviewer<L>>)
+    pub fn into_parts(self) -> (Desk<L, M>, Option<Reviewer<L>>)
         ensures tally { result.0 ≡ self.state.tally }
         ensures seen { result.1 ≡ self.state.seen }
     {
@@ -124,21 +127,16 @@ impl<L: Ledger + Naming, M: Ledger> Turn<L, M> {
     }
 
     /// Takes a load.
-    fn load<R: Wait>(
+    fn load<A: Access<L, M>>(
         &mut self,
-        rt: &R,
-        office: &Office<L, M>,
-        alloc: Global,
+        access: &mut A,
         name: String,
         report: Arc<Report>,
     ) -> Result<Outcome<L>, AllocError>
         ensures loads { Loads self.old.state self.new.state (outcome_of result) }
         ensures learnt { self.new.learnt ≡ self.old.learnt }
     {
-        match self
-            .desk
-            .step(rt, office, alloc, None, Step::Load(name, report))
-        {
+        match access.step(&mut self.desk, None, Step::Load(name, report)) {
             Ok(answer) => Ok(Outcome::Answered(answer)),
             Err(CoreFault::NoSession) => unreachable!(),
             Err(CoreFault::NoMemory) => Err(AllocError),
@@ -146,11 +144,9 @@ impl<L: Ledger + Naming, M: Ledger> Turn<L, M> {
     }
 
     /// Opens a session under the lock. The name is in use before, so that it can be when the session is open.
-    fn open_at_office<R: Wait>(
+    fn open_at_office<A: Access<L, M>>(
         &mut self,
-        rt: &R,
-        office: &Office<L, M>,
-        alloc: Global,
+        access: &mut A,
         name: String,
         kind: Kind,
     ) -> Result<Outcome<L>, AllocError>
@@ -159,7 +155,7 @@ impl<L: Ledger + Naming, M: Ledger> Turn<L, M> {
         ensures learnt { self.new.learnt ≡ self.old.learnt }
     {
         self.names.insert(name.clone()?, Place::Office(0))?;
-        match self.desk.step(rt, office, alloc, None, Step::Open(kind)) {
+        match access.step(&mut self.desk, None, Step::Open(kind)) {
             Ok(answer) => {
                 self.seat(name, &answer);
                 Ok(Outcome::Answered(answer))
@@ -217,11 +213,9 @@ impl<L: Ledger + Naming, M: Ledger> Turn<L, M> {
     }
 
     /// Opens a session under a name.
-    fn open<R: Wait>(
+    fn open<A: Access<L, M>>(
         &mut self,
-        rt: &R,
-        office: &Office<L, M>,
-        alloc: Global,
+        access: &mut A,
         name: String,
         kind: Kind,
         told: &[Outcome<L>],
@@ -235,11 +229,14 @@ impl<L: Ledger + Naming, M: Ledger> Turn<L, M> {
             return Ok(Outcome::NameInUse);
         }
         if self.reviewer.is_none() {
-            return self.open_at_office(rt, office, alloc, name, kind);
+            return self.open_at_office(access, name, kind);
         }
         match kind {
-            Kind::Review => self.open_review(name, told),
-            Kind::Amend => self.open_at_office(rt, office, alloc, name, kind),
+            Kind::Review => {
+                access.leave();
+                self.open_review(name, told)
+            }
+            Kind::Amend => self.open_at_office(access, name, kind),
         }
     }
 
@@ -257,11 +254,9 @@ impl<L: Ledger + Naming, M: Ledger> Turn<L, M> {
     }
 
     /// Takes a step of a session under the lock.
-    fn step_at_office<R: Wait>(
+    fn step_at_office<A: Access<L, M>>(
         &mut self,
-        rt: &R,
-        office: &Office<L, M>,
-        alloc: Global,
+        access: &mut A,
         name: &str,
         number: u64,
         step: Step,
@@ -271,7 +266,7 @@ impl<L: Ledger + Naming, M: Ledger> Turn<L, M> {
         ensures learnt { self.new.learnt ≡ self.old.learnt }
     {
         let ended = ends(&step);
-        match self.desk.step(rt, office, alloc, Some(number), step) {
+        match access.step(&mut self.desk, Some(number), step) {
             Ok(answer) => {
                 self.leave(name, ended);
                 Ok(Outcome::Answered(answer))
@@ -285,11 +280,9 @@ impl<L: Ledger + Naming, M: Ledger> Turn<L, M> {
     }
 
     /// Takes a step of the session of a name.
-    fn go_on<R: Wait>(
+    fn go_on<A: Access<L, M>>(
         &mut self,
-        rt: &R,
-        office: &Office<L, M>,
-        alloc: Global,
+        access: &mut A,
         name: &str,
         step: Step,
     ) -> Result<Outcome<L>, AllocError>
@@ -302,10 +295,11 @@ impl<L: Ledger + Naming, M: Ledger> Turn<L, M> {
             None => Ok(Outcome::NoSession),
             Some(Place::Office(number)) => {
                 let number = *number;
-                self.step_at_office(rt, office, alloc, name, number, step)
+                self.step_at_office(access, name, number, step)
             }
             Some(Place::Review(review)) => {
-                let reply = reviewed(alloc, review, &step)?;
+                access.leave();
+                let reply = reviewed(self.alloc, review, &step)?;
                 self.leave(name, ends(&step));
                 Ok(of_review(reply))
             }
@@ -313,11 +307,9 @@ impl<L: Ledger + Naming, M: Ledger> Turn<L, M> {
     }
 
     /// Takes a step, or says that memory is wanted.
-    fn go<R: Wait>(
+    fn go<A: Access<L, M>>(
         &mut self,
-        rt: &R,
-        office: &Office<L, M>,
-        alloc: Global,
+        access: &mut A,
         step: DeskStep,
         told: &[Outcome<L>],
     ) -> Result<Outcome<L>, AllocError>
@@ -327,18 +319,16 @@ impl<L: Ledger + Naming, M: Ledger> Turn<L, M> {
     {
         let DeskStep { name, step } = step;
         match step {
-            Step::Load(report_name, report) => self.load(rt, office, alloc, report_name, report),
-            Step::Open(kind) => self.open(rt, office, alloc, name, kind, told),
-            step => self.go_on(rt, office, alloc, &name, step),
+            Step::Load(report_name, report) => self.load(access, report_name, report),
+            Step::Open(kind) => self.open(access, name, kind, told),
+            step => self.go_on(access, &name, step),
         }
     }
 
     /// Takes a step, after these outcomes.
-    pub(crate) fn take<R: Wait>(
+    pub fn take<A: Access<L, M>>(
         &mut self,
-        rt: &R,
-        office: &Office<L, M>,
-        alloc: Global,
+        access: &mut A,
         step: DeskStep,
         told: &[Outcome<L>],
     ) -> Outcome<L>
@@ -346,7 +336,7 @@ impl<L: Ledger + Naming, M: Ledger> Turn<L, M> {
         ensures goes { Goes self.old.state self.new.state told.now (string_bytes step.name) (step_of step.step) result }
         ensures learnt { IsLearnt self.new told.now }
     {
-        match self.go(rt, office, alloc, step, told) {
+        match self.go(access, step, told) {
             Ok(outcome) => outcome,
             Err(AllocError) => Outcome::NoMemory,
         }

@@ -10,13 +10,13 @@ use Rattle.line_run.specs.Lines.{lines_text}
 use Rattle.filing_office.specs.declared.outcome.Outcome.{Outcome}
 use Rattle.thread_scripts.specs.Telling.{replies_of, all_told, outcome_text, GrowsBy, NextReply}
 
--- the text so far, and what the lines and outcomes that are left are told, are what all are told
-pub record IsToldTo {J : Type 0} (told rest : List (Option (String Global))) (os left : List (Outcome J)) (text : Text) : Type 0 where
-  pub parts : text ++ lines_text (replies_of rest left) ≡ lines_text (replies_of told os)
+-- the text so far, and what the lines and outcomes that are left are told, are what all are told, behind the text at the start
+pub record IsToldTo {J : Type 0} (start : Text) (told rest : List (Option (String Global))) (os left : List (Outcome J)) (text : Text) : Type 0 where
+  pub parts : text ++ lines_text (replies_of rest left) ≡ start ++ lines_text (replies_of told os)
   pub whole : all_told rest left ≡ all_told told os
 
-pub none_told : {J : Type 0} (told : List (Option (String Global))) (os : List (Outcome J)) → IsToldTo told told os os []
-none_told told os = record { parts = refl; whole = refl }
+pub none_told : {J : Type 0} (start : Text) (told : List (Option (String Global))) (os : List (Outcome J)) → IsToldTo start told told os os start
+none_told start told os = record { parts = refl; whole = refl }
 
 outcome_told : {J : Type 0} (rest : List (Option (String Global))) (os left : List (Outcome J)) (text text' : Text) (told : Option Text)
     → GrowsBy told true text text' → left ≡ os
@@ -58,10 +58,10 @@ lines_with : (line : Text) (lines : List Text) → lines_text (line ∷ lines) �
 unfolding lines_text
 lines_with line lines = refl
 
-module _ {J : Type 0} (told : List (Option (String Global))) (at_once : Option (String Global)) (rest : List (Option (String Global)))
-    (os before left : List (Outcome J)) (text text' : Text) (is : IsToldTo told (at_once ∷ rest) os before text) where
+module _ {J : Type 0} (start : Text) (told : List (Option (String Global))) (at_once : Option (String Global)) (rest : List (Option (String Global)))
+    (os before left : List (Outcome J)) (text text' : Text) (is : IsToldTo start told (at_once ∷ rest) os before text) where
   -- with one reply more
-  pub one_told : NextReply at_once before left true text text' → IsToldTo told rest os left (text' ++ 10 ∷ [])
+  pub one_told : NextReply at_once before left true text text' → IsToldTo start told rest os left (text' ++ 10 ∷ [])
   one_told next =
       let (line, grown, replies, all) = next_told at_once rest before left text text' next in record {
         parts = ap (λ t. (t ++ 10 ∷ []) ++ lines_text (replies_of rest left)) grown
@@ -74,7 +74,7 @@ module _ {J : Type 0} (told : List (Option (String Global))) (at_once : Option (
       }
 
   -- where there is none, the text is all that there is
-  pub no_more_text : NextReply at_once before left false text text' → text' ≡ lines_text (replies_of told os)
+  pub no_more_text : NextReply at_once before left false text text' → text' ≡ start ++ lines_text (replies_of told os)
   no_more_text next =
       let (same, none, _) = none_next at_once rest before left text text' next in
       same ∙ sym (append-nil text) ∙ ap (λ more. text ++ more) (sym (ap lines_text none ∙ lines_of_none)) ∙ is.parts
@@ -87,12 +87,12 @@ pub lines_from : {A : Type 0} (xs : List A) (i : ℕ) (x : A) → i < length xs 
 lines_from xs i x below is = rw add-one (drop-cons xs i x below ∙ ap (λ y. y ∷ drop (suc i) xs) (sym is))
 
 -- no line is left
-pub all_text : {J : Type 0} (told rest : List (Option (String Global))) (os left : List (Outcome J)) (text : Text) → rest ≡ []
-    → IsToldTo told rest os left text → text ≡ lines_text (replies_of told os)
-all_text told rest os left text none is =
-    let now : IsToldTo told [] os left text = subst (λ xs. IsToldTo told xs os left text) none is in
+pub all_text : {J : Type 0} (start : Text) (told rest : List (Option (String Global))) (os left : List (Outcome J)) (text : Text) → rest ≡ []
+    → IsToldTo start told rest os left text → text ≡ start ++ lines_text (replies_of told os)
+all_text start told rest os left text none is =
+    let now : IsToldTo start told [] os left text = subst (λ xs. IsToldTo start told xs os left text) none is in
     sym (append-nil text) ∙ ap (λ more. text ++ more) (sym lines_of_none) ∙ now.parts
 
-pub is_whole : {J : Type 0} (told rest : List (Option (String Global))) (os left : List (Outcome J)) (text : Text) → rest ≡ []
-    → IsToldTo told rest os left text → true ≡ all_told told os
-is_whole told rest os left text none is = (subst (λ xs. IsToldTo told xs os left text) none is).whole
+pub is_whole : {J : Type 0} (start : Text) (told rest : List (Option (String Global))) (os left : List (Outcome J)) (text : Text) → rest ≡ []
+    → IsToldTo start told rest os left text → true ≡ all_told told os
+is_whole start told rest os left text none is = (subst (λ xs. IsToldTo start told xs os left text) none is).whole

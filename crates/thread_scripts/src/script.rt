@@ -1,29 +1,24 @@
-//! `Script`: a script whose lines are judged.
-
-ghost use Rattle.std.specs.Prelude.{◌≡◌, ◌<◌, IfOk, length, vec_len};
+//! The lines of a script, some at a time.
 
 use crate::judged::{Judged, line_judged};
 use filing_office::DeskStep;
 use line_run::is_blank;
 use oim_fact::NumericTable;
 use std::alloc::{AllocError, Global};
-use std::marker::Sync;
 use std::sync::Arc;
-use std::thread;
-use std::thread::Threads;
 
-/// A script whose lines are judged.
+/// Lines of a script that are judged.
 #[derive(Drop)]
-pub(crate) struct Script {
-    /// For each line that is not blank what it is told at once, and none where it takes a step.
+pub(crate) struct Batch {
+    /// For each line what it is told at once, and none where it takes a step.
     pub(crate) told: Vec<Option<String>>,
     /// The steps, in the order of their lines.
     pub(crate) steps: Vec<DeskStep>,
 }
 
-impl Script {
-    fn new(alloc: Global) -> Script {
-        Script {
+impl Batch {
+    fn new(alloc: Global) -> Batch {
+        Batch {
             told: Vec::new(alloc),
             steps: Vec::new(alloc),
         }
@@ -40,44 +35,43 @@ impl Script {
         }
     }
 
-    /// Reads the lines of a script that are not blank.
+    /// Judges lines.
     pub(crate) fn read(
         alloc: Global,
-        text: &[u8],
+        lines: &[&[u8]],
         table: &Arc<NumericTable>,
-    ) -> Result<Script, AllocError> {
-        let mut script = Script::new(alloc);
-        for line in text.split(|byte| *byte == b'\n') {
-            if !is_blank(line) {
-                script.push(line_judged(alloc, line, table)?)?;
-            }
+    ) -> Result<Batch, AllocError> {
+        let mut batch = Batch::new(alloc);
+        for line in lines {
+            batch.push(line_judged(alloc, line, table)?)?;
         }
-        Ok(script)
+        Ok(batch)
     }
 }
 
-/// The values of all results, or the first fault.
-fn all_of<T: Drop>(alloc: Global, results: Vec<Result<T, AllocError>>) -> Result<Vec<T>, AllocError>
-    ensures { IfOk result (λ all. vec_len all ≡ vec_len results) }
-{
-    let mut all = Vec::with_capacity(alloc, results.len())?;
-    for result in results {
-        all.push(result?)?;
-    }
-    Ok(all)
-}
-
-/// Reads scripts, each in a thread of its own.
-pub(crate) fn read_all<R: Threads + Sync>(
-    rt: &R,
+/// Puts a line behind others, in a list of its own where the last has 256.
+fn push_line<'a>(
     alloc: Global,
-    scripts: &[Vec<u8>],
-    table: &Arc<NumericTable>,
-) -> Result<Vec<Script>, AllocError>
-    ensures { IfOk result (λ read. vec_len read ≡ length scripts.now) }
-{
-    let read = |place: usize| -> Result<Script, AllocError>
-        requires { place < length scripts.now }
-    { Script::read(alloc, scripts[place].as_slice(), table) };
-    all_of(alloc, thread::map_indices(rt, alloc, scripts.len(), &read)?)
+    batches: &mut Vec<Vec<&'a [u8]>>,
+    line: &'a [u8],
+) -> Result<(), AllocError> {
+    match batches.last_mut() {
+        Some(lines) if lines.len() < 256 => Ok(lines.push(line)?),
+        _ => {
+            let mut lines = Vec::with_capacity(alloc, 256)?;
+            lines.push(line)?;
+            Ok(batches.push(lines)?)
+        }
+    }
+}
+
+/// The lines of a script that are not blank, in lists of up to 256: so many are judged before their steps are taken.
+pub(crate) fn batches_of(alloc: Global, text: &[u8]) -> Result<Vec<Vec<&[u8]>>, AllocError> {
+    let mut batches = Vec::new(alloc);
+    for line in text.split(|byte| *byte == b'\n') {
+        if !is_blank(line) {
+            push_line(alloc, &mut batches, line)?;
+        }
+    }
+    Ok(batches)
 }

@@ -1,13 +1,13 @@
 //! `Replies`: what the lines of a script are told.
 
-ghost use Rattle.std.specs.Prelude.{◌≡◌, IfOk, string_bytes};
+ghost use Rattle.std.specs.Prelude.{◌≡◌, ◌++◌, IfOk, OnOk, string_bytes};
 ghost use Rattle.std.specs.Slice.Iter.{iter_rest};
 ghost use Rattle.line_run.specs.Lines.{lines_text};
 ghost use Rattle.thread_scripts.specs.Telling.{GrowsBy, NextReply, all_told, outcome_text, replies_of};
 
 use filing_office::{Naming, Outcome};
 use filing_text::{name_in_use_reply, no_session_reply, push_reply};
-use std::alloc::{AllocError, Global};
+use std::alloc::AllocError;
 use std::slice::Iter;
 
 /// What the lines of a script are told.
@@ -51,24 +51,22 @@ fn push_next<J: Naming>(
     }
 }
 
-impl Replies {
-    /// Puts the replies together: what lines are told at once, and between them what became of the steps.
-    pub(crate) fn of<J: Naming>(
-        alloc: Global,
-        told: &[Option<String>],
-        outcomes: &[Outcome<J>],
-    ) -> Result<Replies, AllocError>
-        ensures text { IfOk result (λ r. string_bytes r.text ≡ lines_text (replies_of told.now outcomes.now)) }
-        ensures whole { IfOk result (λ r. r.whole ≡ all_told told.now outcomes.now) }
-    {
-        let mut text = String::new(alloc);
-        let mut outcomes_left = outcomes.iter();
-        for at_once in told {
-            if !push_next(&mut text, at_once, &mut outcomes_left)? {
-                return Ok(Replies { text, whole: false });
-            }
-            text.push_str("\n")?;
+/// Appends the replies of some lines, each ended by a line feed: what lines are told at once, and between them what became of the steps. It ends at the first step for which memory was wanted. Whether each line has its reply.
+pub(crate) fn push_replies<J: Naming>(
+    text: &mut String,
+    told: &[Option<String>],
+    outcomes: &[Outcome<J>],
+) -> Result<bool, AllocError>
+    ensures text { OnOk result (string_bytes text.new
+        ≡ string_bytes text.old ++ lines_text (replies_of told.now outcomes.now)) }
+    ensures whole { IfOk result (λ whole. whole ≡ all_told told.now outcomes.now) }
+{
+    let mut outcomes_left = outcomes.iter();
+    for at_once in told {
+        if !push_next(text, at_once, &mut outcomes_left)? {
+            return Ok(false);
         }
-        Ok(Replies { text, whole: true })
+        text.push_str("\n")?;
     }
+    Ok(true)
 }

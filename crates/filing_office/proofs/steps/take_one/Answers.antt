@@ -1,7 +1,7 @@
 use Rattle.std.proofs.Common.{subst}
 use Rattle.filing_office.specs.Runs.{IsLearnt}
 use Rattle.filing_office.proofs.Learning.{learnt_before}
-use Rattle.filing_office.proofs.run.take_one.Goals as goal
+use Rattle.filing_office.proofs.steps.take_one.Goals as goal
 
 pub returns-clause-learnt : goal.returns-clause-learnt
 returns-clause-learnt g c =
