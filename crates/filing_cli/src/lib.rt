@@ -16,7 +16,7 @@ pub use filing_text::{
     bad_fact_reply, bad_line_reply, bad_report_reply, exported_reply, name_in_use_reply,
     no_session_reply, reply_text,
 };
-pub use history::{judge_history, write_history, write_verdict};
+pub use history::{judge_history, judge_history_keeping, write_history, write_verdict};
 pub use line_run::{
     Failed, FromReader, Machine, MemoryIn, MemoryOut, ScriptFault, Sink, Source, ToWriter,
     is_blank, run, write_all,

@@ -14,8 +14,8 @@ ghost use Rattle.filing_cli.specs.ScriptRun.{IsReply, newest_session};
 use filing_core::{Core, CoreFault};
 use filing_step::{Kind, Reply, SessionNames, Step};
 use filing_text::{
-    Asking, Line, bad_line_reply, bad_report_reply, exported_reply_of, line_of, name_in_use_reply,
-    no_session_reply, reply_text, report_in, step_asked, taken_at,
+    Asking, Line, Loaded, bad_line_reply, bad_report_reply, exported_reply_of, line_of,
+    load_of_line, name_in_use_reply, no_session_reply, reply_text, report_in, step_asked, taken_at,
 };
 use filing_version::RepoVersion;
 use line_run::Machine;
@@ -240,6 +240,13 @@ impl Machine for ScriptMachine {
     ghost replies = { IsReply };
 
     fn answer(&mut self, alloc: Global, line: &[u8]) -> Result<String, AllocError> {
+        if let Some(loaded) = load_of_line(alloc, line, &self.table)? {
+            let Loaded { name, report } = loaded;
+            return match report {
+                Ok(report) => self.take_load(alloc, name, report),
+                Err(fault) => bad_report_reply(alloc, &fault),
+            };
+        }
         match json_value(alloc, line)? {
             Some(value) => self.answer_value(alloc, value),
             None => String::from_str(alloc, bad_line_reply()),

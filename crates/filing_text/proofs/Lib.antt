@@ -3,5 +3,6 @@ pub mod ToldFaults
 pub mod AskedSteps
 pub mod AskedParts
 pub mod ReportOfLoad
+pub mod ReadLoads
 -- ---- examples that compute
 pub mod Examples

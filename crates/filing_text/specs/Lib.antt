@@ -5,5 +5,7 @@ pub mod LineView
 pub mod ReplyText
 -- ---- the output of a script
 pub mod Script
+-- ---- a load as its line was read
+pub mod Loads
 -- ---- the step that a line asks for
 pub mod AskedStep

@@ -15,7 +15,7 @@ pub use line::{
     Asking, Line, Period, allowed_at, asked_at, asking_at, kind_of_word, line_of, nullable_at,
     taken_at, text_at,
 };
-pub use load::report_in;
+pub use load::{Loaded, load_of_line, report_in};
 pub use texts::{
     bad_fact_reply, bad_line_reply, bad_report_reply, exported_reply, exported_reply_of,
     name_in_use_reply, no_session_reply, push_asked, push_later, push_number, push_reply,

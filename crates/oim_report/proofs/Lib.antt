@@ -3,9 +3,14 @@ pub mod EachMember
 pub mod SortedMembers
 pub mod TakenMembers
 pub mod WholeNumbers
+-- ---- values whose texts are those that were read
+pub mod InRange
+pub mod CopiedValues
+pub mod OrderedMembers
 -- ---- what is read: facts, reports, numeric tables
 pub mod ReadFacts
 pub mod FactList
+pub mod FactsInText
 pub mod ReportsByParts
 pub mod TableLines
 -- ---- what is written, and read back

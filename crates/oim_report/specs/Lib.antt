@@ -1,5 +1,6 @@
 -- ---- cited by the contracts of public calls, and by models
 pub mod Parts
+pub mod Borrowed
 pub mod Readable
 pub mod Faults
 pub mod Appended

@@ -1,6 +1,6 @@
 //! The facts of a report as JSON says them.
 
-ghost use Rattle.std.specs.Prelude.{◌≡◌, T, codes, Option, option_map, string_bytes, IfOk};
+ghost use Rattle.std.specs.Prelude.{◌≡◌, T, codes, Option, option_map, string_bytes, IfOk, IsTrue, is_some, unwrap_or};
 ghost use Rattle.std.specs.Arc.{arc_value};
 ghost use Rattle.std.specs.FinMap.Entries.{is_sorted};
 ghost use Rattle.serde_json.specs.Find.{get};
@@ -13,11 +13,16 @@ ghost use Rattle.filing_model.specs.JsonText.{pairs};
 ghost use Rattle.filing_model.specs.Dimensions.{AreDims};
 ghost use Rattle.filing_model.specs.Fitted.{IsFitted};
 ghost use Rattle.filing_model.specs.ReadReport.{entry_of, facts_of, BadFact as refused};
+ghost use Rattle.json.specs.Value.{members_view as read_members};
+ghost use Rattle.serde_json.specs.Data.{no_members};
+ghost use Rattle.serde_json.specs.Read.{of_members};
+ghost use Rattle.oim_report.specs.Borrowed.{IsInRange, data_of};
 ghost use Rattle.oim_report.specs.Faults.{report_fault};
 ghost use Rattle.oim_report.specs.Parts.{fact_view, facts_view};
 ghost use Rattle.oim_report.specs.Readable.{AreFitted};
 ghost use Rattle.oim_report.specs.Readings.{fitted_of, same};
 
+use crate::borrowed::{in_order, member_of, owned, read_members_of};
 use crate::fact::raw_fact_from;
 use crate::fault::ReportFault;
 use crate::values::members_of;
@@ -160,6 +165,64 @@ pub(crate) fn facts_at(
     };
     match member.as_object() {
         Some(members) => facts_among(alloc, names, members),
+        None => Err(ReportFault::WrongShape),
+    }
+}
+
+/// As `entry`, of a member whose texts are those that were read.
+fn entry_in_text(
+    alloc: Global,
+    names: &Names,
+    id: &str,
+    value: json::Value<'_>,
+) -> Result<(String, Arc<Fact>), ReportFault>
+    requires { IsInRange value }
+    ensures entry { Gives report_fault fact_view result
+        (entry_of names.now (id.now, data_of value.entry)) }
+    ensures dims { IfOk result (λ e. AreDims (arc_value e.1).dims) }
+    ensures fitted { IfOk result (λ e. IsFitted names.now (arc_value e.1)) }
+{
+    let value = owned(alloc, value)?;
+    entry(alloc, names, String::from_str(alloc, id)?, value)
+}
+
+/// The facts that these members are. Each value is given back once its fact is read.
+fn facts_in_order<'a>(
+    alloc: Global,
+    names: &Names,
+    members: Vec<(&'a str, json::Value<'a>)>,
+) -> Result<Vec<(String, Arc<Fact>)>, ReportFault>
+    requires { IsTrue (is_some (of_members (read_members members.items) no_members)) }
+    ensures facts { Gives report_fault (λ v. facts_view v.items) result
+        (each (entry_of names.now) (pairs (unwrap_or (of_members (read_members members.entry.items) no_members) no_members))) }
+    ensures rise { IfOk result (λ v. T (is_sorted text_cmp (facts_view v.items))) }
+    ensures fitted { IfOk result (λ v. AreFitted names.now (facts_view v.items)) }
+{
+    let places = in_order(alloc, members)?;
+    let mut facts = Vec::with_capacity(alloc, places.len())?;
+    for (id, value) in places {
+        facts.push(entry_in_text(alloc, names, id, value)?)?;
+    }
+    Ok(facts)
+}
+
+/// The facts of a report, out of a value whose texts are those that were read.
+pub(crate) fn facts_in_text(
+    alloc: Global,
+    names: &Names,
+    value: json::Value<'_>,
+) -> Result<Vec<(String, Arc<Fact>)>, ReportFault>
+    requires { IsInRange value }
+    ensures facts { Gives report_fault (λ v. from_entries (facts_view v.items)) result
+        (facts_of names.now (get (codes "facts") (data_of value.entry))) }
+    ensures rise { IfOk result (λ v. T (is_sorted text_cmp (facts_view v.items))) }
+    ensures fitted { IfOk result (λ v. AreFitted names.now (facts_view v.items)) }
+{
+    let Some(member) = member_of(value, "facts") else {
+        return Ok(Vec::new(alloc));
+    };
+    match read_members_of(member) {
+        Some(members) => facts_in_order(alloc, names, members),
         None => Err(ReportFault::WrongShape),
     }
 }

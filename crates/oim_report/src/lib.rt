@@ -1,10 +1,11 @@
 //! Reports and numeric tables of xBRL-JSON 1.0, read from their texts, and facts and reports written.
 //!
-//! In reading, `values` makes a JSON value of bytes, `reading` a report of the value, `info` reads `documentInfo`, `facts` all facts and `fact` one; `table` reads numeric tables, and `fault` says why a text is no report. `report` is what was read, `entries` goes through its facts, and `declared_value` sets the value that a report declares. In writing, `report_text` and `fact_text` put texts together of `pieces`. `read_back` has the laws that what is written is read back, and `info_laws` those of an info in which a value was set.
+//! In reading, `values` makes a JSON value of bytes, `borrowed` one whose texts are those of the bytes, `reading` a report of the value, `info` reads `documentInfo`, `facts` all facts and `fact` one; `table` reads numeric tables, and `fault` says why a text is no report. `report` is what was read, `entries` goes through its facts, and `declared_value` sets the value that a report declares. In writing, `report_text` and `fact_text` put texts together of `pieces`. `read_back` has the laws that what is written is read back, and `info_laws` those of an info in which a value was set.
 //!
 //! It knows nothing of versions, of sessions or of devices.
 #![tactic(auto)]
 
+mod borrowed;
 mod declared_value;
 mod entries;
 mod fact;
@@ -21,6 +22,7 @@ mod report_text;
 mod table;
 mod values;
 
+pub use borrowed::text_value;
 pub use declared_value::with_allowed;
 pub use entries::Entries;
 pub use fact::{dimensions, dimensions_from, raw_fact, raw_fact_from};
@@ -36,7 +38,7 @@ pub use read_back::{
     facts_are_read_back, raw_facts_are_read_back, raw_facts_are_readable, reports_are_read_back,
     values_are_read_back,
 };
-pub use reading::{read_report, report_from, report_of};
+pub use reading::{read_report, report_from, report_in_text, report_of};
 pub use report::{Report, ReportParts};
 pub use report_text::{push_report, push_report_of, write_report};
 pub use table::read_table;

@@ -9,17 +9,20 @@ ghost use Rattle.filing_model.specs.Text.{text_cmp};
 ghost use Rattle.filing_model.specs.TextMap.{from_entries};
 ghost use Rattle.filing_model.specs.Try.{Gives};
 ghost use Rattle.filing_model.specs.ReadReport.{read_report_of, report_of};
+ghost use Rattle.oim_report.specs.Borrowed.{IsInRange, data_of};
 ghost use Rattle.oim_report.specs.Faults.{report_fault};
 ghost use Rattle.oim_report.specs.Parts.{IsInfo, facts_view};
 ghost use Rattle.oim_report.specs.Readable.{AreFitted, IsReadable};
 ghost use Rattle.oim_report.specs.Readings.{declared_by, of_declared, report_of_members, same};
 
-use crate::facts::{facts, facts_at};
+use crate::borrowed::{owned_at, text_value};
+use crate::facts::{facts, facts_at, facts_in_text};
 use crate::fault::ReportFault;
 use crate::info::{allowed, document_info, info_text, names};
 use crate::report::{Report, ReportParts};
-use crate::values::{copy_at, json_value, take_member, without_mark};
+use crate::values::{copy_at, take_member, without_mark};
 use filing_model::Allowed;
+use json::Scratch;
 use oim_fact::{Fact, Names, NumericTable};
 use serde_json::Value;
 use std::alloc::Global;
@@ -159,6 +162,24 @@ pub fn report_of(
     Ok(assembled(declared, facts))
 }
 
+/// As `report_from`, of a value whose texts are those that were read: each that the report keeps is copied once.
+#[tactic(auto, using(crate::proofs::ReportsByParts::report_by_members))]
+pub fn report_in_text(
+    alloc: Global,
+    value: json::Value<'_>,
+    table: &Arc<NumericTable>,
+) -> Result<Report, ReportFault>
+    requires { IsInRange value }
+    ensures report { Gives report_fault same result
+        (report_of (arc_value table.now) (data_of value.entry)) }
+    ensures readable { IfOk result IsReadable }
+{
+    let document_info = owned_at(alloc, &value, "documentInfo")?;
+    let declared = declaration(alloc, document_info, table)?;
+    let facts = facts_in_text(alloc, &declared.names, value)?;
+    Ok(assembled(declared, facts))
+}
+
 /// The report that a text is, after one byte order mark, or the first fault: no JSON, or as `report_of`.
 pub fn read_report(
     alloc: Global,
@@ -169,8 +190,9 @@ pub fn read_report(
         (read_report_of (arc_value table.now) bytes.now) }
     ensures readable { IfOk result IsReadable }
 {
-    match json_value(alloc, without_mark(bytes))? {
-        Some(value) => report_from(alloc, value, table),
+    let mut room = Scratch::new(alloc);
+    match text_value(alloc, without_mark(bytes), &mut room)? {
+        Some(value) => report_in_text(alloc, value, table),
         None => Err(ReportFault::NotJson),
     }
 }

@@ -1,4 +1,4 @@
--- What lines come to before any step is taken.
+-- What lines come to before its step is taken.
 use Rattle.std.proofs.Common.{◌≡◌, ◌∙◌, ap, sym, Some, unwrap_or, Result, Ok, Err, String}
 use Rattle.std.specs.Option.{option_map_or}
 use Rattle.std.specs.declared.alloc.Global.{Global}

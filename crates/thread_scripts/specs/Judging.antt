@@ -1,4 +1,4 @@
--- What a line of a script among threads comes to before any step is taken. All of it is the project's own.
+-- What a line of a script among threads comes to before its step is taken. All of it is the project's own.
 use Rattle.std.specs.Prelude.{◌≡◌, ℕ, Option, None, option_and_then, string_bytes}
 use Rattle.std.specs.Option.{option_map_or}
 use Rattle.serde_json.specs.Data.{Data}

@@ -1,4 +1,4 @@
--- ---- lines before any step is taken
+-- ---- lines before their steps are taken
 pub mod Judging
 -- ---- replies once the steps are taken
 pub mod Telling

@@ -1,6 +1,6 @@
-//! `Judged`: what a line comes to before any step is taken.
+//! `Judged`: what a line comes to before its step is taken.
 
-ghost use Rattle.std.specs.Prelude.{IfOk, Some, string_bytes};
+ghost use Rattle.std.specs.Prelude.{IfOk, Ok, Some, string_bytes};
 ghost use Rattle.std.specs.Arc.{arc_value};
 ghost use Rattle.serde_json.specs.View.{view};
 ghost use Rattle.filing_step.specs.Steps.{step_of};
@@ -11,15 +11,16 @@ ghost use Rattle.thread_scripts.specs.Judging.{ComesTo, ComesToBy, IsJudged, jud
 use filing_office::DeskStep;
 use filing_step::Step;
 use filing_text::{
-    Asking, Line, bad_line_reply, bad_report_reply, line_of, report_in, step_asked, taken_at,
+    Asking, Line, Loaded, bad_line_reply, bad_report_reply, line_of, load_of_line, report_in,
+    step_asked, taken_at,
 };
 use oim_fact::NumericTable;
-use oim_report::json_value;
+use oim_report::{Report, json_value};
 use serde_json::Value;
 use std::alloc::{AllocError, Global};
 use std::sync::Arc;
 
-/// What a line comes to before any step is taken. Whether the name of a session is in use is not looked at yet.
+/// What a line comes to before its step is taken. Whether the name of a session is in use is not looked at yet.
 #[derive(Drop)]
 pub(crate) enum Judged {
     /// It takes no step, and this is its reply.
@@ -43,6 +44,14 @@ impl Judged {
     }
 }
 
+/// The step of a load of a report that was read.
+fn load_due(alloc: Global, name: String, report: Report) -> Result<Judged, AllocError>
+    ensures { IfOk result (ComesTo (λ state. judged_load state (string_bytes name) (Ok report))) }
+{
+    let report = Arc::new(alloc, report)?;
+    Judged::due(alloc, "", Step::Load(name, report))
+}
+
 /// Judges a load: its report is read.
 fn load_judged(
     alloc: Global,
@@ -54,10 +63,7 @@ fn load_judged(
         (λ state. judged_load state (string_bytes name) (report_in (arc_value table.now) (view report)))) }
 {
     match report_in(alloc, report, table) {
-        Ok(report) => {
-            let report = Arc::new(alloc, report)?;
-            Judged::due(alloc, "", Step::Load(name, report))
-        }
+        Ok(report) => load_due(alloc, name, report),
         Err(fault) => Ok(Judged::Told(bad_report_reply(alloc, &fault)?)),
     }
 }
@@ -106,6 +112,13 @@ pub(crate) fn line_judged(
 ) -> Result<Judged, AllocError>
     ensures { IfOk result (IsJudged (arc_value table.now) line.now) }
 {
+    if let Some(loaded) = load_of_line(alloc, line, table)? {
+        let Loaded { name, report } = loaded;
+        return match report {
+            Ok(report) => load_due(alloc, name, report),
+            Err(fault) => Ok(Judged::Told(bad_report_reply(alloc, &fault)?)),
+        };
+    }
     match json_value(alloc, line)? {
         Some(value) => value_judged(alloc, value, table),
         None => Judged::told(alloc, bad_line_reply()),

@@ -7,6 +7,9 @@ use oim_fact::NumericTable;
 use std::alloc::{AllocError, Global};
 use std::sync::Arc;
 
+/// So many lines are judged before their steps are taken.
+const BATCH: usize = 256;
+
 /// Lines of a script that are judged.
 #[derive(Drop)]
 pub(crate) struct Batch {
@@ -49,23 +52,23 @@ impl Batch {
     }
 }
 
-/// Puts a line behind others, in a list of its own where the last has 256.
+/// Puts a line behind others, in a list of its own where the last is full.
 fn push_line<'a>(
     alloc: Global,
     batches: &mut Vec<Vec<&'a [u8]>>,
     line: &'a [u8],
 ) -> Result<(), AllocError> {
     match batches.last_mut() {
-        Some(lines) if lines.len() < 256 => Ok(lines.push(line)?),
+        Some(lines) if lines.len() < BATCH => Ok(lines.push(line)?),
         _ => {
-            let mut lines = Vec::with_capacity(alloc, 256)?;
+            let mut lines = Vec::with_capacity(alloc, BATCH)?;
             lines.push(line)?;
             Ok(batches.push(lines)?)
         }
     }
 }
 
-/// The lines of a script that are not blank, in lists of up to 256: so many are judged before their steps are taken.
+/// The lines of a script that are not blank, in lists of up to `BATCH`.
 pub(crate) fn batches_of(alloc: Global, text: &[u8]) -> Result<Vec<Vec<&[u8]>>, AllocError> {
     let mut batches = Vec::new(alloc);
     for line in text.split(|byte| *byte == b'\n') {

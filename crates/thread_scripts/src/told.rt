@@ -13,7 +13,7 @@ use std::slice::Iter;
 /// What the lines of a script are told.
 #[derive(Drop)]
 pub(crate) struct Replies {
-    /// The replies in the order of the lines, each ended by a line feed, up to the first step for which memory was wanted.
+    /// The replies in the order of the lines, each ended by a line feed, up to the first step, or the first lines to judge, for which memory was wanted.
     pub(crate) text: String,
     /// Whether each line has its reply.
     pub(crate) whole: bool,
