@@ -54,7 +54,7 @@ fn has_minus(bytes: &[u8]) -> bool
 }
 
 /// The number that `serde_json` reads of a numeral, where it is in range.
-fn number(text: &str) -> Option<Number>
+pub fn number(text: &str) -> Option<Number>
     ensures { option_map number_view result ≡ number_of text.now }
 {
     let bytes = text.as_bytes();
@@ -132,7 +132,7 @@ pub fn text_value<'a>(
 
 /// An owned copy of a value, where each number in it is in range.
 #[cycle(copied)]
-fn copied(alloc: Global, value: &json::Value<'_>) -> Result<Option<Value>, AllocError>
+pub fn copied(alloc: Global, value: &json::Value<'_>) -> Result<Option<Value>, AllocError>
     ensures { IfOk result (λ o. option_map view o ≡ of_json (value_view value.now)) }
 {
     match value {
@@ -194,7 +194,7 @@ fn copied_members(
 }
 
 /// An owned copy of a value, which is given back.
-pub(crate) fn owned(alloc: Global, value: json::Value<'_>) -> Result<Value, AllocError>
+pub fn owned(alloc: Global, value: json::Value<'_>) -> Result<Value, AllocError>
     requires { IsInRange value }
     ensures { IfOk result (λ v. view v ≡ data_of value.entry) }
 {

@@ -22,7 +22,7 @@ mod report_text;
 mod table;
 mod values;
 
-pub use borrowed::text_value;
+pub use borrowed::{copied, number, owned, text_value};
 pub use declared_value::with_allowed;
 pub use entries::Entries;
 pub use fact::{dimensions, dimensions_from, raw_fact, raw_fact_from};
