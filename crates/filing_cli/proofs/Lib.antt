@@ -1,3 +1,5 @@
+-- ---- lines of scripts
+pub mod AskedLines
 -- ---- whole scripts
 pub mod Scripts
 -- ---- histories

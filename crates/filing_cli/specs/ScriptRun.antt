@@ -41,12 +41,14 @@ pub record IsScriptStopped (reads : ℕ) (table : Table) (source source' : Sourc
   pub runs : Runs {X = Unit {0}} IsReply reads (Err fault) (start table) after source source' sink sink'
 
 -- a run of so many reads at most
-abbrev pub ScriptRunsWithin : ℕ → Table → Result CoreState ScriptFault → SourceState → SourceState → SinkState → SinkState
+abbrev pub ScriptRunsWithin : ℕ → Table → Result CoreState ScriptFault → SourceState → SourceState → SinkState
+    → SinkState
     → Type 0
 ScriptRunsWithin reads table (Ok core) source source' sink sink' =
     IsScriptEnded table source source' sink sink' core.history
 ScriptRunsWithin reads table (Err fault) source source' sink sink' =
     IsScriptStopped reads table source source' sink sink' fault
 
-abbrev pub ScriptRuns : Table → Result CoreState ScriptFault → SourceState → SourceState → SinkState → SinkState → Type 0
+abbrev pub ScriptRuns : Table → Result CoreState ScriptFault → SourceState → SourceState → SinkState → SinkState
+    → Type 0
 ScriptRuns = ScriptRunsWithin most_reads

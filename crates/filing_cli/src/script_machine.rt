@@ -7,15 +7,16 @@ ghost use Rattle.filing_model.specs.Try.{Gives};
 ghost use Rattle.filing_model.specs.TextMap.{get, insert, remove};
 ghost use Rattle.filing_step.specs.Steps.{step_of};
 ghost use Rattle.oim_report.specs.Faults.{report_fault};
-ghost use Rattle.filing_text.specs.LineView.{asking_view};
+ghost use Rattle.filing_text.specs.AskedStep.{asking_in};
+ghost use Rattle.filing_text.specs.ScriptLines.{Asking};
 ghost use Rattle.filing_text.specs.Script.{Due, start, call_read, report_in, answered, judged_load, judged_open, judged_step, judged_asking, judged_end, judged_export, value_answer};
 ghost use Rattle.filing_cli.specs.ScriptRun.{IsReply, newest_session};
 
 use filing_core::{Core, CoreFault};
 use filing_step::{Kind, Reply, SessionNames, Step};
 use filing_text::{
-    Asking, Line, Loaded, bad_line_reply, bad_report_reply, exported_reply_of, line_of,
-    load_of_line, name_in_use_reply, no_session_reply, reply_text, report_in, step_asked, taken_at,
+    Line, Loaded, bad_line_reply, bad_report_reply, exported_reply_of, line_of, load_of_line,
+    name_in_use_reply, no_session_reply, reply_text, report_in, step_from, taken_at,
 };
 use filing_version::RepoVersion;
 use line_run::Machine;
@@ -170,20 +171,17 @@ impl ScriptMachine {
         self.take(alloc, Some(number), step)
     }
 
-    /// Answers what a line asks of a session.
-    fn ask(
-        &mut self,
-        alloc: Global,
-        session: &str,
-        asking: &Asking<'_>,
-    ) -> Result<String, AllocError>
-        ensures { IfOk result (λ text. answered self.old
-            (judged_asking self.old session.now (call_read (asking_view asking.now)))
+    /// Answers what a value asks of a session. A fact and dimensions move out of it.
+    fn ask(&mut self, alloc: Global, session: &str, value: Value) -> Result<String, AllocError>
+        requires { IsSome (asking_in 2 (view value)) }
+        ensures { (asking : Asking) → asking_in 2 (view value) ≡ Some asking
+            → IfOk result (λ text. answered self.old (judged_asking self.old session.now (call_read asking))
             ≡ (string_bytes text, self.new)) }
     {
-        match step_asked(alloc, asking)? {
-            Ok(step) => self.take_under(alloc, session, step),
-            Err(text) => Ok(text),
+        match step_from(alloc, value, 2)? {
+            Some(Ok(step)) => self.take_under(alloc, session, step),
+            Some(Err(text)) => Ok(text),
+            None => unreachable!(),
         }
     }
 
@@ -212,7 +210,7 @@ impl ScriptMachine {
         }
     }
 
-    /// Answers a line that is JSON. The report of a load moves out of it.
+    /// Answers a line that is JSON. The report of a load, a fact and dimensions move out of it.
     #[tactic(auto, using(filing_text::proofs::ReportOfLoad::loaded_part))]
     fn answer_value(&mut self, alloc: Global, value: Value) -> Result<String, AllocError>
         ensures { IfOk result (λ text. value_answer self.old (Some (view value)) ≡ (string_bytes text, self.new)) }
@@ -227,7 +225,10 @@ impl ScriptMachine {
                 self.load(alloc, name, taken_at(&mut value, 2))
             }
             Line::Open { session, kind } => self.open(alloc, session, kind),
-            Line::Ask { session, asking } => self.ask(alloc, session, &asking),
+            Line::Ask { session, .. } => {
+                let session = String::from_str(alloc, session)?;
+                self.ask(alloc, &session, value)
+            }
             Line::Commit { session } => self.end(alloc, session, Step::Commit),
             Line::Close { session } => self.end(alloc, session, Step::Close),
             Line::Export { name } => self.export(alloc, name),

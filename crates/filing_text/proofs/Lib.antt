@@ -2,7 +2,9 @@
 pub mod ToldFaults
 pub mod AskedSteps
 pub mod AskedParts
+pub mod LinesByWord
 pub mod ReportOfLoad
+pub mod AskedOfLine
 pub mod ReadLoads
 -- ---- examples that compute
 pub mod Examples

@@ -12,6 +12,7 @@ use Rattle.filing_model.specs.Text.{Text}
 use Rattle.filing_text.specs.ReplyText.{bad_line_text}
 use Rattle.filing_text.specs.Script.{State, Told, report_in, judged_load, judged_line, answered, value_answer}
 use Rattle.filing_text.specs.ScriptLines.{◌>>=◌, Asking, Line, Load, Open, Ask, Commit, Close, Export}
+use Rattle.filing_text.proofs.LinesByWord.{HoldsOfOthers, of_word, then}
 use Rattle.filing_text.specs.ScriptLines.{kind_of_word, text_at, ends_at, load_of, open_of, commit_of, close_of}
 use Rattle.filing_text.specs.ScriptLines.{export_of, asking_at, asking_of_word, line_of_word, line_of}
 
@@ -25,58 +26,35 @@ HasReport d (Some (Commit session)) = Unit {0}
 HasReport d (Some (Close session)) = Unit {0}
 HasReport d (Some (Export name)) = Unit {0}
 
-then : {A : Type 0} (d : Data) (first : Option A) (second : A → Option Line) → ((x : A) → HasReport d (second x)) → HasReport d (first >>= second)
-then d None second h = tt
-then d (Some x) second h = h x
-
-either : (d : Data) (b : Bool) (one other : Option Line) → HasReport d one → HasReport d other → HasReport d (cond b one other)
-either d true one other p q = p
-either d false one other p q = q
+others : (d : Data) → HoldsOfOthers (HasReport d)
+others d = record { none = tt; opens = λ session kind. tt; commit = λ session. tt; close = λ session. tt; export = λ name. tt }
 
 of_load : (d : Data) → HasReport d (load_of d)
 of_load d =
-    then d (text_at 1 d) _ (λ name.
+    then (HasReport d) (others d) (text_at 1 d) _ (λ name.
     elim (at 2 d) as (λ o. at 2 d ≡ o → HasReport d
     ((o >>= λ part. cond (is_some (as_object part) || is_some (as_str part)) (Some part) None)
     >>= λ report. ends_at 3 d >>= λ ended. Some (Load name report))) [
       | None ↦ λ _. tt
       | Some part ↦ λ there. elim (is_some (as_object part) || is_some (as_str part)) as
           (λ b. HasReport d (cond b (Some part) None >>= λ report. ends_at 3 d >>= λ ended. Some (Load name report))) [
-            | true ↦ then d (ends_at 3 d) _ (λ ended. there)
+            | true ↦ then (HasReport d) (others d) (ends_at 3 d) _ (λ ended. there)
             | false ↦ tt
           ]
     ] refl)
 
-of_open : (d : Data) → HasReport d (open_of d)
-of_open d = then d (text_at 1 d) _ (λ session. then d (option_and_then kind_of_word (text_at 2 d)) _ (λ kind. then d (ends_at 3 d) _ (λ ended. tt)))
-
-of_commit : (d : Data) → HasReport d (commit_of d)
-of_commit d = then d (text_at 1 d) _ (λ session. then d (ends_at 2 d) _ (λ ended. tt))
-
-of_close : (d : Data) → HasReport d (close_of d)
-of_close d = then d (text_at 1 d) _ (λ session. then d (ends_at 2 d) _ (λ ended. tt))
-
-of_export : (d : Data) → HasReport d (export_of d)
-of_export d = then d (text_at 1 d) _ (λ name. then d (ends_at 2 d) _ (λ ended. tt))
-
 of_asking_word : (d : Data) (word : Text) → HasReport d (asking_of_word word d)
-of_asking_word d word = then d (text_at 1 d) _ (λ session. thus d session (asking_at word 2 d))
+of_asking_word d word = then (HasReport d) (others d) (text_at 1 d) _ (λ session. thus d session (asking_at word 2 d))
   where
     thus : (d : Data) (session : Text) (o : Option Asking) → HasReport d (o >>= λ asking. Some (Ask session asking))
     thus d session None = tt
     thus d session (Some asking) = tt
 
-of_word : (d : Data) (word : Text) → HasReport d (line_of_word word d)
-of_word d word =
-    either d (text_eq word (codes "load")) _ _ (of_load d)
-    (either d (text_eq word (codes "open")) _ _ (of_open d)
-    (either d (text_eq word (codes "commit")) _ _ (of_commit d)
-    (either d (text_eq word (codes "close")) _ _ (of_close d)
-    (either d (text_eq word (codes "export")) _ _ (of_export d) (of_asking_word d word)))))
-
 pub loaded_part : (d : Data) (name : Text) (r : Data) → Some (Load name r) ≡ line_of d → at 2 d ≡ Some r
 unfolding line_of
-loaded_part d name r is = subst (HasReport d) (sym is) (then d (text_at 0 d) _ (of_word d))
+loaded_part d name r is =
+    subst (HasReport d) (sym is) (then (HasReport d) (others d) (text_at 0 d) _
+    (λ word. of_word (HasReport d) (others d) d word (of_load d) (of_asking_word d word)))
 
 load_told : (state after : State) (d r report : Data) (key name text : Text) → Some (Load key r) ≡ line_of d → name ≡ key → Some report ≡ at 2 d
     → answered state (judged_load state name (report_in state.table report)) ≡ (text, after) → value_answer state (Some d) ≡ (text, after)

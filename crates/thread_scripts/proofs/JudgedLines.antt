@@ -11,8 +11,8 @@ use Rattle.filing_step.specs.Steps.{step_of}
 use Rattle.filing_step.specs.declared.step.Step.{Step}
 use Rattle.filing_text.specs.AskedStep.{IsAsked}
 use Rattle.filing_text.specs.ReplyText.{bad_line_text}
-use Rattle.filing_text.specs.ScriptLines.{Load, line_of}
-use Rattle.filing_text.specs.Script.{Told, judged_asking, judged_load, report_in}
+use Rattle.filing_text.specs.ScriptLines.{Asking, Ask, Load, line_of}
+use Rattle.filing_text.specs.Script.{Told, call_read, judged_asking, judged_load, report_in}
 use Rattle.filing_text.proofs.AskedSteps.{call_of_asked, refusal_is_judged}
 use Rattle.filing_text.proofs.ReportOfLoad.{loaded_part}
 use Rattle.thread_scripts.specs.declared.judged.Judged.{Judged}
@@ -40,3 +40,12 @@ load_of_value table d r report key name j is named part comes h names =
     ap (λ o. option_map_or (line_judged state) o (Told bad_line_text)) (sym is)
     ∙ (λ i. judged_load state (sym named i) (report_in table (same i)))
     ∙ comes h names
+
+-- and so is what is asked of a session
+pub ask_of_value : (table : Table) (d : Data) (key session : Text) (asking : Asking) (j : Judged) → Some (Ask key asking) ≡ line_of d → session ≡ key
+    → ComesTo (λ state. judged_asking state session (call_read asking)) j → ComesToBy table (λ state. value_judged state (Some d)) j
+ask_of_value table d key session asking j is named comes h names =
+    let state = state_of table h names in
+    ap (λ o. option_map_or (line_judged state) o (Told bad_line_text)) (sym is)
+    ∙ (λ i. judged_asking state (sym named i) (call_read asking))
+    ∙ comes state

@@ -51,7 +51,8 @@ ComesTo ruling j = (state : State) → ruling state ≡ ruling_of state j
 
 -- so in each state by this table, whatever its history and its names
 abbrev pub ComesToBy : Table → (State → Ruling) → Judged → Type 0
-ComesToBy table ruling j = (h : History) (names : TextMap ℕ) → ruling (state_of table h names) ≡ ruling_of (state_of table h names) j
+ComesToBy table ruling j = (h : History) (names : TextMap ℕ)
+    → ruling (state_of table h names) ≡ ruling_of (state_of table h names) j
 
 -- and of a line
 abbrev pub IsJudged : Table → Text → Judged → Type 0

@@ -36,7 +36,8 @@ GrowsBy (Some reply) there text text' = (there ≡ true) × (text' ≡ text ++ r
 GrowsBy None there text text' = (there ≡ false) × (text' ≡ text)
 
 -- a text has grown by the next reply, if there is one, with the outcomes before and after it
-abbrev pub NextReply : {J : Type 0} → Option (String Global) → List (Outcome J) → List (Outcome J) → Bool → Text → Text → Type 0
+abbrev pub NextReply : {J : Type 0} → Option (String Global) → List (Outcome J) → List (Outcome J) → Bool → Text → Text
+    → Type 0
 NextReply (Some at_once) os left there text text' = GrowsBy (Some (string_bytes at_once)) there text text' × (left ≡ os)
 NextReply None [] left there text text' = GrowsBy None there text text'
 NextReply None (o ∷ os) left there text text' = GrowsBy (outcome_text o) there text text' × (left ≡ os)

@@ -1,18 +1,19 @@
 //! `Judged`: what a line comes to before its step is taken.
 
-ghost use Rattle.std.specs.Prelude.{IfOk, Ok, Some, string_bytes};
+ghost use Rattle.std.specs.Prelude.{◌≡◌, IfOk, IsSome, Ok, Some, string_bytes};
 ghost use Rattle.std.specs.Arc.{arc_value};
 ghost use Rattle.serde_json.specs.View.{view};
 ghost use Rattle.filing_step.specs.Steps.{step_of};
-ghost use Rattle.filing_text.specs.LineView.{asking_view};
+ghost use Rattle.filing_text.specs.AskedStep.{asking_in};
+ghost use Rattle.filing_text.specs.ScriptLines.{Asking};
 ghost use Rattle.filing_text.specs.Script.{Told, call_read, judged_asking, judged_load, report_in};
 ghost use Rattle.thread_scripts.specs.Judging.{ComesTo, ComesToBy, IsJudged, judged_under, value_judged};
 
 use filing_office::DeskStep;
 use filing_step::Step;
 use filing_text::{
-    Asking, Line, Loaded, bad_line_reply, bad_report_reply, line_of, load_of_line, report_in,
-    step_asked, taken_at,
+    Line, Loaded, bad_line_reply, bad_report_reply, line_of, load_of_line, report_in, step_from,
+    taken_at,
 };
 use oim_fact::NumericTable;
 use oim_report::{Report, json_value};
@@ -68,17 +69,20 @@ fn load_judged(
     }
 }
 
-/// Judges what a line asks of a session: its fact or its dimensions are read.
-fn asking_judged(alloc: Global, session: &str, asking: &Asking<'_>) -> Result<Judged, AllocError>
-    ensures { IfOk result (ComesTo (λ state. judged_asking state session.now (call_read (asking_view asking.now)))) }
+/// Judges what a value asks of a session: its fact or its dimensions move out of it, and are read.
+fn asking_judged(alloc: Global, session: &str, value: Value) -> Result<Judged, AllocError>
+    requires { IsSome (asking_in 2 (view value)) }
+    ensures { (asking : Asking) → asking_in 2 (view value) ≡ Some asking
+        → IfOk result (ComesTo (λ state. judged_asking state session.now (call_read asking))) }
 {
-    match step_asked(alloc, asking)? {
-        Ok(step) => Judged::due(alloc, session, step),
-        Err(text) => Ok(Judged::Told(text)),
+    match step_from(alloc, value, 2)? {
+        Some(Ok(step)) => Judged::due(alloc, session, step),
+        Some(Err(text)) => Ok(Judged::Told(text)),
+        None => unreachable!(),
     }
 }
 
-/// Judges a line that is JSON. The report of a load moves out of it.
+/// Judges a line that is JSON. The report of a load, a fact and dimensions move out of it.
 #[tactic(auto, using(filing_text::proofs::ReportOfLoad::loaded_part))]
 fn value_judged(
     alloc: Global,
@@ -97,7 +101,10 @@ fn value_judged(
             load_judged(alloc, name, taken_at(&mut value, 2), table)
         }
         Line::Open { session, kind } => Judged::due(alloc, session, Step::Open(kind)),
-        Line::Ask { session, asking } => asking_judged(alloc, session, &asking),
+        Line::Ask { session, .. } => {
+            let session = String::from_str(alloc, session)?;
+            asking_judged(alloc, &session, value)
+        }
         Line::Commit { session } => Judged::due(alloc, session, Step::Commit),
         Line::Close { session } => Judged::due(alloc, session, Step::Close),
         Line::Export { .. } => Judged::told(alloc, bad_line_reply()),

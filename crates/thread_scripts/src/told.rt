@@ -21,7 +21,8 @@ pub(crate) struct Replies {
 
 /// Appends the reply that an outcome is; nothing where memory was wanted. Whether there is one.
 fn push_outcome<J: Naming>(text: &mut String, outcome: &Outcome<J>) -> Result<bool, AllocError>
-    ensures { IfOk result (λ there. GrowsBy (outcome_text outcome.now) there (string_bytes text.old) (string_bytes text.new)) }
+    ensures { IfOk result (λ there. GrowsBy (outcome_text outcome.now) there (string_bytes text.old)
+        (string_bytes text.new)) }
 {
     match outcome {
         Outcome::Answered(answer) => push_reply(text, &answer.reply)?,
