@@ -193,7 +193,8 @@ pub(crate) fn read_words<'a, R: Print + Eprint + AllocGlobal>(
 /// Tells an error of the words, or shows help, and answers what is left to do.
 fn shown<'a, R: Print + Eprint>(rt: &R, error: &Error) -> Result<Order<'a>, Fault>
     ensures shown { IfOk result (λ o. o ≡ Shown) }
-    ensures asked { IfOk result (λ _. (kind_of error.now ≡ ErrorKind.DisplayHelp) ⊎ (kind_of error.now ≡ ErrorKind.DisplayVersion)) }
+    ensures asked { IfOk result (λ _. (kind_of error.now ≡ ErrorKind.DisplayHelp)
+        ⊎ (kind_of error.now ≡ ErrorKind.DisplayVersion)) }
 {
     if error.kind() == ErrorKind::OutOfMemory {
         return Err(Fault::NoMemory);

@@ -31,7 +31,8 @@ change_told v change = unwrap_or (refusal_of (after_change change v.repository))
 
 -- an amendment is told the first thing that it has read whose stamp is greater than the number of its base
 abbrev pub amendment_told : Version → SessionState → Reply
-amendment_told v s = option_map_or (λ c. reply.Conflict c.0 c.1) (first_stamped s.base.count v.stamp s.reads) (change_told v s.change)
+amendment_told v s = option_map_or (λ c. reply.Conflict c.0 c.1) (first_stamped s.base.count v.stamp s.reads)
+    (change_told v s.change)
 
 abbrev pub commit_told : Version → SessionState → Kind → Reply
 commit_told v s Review = reply.Closed

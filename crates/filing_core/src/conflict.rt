@@ -12,7 +12,8 @@ use filing_version::RepoVersion;
 
 /// The number of the last commit that touched a range, or 0.
 fn stamp_of_range(version: &RepoVersion, report: &str, sought: &Sought, upto: Option<&str>) -> u64
-    ensures { result ≡ (version_in version.now).stamp (thing.Range report.now sought.now (option_map (λ t. t.now) upto.entry)) }
+    ensures { result ≡ (version_in version.now).stamp
+        (thing.Range report.now sought.now (option_map (λ t. t.now) upto.entry)) }
 {
     let period = period_of(&sought.period);
     version.stamp_range(

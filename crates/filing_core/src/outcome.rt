@@ -76,7 +76,8 @@ fn change_outcome(
     current: &RepoVersion,
     change: &Change,
 ) -> Result<Outcome, AllocError>
-    requires there { (name : Text) → report_at (repository_in current.now) name ≡ None → value_at change.now name ≡ None }
+    requires there { (name : Text) → report_at (repository_in current.now) name ≡ None
+        → value_at change.now name ≡ None }
     requires few { (repository_in current.now).count + 1 < 2 ^ 64 }
     requires obeys { repository_obeys (repository_in current.now) ≡ true }
     ensures { IfOk result (λ o. Makes o (change_told (version_in current.now) change.now)

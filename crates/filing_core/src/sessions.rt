@@ -41,7 +41,8 @@ impl Sessions {
 
     /// Puts a session under a number that is not open.
     pub(crate) fn insert(&mut self, number: u64, session: Session) -> Result<(), AllocError>
-        ensures ok { OnOk result ((n : ℕ) → session_of self.new n ≡ cond (n == number) (Some session) (session_of self.old n)) }
+        ensures ok { OnOk result ((n : ℕ)
+            → session_of self.new n ≡ cond (n == number) (Some session) (session_of self.old n)) }
         ensures err { OnErr result (self.new ≡ self.old) }
     {
         self.by_number.insert(number, session)?;

@@ -25,7 +25,8 @@ Adds s v found w = MatchBool (found == s.old) (w.0 ≡ v.0 ++ s.ask ∷ []) (Uni
 -- the edition is of this book, and each list that was seen begins its list
 pub record IsPublished (book : Book) (edition : Listed) (seen : List (List Repository)) : Type 0 where
   pub of_book : edition.book ≡ book
-  pub begun : (seat : ℕ) (versions : List Repository) → get_elem? seen seat ≡ some versions → IsPrefix versions edition.versions
+  pub begun : (seat : ℕ) (versions : List Repository) → get_elem? seen seat ≡ some versions
+      → IsPrefix versions edition.versions
 
 -- what is seen afterwards is the list of the edition that is then published, which begins with what was seen before
 pub record Sees (book : Book) (before : List Repository) (old new : Listed) (after : List Repository) : Type 0 where

@@ -53,14 +53,16 @@ impl Review {
 
     /// The fact of an identifier.
     pub fn get(&self, alloc: Global, report: String, id: String) -> Result<Reply, AllocError>
-        ensures { IfOk result (λ r. reply_of r ≡ (answer kind.Review (call.Get (string_bytes report) (string_bytes id)) self.now).0) }
+        ensures { IfOk result (λ r. reply_of r
+            ≡ (answer kind.Review (call.Get (string_bytes report) (string_bytes id)) self.now).0) }
     {
         self.call(alloc, Call::Get(report, id))
     }
 
     /// The class of a cell, and the identifiers of its facts.
     pub fn cell(&self, alloc: Global, report: String, dims: DimSet) -> Result<Reply, AllocError>
-        ensures { IfOk result (λ r. reply_of r ≡ (answer kind.Review (call.Cell (string_bytes report) dims) self.now).0) }
+        ensures { IfOk result (λ r. reply_of r
+            ≡ (answer kind.Review (call.Cell (string_bytes report) dims) self.now).0) }
     {
         self.call(alloc, Call::Cell(report, dims))
     }

@@ -6,18 +6,22 @@ use Rattle.sorted_pages.specs.Keys.{KeyRises}
 use Rattle.filing_index.specs.Stamps.{stamp_cmp, stamp_key}
 
 -- ranks and codes in the order of their keys
-pub lesser_key : (r c s d : ℕ) (later : Ordering) → stamp_key r c < stamp_key s d → ordering_then (nat_cmp r s) (ordering_then (nat_cmp c d) later) ≡ Less
+pub lesser_key : (r c s d : ℕ) (later : Ordering) → stamp_key r c < stamp_key s d
+    → ordering_then (nat_cmp r s) (ordering_then (nat_cmp c d) later) ≡ Less
 lesser_key r c s d later l = by (nat_cmp r s) (ranks r s)
   where
-    by : (o : Ordering) → MatchOrdering o (r < s) (r ≡ s) (s < r) → ordering_then o (ordering_then (nat_cmp c d) later) ≡ Less
+    by : (o : Ordering) → MatchOrdering o (r < s) (r ≡ s) (s < r)
+        → ordering_then o (ordering_then (nat_cmp c d) later) ≡ Less
     by Less lt = refl
     by Equal same = ap (λ o. ordering_then o later) (sym (nat_cmp_is c d Less (omega (arith, l, same))))
     by Greater gt = absurd (omega (arith, l, gt))
 
-pub greater_key : (r c s d : ℕ) (later : Ordering) → stamp_key s d < stamp_key r c → ordering_then (nat_cmp r s) (ordering_then (nat_cmp c d) later) ≡ Greater
+pub greater_key : (r c s d : ℕ) (later : Ordering) → stamp_key s d < stamp_key r c
+    → ordering_then (nat_cmp r s) (ordering_then (nat_cmp c d) later) ≡ Greater
 greater_key r c s d later l = by (nat_cmp r s) (ranks r s)
   where
-    by : (o : Ordering) → MatchOrdering o (r < s) (r ≡ s) (s < r) → ordering_then o (ordering_then (nat_cmp c d) later) ≡ Greater
+    by : (o : Ordering) → MatchOrdering o (r < s) (r ≡ s) (s < r)
+        → ordering_then o (ordering_then (nat_cmp c d) later) ≡ Greater
     by Less lt = absurd (omega (arith, l, lt))
     by Equal same = ap (λ o. ordering_then o later) (sym (nat_cmp_is c d Greater (omega (arith, l, same))))
     by Greater gt = refl

@@ -14,7 +14,8 @@ use Rattle.filing_index.specs.Lexicographic.{then_monotone}
 pub group_cmp-total : IsTotalOrder group_cmp
 group_cmp-total =
     then_total (on_total (λ g. g.dims) (options_total dims_cmp-total))
-    (then_total (on_total (λ g. g.concept) (options_total nat_list_cmp_total)) (on_total (λ g. g.period) (options_total (options_total nat_list_cmp_total))))
+    (then_total (on_total (λ g. g.concept) (options_total nat_list_cmp_total))
+    (on_total (λ g. g.period) (options_total (options_total nat_list_cmp_total))))
 
 pub stamp_cmp-total : IsTotalOrder stamp_cmp
 stamp_cmp-total =
@@ -24,7 +25,8 @@ stamp_cmp-total =
 -- ---- ranges of identifiers
 
 -- what is less than one that is not after an identifier is not after it, and so with one that is
-after_falls : (after : Option Text) (x y : Text) → text_cmp x y ≡ Less → is_after after y ≡ false → is_after after x ≡ false
+after_falls : (after : Option Text) (x y : Text) → text_cmp x y ≡ Less → is_after after y ≡ false
+    → is_after after x ≡ false
 after_falls None x y l h = h
 after_falls (Some last) x y l h = by (text_cmp last x) refl
   where
@@ -66,7 +68,8 @@ ids_monotone (Only id) = tie_is_monotone text_cmp nat_list_cmp_total id
 ids_monotone (Between after upto) = record {
   before = λ x y l h.
       lt_side (is_after after x) (is_upto upto x)
-      ∙ ap not (after_falls after x y l (not_from (is_after after y) (sym (lt_side (is_after after y) (is_upto upto y)) ∙ h)));
+      ∙ ap not (after_falls after x y l (not_from (is_after after y)
+      (sym (lt_side (is_after after y) (is_upto upto y)) ∙ h)));
   until = λ x y l h.
       let past = past_both (is_after after x) (is_upto upto x) h in
       λ i. is_gt (cond (stays_after (is_after after x) (is_after after y) (after_falls after x y l) past.0 i)

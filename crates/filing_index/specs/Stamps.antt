@@ -34,7 +34,8 @@ no_group = record { dims = None; concept = None; period = None }
 
 abbrev pub group_cmp : Group → Group → Ordering
 group_cmp =
-    then_cmp (on (λ g. g.dims) (option_cmp dims_cmp)) (then_cmp (on (λ g. g.concept) (option_cmp text_cmp)) (on (λ g. g.period) (option_cmp (option_cmp text_cmp))))
+    then_cmp (on (λ g. g.dims) (option_cmp dims_cmp))
+    (then_cmp (on (λ g. g.concept) (option_cmp text_cmp)) (on (λ g. g.period) (option_cmp (option_cmp text_cmp))))
 
 -- the code of what is looked at
 abbrev pub code_of_parts : Option Dims → Option Text → Option (Option Text) → ℕ
@@ -137,7 +138,8 @@ pub record ArePuts (stamps : List Stamp) (changes : List (Change Stamp)) : Type 
   pub entries : List Stamp
   pub puts : changes ≡ map Put entries
   pub numbered : (n : ℕ) → AllByRecursion (λ s. s.number ≡ n) stamps → AllByRecursion (λ s. s.number ≡ n) entries
-  pub alike : (test : Stamp → Bool) → ((x y : Stamp) → stamp_cmp x y ≡ Equal → test x ≡ test y) → list_any test entries ≡ list_any test stamps
+  pub alike : (test : Stamp → Bool) → ((x y : Stamp) → stamp_cmp x y ≡ Equal → test x ≡ test y)
+      → list_any test entries ≡ list_any test stamps
 
 -- ---- the stamp of a part
 
@@ -179,14 +181,19 @@ asked_period (Exactly text) = Some (Some text)
 
 -- those of one kind and group
 abbrev pub among_group : StampKind → Group → IdRange → Among
-among_group stamp_kind group ids = record { rank = rank_of stamp_kind; code = group_code group; group = group; ids = ids }
+among_group stamp_kind group ids =
+    record { rank = rank_of stamp_kind; code = group_code group; group = group; ids = ids }
 
 -- those of a part
 abbrev pub part_among : Part → Among
 part_among (Id id) = record { rank = rank_of kind.Identifier; code = name_key id; group = no_group; ids = Only id }
 part_among (Cell dims) = among_group kind.Cell (record no_group { dims = Some dims }) (Between None None)
 part_among (Range sought upto) =
-    among_group (asked_kind sought.period) (record no_group { concept = Some sought.concept; period = asked_period sought.period }) (Between sought.after upto)
+    among_group (asked_kind sought.period) (record no_group {
+      concept =
+          Some sought.concept;
+      period = asked_period sought.period;
+    }) (Between sought.after upto)
 
 -- the number of the last touch of a part, or 0 where none was
 abbrev pub stamp_in : List Stamp → Part → ℕ

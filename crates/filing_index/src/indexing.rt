@@ -33,7 +33,8 @@ pub(crate) fn index_of(
     facts: &[Named<Held>],
 ) -> Result<Paged<Coded>, AllocError>
     requires { Holds (is_sorted text_cmp facts.now) }
-    ensures { IfOk result (λ index. (all : TextMap Fact) → all.entries ≡ facts.now → IsIndex (code_in order) all index) }
+    ensures { IfOk result (λ index. (all : TextMap Fact) → all.entries ≡ facts.now
+        → IsIndex (code_in order) all index) }
 {
     let mut entries = coded(alloc, order, facts)?;
     // Those of one code keep the order of their identifiers, so no identifier is looked at.
@@ -113,7 +114,8 @@ pub(crate) fn index_after(
 
 /// Pushes what a move changes in the order of identifiers.
 fn push_by_id(moved: &Move, changes: &mut Vec<Change<Named<Held>>>) -> Result<(), AllocError>
-    ensures { OnOk result (changes.new.items ≡ changes.old.items ++ id_change moved.now.id moved.now.old moved.now.new) }
+    ensures { OnOk result (changes.new.items
+        ≡ changes.old.items ++ id_change moved.now.id moved.now.old moved.now.new) }
 {
     if let Some(new) = moved.new() {
         changes.push(Change::Put(new.share()?))?;

@@ -49,7 +49,8 @@ impl Facts {
         before: Option<&DimSet>,
         held: &'a Held,
     ) -> Option<&'a DimSet>
-        ensures { WasLookedAt (is_disallowed allowed (facts_of self.now.entries)) (option_map (λ d. d.now) before.entry) (option_map (λ d. d.now) least.entry)
+        ensures { WasLookedAt (is_disallowed allowed (facts_of self.now.entries)) (option_map (λ d. d.now) before.entry)
+            (option_map (λ d. d.now) least.entry)
             → option_map (λ d. d.now) result
             ≡ fold lesser_dims (option_map (λ d. d.now) least.entry)
             (filter (is_disallowed allowed (facts_of self.now.entries)) (held.now.dims ∷ [])) }

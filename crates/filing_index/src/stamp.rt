@@ -85,7 +85,8 @@ fn order_dims(one: Option<&DimSet>, other: Option<&DimSet>) -> Ordering
 
 /// How periods stand to each other that are none, and that may not be looked at.
 fn order_periods(one: Option<Option<&str>>, other: Option<Option<&str>>) -> Ordering
-    ensures { result ≡ option_cmp (option_cmp text_cmp) (option_map (option_map (λ t. t.now)) one.entry) (option_map (option_map (λ t. t.now)) other.entry) }
+    ensures { result ≡ option_cmp (option_cmp text_cmp) (option_map (option_map (λ t. t.now)) one.entry)
+        (option_map (option_map (λ t. t.now)) other.entry) }
 {
     one.cmp(&other)
 }
@@ -261,7 +262,8 @@ impl Stamp {
 
     /// How it stands to another stamp with the same rank and code.
     fn order_alike(&self, other: &Stamp) -> Ordering
-        ensures { result ≡ ordering_then (group_cmp self.now.group other.now.group) (text_cmp self.now.id other.now.id) }
+        ensures { result ≡ ordering_then (group_cmp self.now.group other.now.group)
+            (text_cmp self.now.id other.now.id) }
     {
         match self.group().order(&other.group()) {
             Ordering::Equal => self.order_ids(other),

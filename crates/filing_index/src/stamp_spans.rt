@@ -102,7 +102,8 @@ impl<'a> Among<'a> {
 
     /// How a stamp with this rank and code stands to the range.
     fn side_alike(&self, stamp: &Stamp) -> Ordering
-        ensures { result ≡ ordering_then (group_cmp stamp.now.group self.now.group) (ids_side self.now.ids stamp.now.id) }
+        ensures { result ≡ ordering_then (group_cmp stamp.now.group self.now.group)
+            (ids_side self.now.ids stamp.now.id) }
     {
         match stamp.group().order(&self.group) {
             Ordering::Equal => self.ids.side(stamp),

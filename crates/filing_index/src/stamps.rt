@@ -179,7 +179,12 @@ impl Stamps {
         upto: Option<&str>,
     ) -> u64
         ensures { result ≡ stamp_in self.now (Range
-            (record { concept = concept.now; period = asked_of period.entry; after = option_map (λ t. t.now) after.entry })
+            (record {
+              concept =
+                  concept.now;
+              period = asked_of period.entry;
+              after = option_map (λ t. t.now) after.entry;
+            })
             (option_map (λ t. t.now) upto.entry)) }
     {
         let (kind, group) = match period {

@@ -33,7 +33,8 @@ copy_now h s = solo_copy Amend (repository h) (calls_of s h)
 
 -- its net change, which is told at the repository of its opening, makes of the repository as it is that copy
 abbrev pub EachNetChangeMakesTheCopy : Type 0
-EachNetChangeMakesTheCopy = (h : History) (s : ℕ) → IsUntouchedAmendment h s → laid_over (net_change_of s h) (repository h) ≡ copy_now h s
+EachNetChangeMakesTheCopy = (h : History) (s : ℕ) → IsUntouchedAmendment h s
+    → laid_over (net_change_of s h) (repository h) ≡ copy_now h s
 
 -- so each accepted commit of a lawful history leaves its net change laid over the repository before it
 abbrev pub EachCommitLaysItsNetChange : Type 0
@@ -71,11 +72,13 @@ EachDisallowedCellOfACopyHoldsANewFact = (h : History) (s : ℕ) (name : Text) (
 
 -- the least report that has a disallowed cell, with the least such cell
 abbrev pub least_disallowed_of : Repository → Option (Text × Dims)
-least_disallowed_of c = find_map (λ e. option_map (λ dims. (e.0, dims)) (least_disallowed e.1.allowed e.1.facts.entries)) c.reports.entries
+least_disallowed_of c =
+    find_map (λ e. option_map (λ dims. (e.0, dims)) (least_disallowed e.1.allowed e.1.facts.entries)) c.reports.entries
 
 -- how a commit is refused by this cell
 abbrev pub refusal_at : Repository → Text × Dims → Reply
-refusal_at c d = option_map_or (λ r. reply.Disallowed d.0 (class_of (cell_facts d.1 r.facts)) (cell_ids d.1 r.facts)) (report_at c d.0) reply.NoReport
+refusal_at c d = option_map_or (λ r. reply.Disallowed d.0 (class_of (cell_facts d.1 r.facts)) (cell_ids d.1 r.facts))
+    (report_at c d.0) reply.NoReport
 
 -- the first disallowed cell of the new facts, and of all facts where a value was declared, is the least of all, and the refusal tells it
 pub record IsDecidedByNewFacts (c : Repository) (change : Change) : Type 0 where
@@ -84,8 +87,10 @@ pub record IsDecidedByNewFacts (c : Repository) (change : Change) : Type 0 where
 
 -- where a change is laid over a repository that obeys
 abbrev pub EachChangeIsDecidedByItsNewFacts : Type 0
-EachChangeIsDecidedByItsNewFacts = (c : Repository) (change : Change) → repository_obeys c ≡ true → IsDecidedByNewFacts (laid_over change c) change
+EachChangeIsDecidedByItsNewFacts = (c : Repository) (change : Change) → repository_obeys c ≡ true
+    → IsDecidedByNewFacts (laid_over change c) change
 
 -- so the net change of an untouched amendment decides whether its copy is refused
 abbrev pub EachCopyIsDecidedByItsNewFacts : Type 0
-EachCopyIsDecidedByItsNewFacts = (h : History) (s : ℕ) → IsUntouchedAmendment h s → IsDecidedByNewFacts (copy_now h s) (net_change_of s h)
+EachCopyIsDecidedByItsNewFacts = (h : History) (s : ℕ) → IsUntouchedAmendment h s
+    → IsDecidedByNewFacts (copy_now h s) (net_change_of s h)

@@ -15,7 +15,8 @@ is_allowed a entries dims = allows a (class_of (facts_of (cell_of dims entries))
 
 -- a report obeys exactly where each of its cells is allowed
 abbrev pub ObeysWhereEachCellIsAllowed : Type 0
-ObeysWhereEachCellIsAllowed = (a : Allowed) (entries : List (Text × Fact)) → (obeys a entries ≡ true) ↔ ((dims : Dims) → is_allowed a entries dims ≡ true)
+ObeysWhereEachCellIsAllowed = (a : Allowed) (entries : List (Text × Fact))
+    → (obeys a entries ≡ true) ↔ ((dims : Dims) → is_allowed a entries dims ≡ true)
 
 pub record IsLeastDisallowed (a : Allowed) (entries : List (Text × Fact)) (dims : Dims) : Type 0 where
   pub disallowed : is_allowed a entries dims ≡ false
@@ -23,7 +24,8 @@ pub record IsLeastDisallowed (a : Allowed) (entries : List (Text × Fact)) (dims
 
 -- the least disallowed cell is disallowed, and each lesser cell is allowed
 abbrev pub LeastDisallowedIsTheLeast : Type 0
-LeastDisallowedIsTheLeast = (a : Allowed) (entries : List (Text × Fact)) (dims : Dims) → least_disallowed a entries ≡ Some dims → IsLeastDisallowed a entries dims
+LeastDisallowedIsTheLeast = (a : Allowed) (entries : List (Text × Fact)) (dims : Dims)
+    → least_disallowed a entries ≡ Some dims → IsLeastDisallowed a entries dims
 
 -- a repository obeys exactly where a commit that left it would not be refused
 abbrev pub RepositoryObeysWhereNotRefused : Type 0

@@ -25,4 +25,5 @@ steps_of (e ∷ older) = steps_of older ++ (e.session, e.step) ∷ []
 pub record PlayedAreTheLawful : Type 0 where
   pub lawful : (steps : List SessionStep) → IsLawful (played steps)
   pub all : (h : History) → IsLawful h → played (steps_of h) ≡ h
-  pub no_entry : (h : History) (session : Option ℕ) (step : Step) → ¬ MayBeTaken h session step → after_step h session step ≡ h
+  pub no_entry : (h : History) (session : Option ℕ) (step : Step) → ¬ MayBeTaken h session step
+      → after_step h session step ≡ h

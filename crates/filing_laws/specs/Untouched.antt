@@ -17,11 +17,13 @@ ReadsAreUntouched kind s h = first_conflict s (things_read kind (base_of s h) (c
 
 -- each open session was told what it is told alone at the repository of its opening
 abbrev pub EachSessionRepliesAsAtItsOpening : Type 0
-EachSessionRepliesAsAtItsOpening = (h : History) (s : ℕ) (kind : Kind) → IsLawful h → status_of s h ≡ Live kind → RepliesAlone kind (base_of s h) s h
+EachSessionRepliesAsAtItsOpening = (h : History) (s : ℕ) (kind : Kind) → IsLawful h → status_of s h ≡ Live kind
+    → RepliesAlone kind (base_of s h) s h
 
 -- and where nothing that it has read was touched, what it is told alone at the repository as it is
 abbrev pub EachUntouchedSessionRepliesAsNow : Type 0
-EachUntouchedSessionRepliesAsNow = (h : History) (s : ℕ) (kind : Kind) → IsLawful h → status_of s h ≡ Live kind → ReadsAreUntouched kind s h → RepliesAlone kind (repository h) s h
+EachUntouchedSessionRepliesAsNow = (h : History) (s : ℕ) (kind : Kind) → IsLawful h → status_of s h ≡ Live kind
+    → ReadsAreUntouched kind s h → RepliesAlone kind (repository h) s h
 
 -- the session has read the same things that it would read alone at this repository
 abbrev pub ReadsAlone : Kind → Repository → ℕ → History → Type 0
@@ -29,4 +31,5 @@ ReadsAlone kind c s h = things_read kind (base_of s h) (calls_of s h) ≡ things
 
 -- and it would read the same things there
 abbrev pub EachUntouchedSessionReadsAsNow : Type 0
-EachUntouchedSessionReadsAsNow = (h : History) (s : ℕ) (kind : Kind) → IsLawful h → status_of s h ≡ Live kind → ReadsAreUntouched kind s h → ReadsAlone kind (repository h) s h
+EachUntouchedSessionReadsAsNow = (h : History) (s : ℕ) (kind : Kind) → IsLawful h → status_of s h ≡ Live kind
+    → ReadsAreUntouched kind s h → ReadsAlone kind (repository h) s h

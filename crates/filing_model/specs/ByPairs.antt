@@ -24,4 +24,5 @@ cell_with one facts = filter (is_of one) facts
 
 -- the place of the first fact of the least cell that is not allowed
 abbrev pub least_disallowed_place : Allowed → List Fact → Option ℕ
-least_disallowed_place allowed facts = option_and_then (λ dims. position (has_dims dims) facts) (least_dims (disallowed_dims allowed facts))
+least_disallowed_place allowed facts = option_and_then (λ dims. position (has_dims dims) facts)
+    (least_dims (disallowed_dims allowed facts))

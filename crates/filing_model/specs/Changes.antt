@@ -87,7 +87,8 @@ least_among facts r =
 -- of all cells where a value was declared, else of those of the new facts
 abbrev pub least_changed : ReportChange → Report → Option Dims
 least_changed change r =
-    option_map_or (λ value. least_disallowed r.allowed r.facts.entries) change.declared (least_among (new_facts change) r)
+    option_map_or (λ value. least_disallowed r.allowed r.facts.entries) change.declared
+    (least_among (new_facts change) r)
 
 -- what is found of the first element of which something is
 abbrev pub find_map : {A B : Type 0} → (A → Option B) → List A → Option B
@@ -97,4 +98,5 @@ find_map find (x ∷ xs) = option_or (find x) (find_map find xs)
 -- the least changed report with such a cell that is disallowed, with the least such cell
 abbrev pub first_disallowed : Repository → Change → Option (Text × Dims)
 first_disallowed c change =
-    find_map (λ e. option_map (λ dims. (e.0, dims)) (option_and_then (least_changed e.1) (report_at c e.0))) change.entries
+    find_map (λ e. option_map (λ dims. (e.0, dims))
+    (option_and_then (least_changed e.1) (report_at c e.0))) change.entries

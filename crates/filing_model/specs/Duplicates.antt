@@ -18,7 +18,8 @@ use Rattle.filing_model.specs.declared.duplicates.Pair.TheVariants as pair
 
 -- equal numbers with the same decimals are complete, others consistent where their intervals share a number
 abbrev pub number_pair : ℤ → Option ℤ → ℤ → Option ℤ → Pair
-number_pair n d m e = cond (int_eq n m && option_eq int_eq d e) pair.Complete (cond (meets (interval_of n d) (interval_of m e)) pair.Consistent pair.Inconsistent)
+number_pair n d m e = cond (int_eq n m && option_eq int_eq d e) pair.Complete
+    (cond (meets (interval_of n d) (interval_of m e)) pair.Consistent pair.Inconsistent)
 
 abbrev pub value_pair : FactValue → FactValue → Pair
 value_pair Nil Nil = pair.Complete
@@ -125,8 +126,10 @@ least_disallowed a entries = least_dims (disallowed_dims a (facts_of entries))
 -- ---- laws
 
 abbrev pub ObeysWhereNoCellIsDisallowed : Type 0
-ObeysWhereNoCellIsDisallowed = (a : Allowed) (entries : List (Text × Fact)) → IsTrue (obeys a entries) ↔ (least_disallowed a entries ≡ None)
+ObeysWhereNoCellIsDisallowed = (a : Allowed) (entries : List (Text × Fact))
+    → IsTrue (obeys a entries) ↔ (least_disallowed a entries ≡ None)
 
 -- facts are mixed exactly where not every two have the same dimensions
 abbrev pub MixedWhereDimensionsDiffer : Type 0
-MixedWhereDimensionsDiffer = (facts : List Fact) → (class_of facts ≡ class.Mixed) ↔ (¬ AllPairs (λ f g. f.dims ≡ g.dims) facts)
+MixedWhereDimensionsDiffer = (facts : List Fact)
+    → (class_of facts ≡ class.Mixed) ↔ (¬ AllPairs (λ f g. f.dims ≡ g.dims) facts)

@@ -96,7 +96,8 @@ with_value raw (Ok value) = Ok (record { dims = raw.dims; value = value; links =
 
 abbrev pub fit_bound : Names → RawFact → Option (Text × Text) → Result Fact FactFault
 fit_bound names raw None = Err UnboundPrefix
-fit_bound names raw (Some concept) = cond (are_bound names.prefixes raw.dims) (with_value raw (value_of (is_numeric names.table concept) raw)) (Err UnboundPrefix)
+fit_bound names raw (Some concept) = cond (are_bound names.prefixes raw.dims)
+    (with_value raw (value_of (is_numeric names.table concept) raw)) (Err UnboundPrefix)
 
 -- the fact, or the first fault: a prefix that is not bound, a unit or decimals out of place, no number, one too large, decimals out of range
 abbrev pub fit_of : Names → RawFact → Result Fact FactFault

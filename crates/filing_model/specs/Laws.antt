@@ -20,11 +20,13 @@ DimsInAnyOrder = (named other : List (Text × Option Text)) → IsPermutation na
 
 -- what is made of a list is a dimension set, and a dimension set is made of itself
 abbrev pub DimsAgain : Type 0
-DimsAgain = ((named : List (Text × Option Text)) (dims : Dims) → dims_of named ≡ Ok dims → AreDims dims) × ((dims : Dims) → AreDims dims → dims_of dims ≡ Ok dims)
+DimsAgain = ((named : List (Text × Option Text)) (dims : Dims) → dims_of named ≡ Ok dims → AreDims dims)
+    × ((dims : Dims) → AreDims dims → dims_of dims ≡ Ok dims)
 
 -- the same of prefixes
 abbrev pub PrefixesInAnyOrder : Type 0
-PrefixesInAnyOrder = (bound other : List (Text × Text)) → IsPermutation bound other → prefixes_of bound ≡ prefixes_of other
+PrefixesInAnyOrder = (bound other : List (Text × Text)) → IsPermutation bound other
+    → prefixes_of bound ≡ prefixes_of other
 
 -- a numeric table has the rows that it is made of
 abbrev pub RowsAreKept : Type 0
@@ -32,7 +34,8 @@ RowsAreKept = (rows : Table) (concept : Text × Text) → is_numeric (table_of r
 
 -- what is written for a fitted fact fits to the same fact
 abbrev pub FactsFitAgain : Type 0
-FactsFitAgain = (names : Names) (raw : RawFact) (fact : Fact) → fit_of names raw ≡ Ok fact → fit_of names (raw_of fact) ≡ Ok fact
+FactsFitAgain = (names : Names) (raw : RawFact) (fact : Fact) → fit_of names raw ≡ Ok fact
+    → fit_of names (raw_of fact) ≡ Ok fact
 
 -- of two declared values that are set in a text the last stays
 abbrev pub TheLastValueStays : Type 0

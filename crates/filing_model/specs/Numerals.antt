@@ -75,7 +75,8 @@ abbrev pub size_of_few : Text → Text → Result ℕ NumberFault
 size_of_few whole fraction = cond (are_few whole fraction) (Ok (scaled whole fraction)) (Err TooLarge)
 
 abbrev pub size_of_parts : Text → Text → Result ℕ NumberFault
-size_of_parts whole fraction = cond (are_digits (whole ++ fraction)) (size_of_few (without_front is_zero whole) (without_end is_zero fraction)) (Err NotANumber)
+size_of_parts whole fraction = cond (are_digits (whole ++ fraction))
+    (size_of_few (without_front is_zero whole) (without_end is_zero fraction)) (Err NotANumber)
 
 -- a second point is left among the fraction digits, and is no digit
 abbrev pub size_of : Text → Result ℕ NumberFault
@@ -147,18 +148,22 @@ is_minus_sign Minus = Bool.true
 
 -- n units are the signed digits, divided by 10 for each digit after the point
 abbrev pub IsNumberOf : Spelling → ℤ → Type 0
-IsNumberOf s n = n *ℤ pos (10 ^ length (fraction_digits s.fraction)) ≡ signed (is_minus_sign s.sign) (place_sum (digits_of s) * 10 ^ most_fraction_digits)
+IsNumberOf s n = n *ℤ pos (10 ^ length (fraction_digits s.fraction))
+    ≡ signed (is_minus_sign s.sign) (place_sum (digits_of s) * 10 ^ most_fraction_digits)
 
 -- ---- laws
 
 abbrev pub ShortSpellingsHaveTheirNumber : Type 0
-ShortSpellingsHaveTheirNumber = (s : Spelling) → IsSpelling s → IsShort s → (n : ℤ) × (number_of (spelled s) ≡ Ok n) × IsNumberOf s n
+ShortSpellingsHaveTheirNumber = (s : Spelling) → IsSpelling s → IsShort s
+    → (n : ℤ) × (number_of (spelled s) ≡ Ok n) × IsNumberOf s n
 
 abbrev pub LongSpellingsAreTooLarge : Type 0
 LongSpellingsAreTooLarge = (s : Spelling) → IsSpelling s → ¬ IsShort s → number_of (spelled s) ≡ Err TooLarge
 
 abbrev pub OnlySpellingsAreNumbers : Type 0
-OnlySpellingsAreNumbers = (text : Text) → number_of text ≢ Err NotANumber → (s : Spelling) × IsSpelling s × (spelled s ≡ text)
+OnlySpellingsAreNumbers = (text : Text) → number_of text ≢ Err NotANumber
+    → (s : Spelling) × IsSpelling s × (spelled s ≡ text)
 
 abbrev pub NumbersAreBounded : Type 0
-NumbersAreBounded = (text : Text) (n : ℤ) → number_of text ≡ Ok n → nat_abs n < 10 ^ (most_whole_digits + most_fraction_digits)
+NumbersAreBounded = (text : Text) (n : ℤ) → number_of text ≡ Ok n
+    → nat_abs n < 10 ^ (most_whole_digits + most_fraction_digits)

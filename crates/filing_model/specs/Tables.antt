@@ -37,7 +37,8 @@ row_at line = if is_row (split_at_space line.1) then Ok (split_at_space line.1) 
 
 -- the lines that are not empty with their numbers from 1. The last line too loses a CR at its end
 abbrev pub numbered_lines : Text → List (ℕ × Text)
-numbered_lines text = filter (λ line. nat_lt 0 (length line.1)) (enumerate_from 1 (map strip_carriage_return (slice_split is_newline text)))
+numbered_lines text = filter (λ line. nat_lt 0 (length line.1))
+    (enumerate_from 1 (map strip_carriage_return (slice_split is_newline text)))
 
 -- the table of a text, or its first bad line: each line that is not empty is a URI, one space and a local name
 abbrev pub read_table_of : Text → Result Table TableFault

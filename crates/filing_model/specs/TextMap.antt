@@ -26,7 +26,12 @@ from_entries (e ∷ es) = insert (from_entries es) e.0 e.1
 
 -- the map with nothing at the key
 abbrev pub remove : {X : Type 0} → TextMap X → Text → TextMap X
-remove m key = record { entries = where_key text_cmp (λ k. not (text_eq key k)) m.entries; sorted = is_sorted-where_key text_cmp (λ k. not (text_eq key k)) m.entries m.sorted }
+remove m key = record {
+  entries = where_key text_cmp
+      (λ k. not (text_eq key k)) m.entries;
+  sorted = is_sorted-where_key text_cmp
+      (λ k. not (text_eq key k)) m.entries m.sorted;
+}
 
 abbrev pub keys : {X : Type 0} → TextMap X → List Text
 keys m = map (λ e. e.0) m.entries

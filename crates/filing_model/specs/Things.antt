@@ -50,7 +50,8 @@ abbrev pub parts_of : Thing → List (Option Text)
 parts_of (Report name) = Some name ∷ []
 parts_of (Id name id) = Some name ∷ Some id ∷ []
 parts_of (Cell name dims) = Some name ∷ dim_parts dims
-parts_of (Range name sought upto) = Some name ∷ Some sought.concept ∷ (asked_parts sought.period ++ sought.after ∷ upto ∷ [])
+parts_of (Range name sought upto) = Some name ∷ Some sought.concept
+    ∷ (asked_parts sought.period ++ sought.after ∷ upto ∷ [])
 parts_of (Policy name) = Some name ∷ []
 
 -- by rank, then part by part: none before any text, texts by bytes

@@ -56,7 +56,8 @@ decimals_in (Number text n decimals) = decimals
 
 -- the raw fact that is written for a fact
 abbrev pub raw_of : Fact → RawFact
-raw_of fact = record { dims = fact.dims; value = text_of fact.value; decimals = decimals_in fact.value; links = fact.links }
+raw_of fact =
+    record { dims = fact.dims; value = text_of fact.value; decimals = decimals_in fact.value; links = fact.links }
 
 abbrev pub fact_text : Fact → Text
 fact_text fact = raw_fact_text (raw_of fact)

@@ -85,7 +85,8 @@ fn first_with<F: PairedFact>(other: &F, facts: &[F]) -> Option<usize>
 
 /// A fact of the least cell that is not allowed.
 fn least_disallowed_fact<'a, F: PairedFact>(allowed: Allowed, facts: &'a [F]) -> Option<&'a F>
-    ensures { option_map (λ f. (F.fact f.now).dims) result ≡ least_dims (disallowed_dims allowed (map F.fact facts.now)) }
+    ensures { option_map (λ f. (F.fact f.now).dims) result
+        ≡ least_dims (disallowed_dims allowed (map F.fact facts.now)) }
 {
     let mut least = None;
     for fact in facts {
@@ -101,7 +102,10 @@ fn lesser_disallowed<'a, F: PairedFact>(
     least: Option<&'a F>,
     fact: &'a F,
 ) -> Option<&'a F>
-    ensures { option_map (λ f. (F.fact f.now).dims) result ≡ cond (is_disallowed allowed (map F.fact facts.now) (F.fact fact.now).dims) (lesser_dims (option_map (λ f. (F.fact f.now).dims) least.entry) (F.fact fact.now).dims) (option_map (λ f. (F.fact f.now).dims) least.entry) }
+    ensures { option_map (λ f. (F.fact f.now).dims) result
+        ≡ cond (is_disallowed allowed (map F.fact facts.now) (F.fact fact.now).dims)
+        (lesser_dims (option_map (λ f. (F.fact f.now).dims) least.entry) (F.fact fact.now).dims)
+        (option_map (λ f. (F.fact f.now).dims) least.entry) }
 {
     if allows(allowed, class_with(Some(fact), facts)) {
         least
@@ -112,7 +116,8 @@ fn lesser_disallowed<'a, F: PairedFact>(
 
 /// The one of lesser dimensions, the first where they are equal.
 fn lesser<'a, F: PairedFact>(least: Option<&'a F>, fact: &'a F) -> &'a F
-    ensures { Some (F.fact result.now).dims ≡ lesser_dims (option_map (λ f. (F.fact f.now).dims) least.entry) (F.fact fact.now).dims }
+    ensures { Some (F.fact result.now).dims
+        ≡ lesser_dims (option_map (λ f. (F.fact f.now).dims) least.entry) (F.fact fact.now).dims }
 {
     match least {
         Some(other) if fact.cmp_dims(other) != Ordering::Less => other,
@@ -143,7 +148,8 @@ fn class_with<'a, F: PairedFact>(one: Option<&'a F>, facts: &'a [F]) -> Class
 
 /// The class of a cell of two facts or more.
 fn class_of_more_with<'a, F: PairedFact>(one: Option<&'a F>, facts: &'a [F]) -> Class
-    ensures { result ≡ class_of_more pair_of (cell_with (option_map (λ f. F.fact f.now) one.entry) (map F.fact facts.now)) }
+    ensures { result ≡ class_of_more pair_of (cell_with (option_map (λ f. F.fact f.now) one.entry)
+        (map F.fact facts.now)) }
 {
     if every_pair_is(Bond::Complete, one, facts) {
         Class::Complete
@@ -158,7 +164,8 @@ fn class_of_more_with<'a, F: PairedFact>(one: Option<&'a F>, facts: &'a [F]) -> 
 
 /// Whether each fact of the cell is so bound with each later one.
 fn every_pair_is<'a, F: PairedFact>(bond: Bond, one: Option<&'a F>, facts: &'a [F]) -> bool
-    ensures { result ≡ every_pair (λ f g. binds bond (pair_of f g)) (cell_with (option_map (λ f. F.fact f.now) one.entry) (map F.fact facts.now)) }
+    ensures { result ≡ every_pair (λ f g. binds bond (pair_of f g))
+        (cell_with (option_map (λ f. F.fact f.now) one.entry) (map F.fact facts.now)) }
 {
     let mut left = facts;
     while let [first, rest @ ..] = left {
@@ -172,14 +179,17 @@ fn every_pair_is<'a, F: PairedFact>(bond: Bond, one: Option<&'a F>, facts: &'a [
 
 /// Whether a fact is so bound with each of the cell's facts behind it, or is not of the cell itself.
 fn is_bound<F: PairedFact>(bond: Bond, one: Option<&F>, fact: &F, behind: &[F]) -> bool
-    ensures { result ≡ (not (is_of (option_map (λ f. F.fact f.now) one.entry) (F.fact fact.now)) || list_all (λ g. not (is_of (option_map (λ f. F.fact f.now) one.entry) (F.fact g)) || binds bond (pair_of (F.fact fact.now) (F.fact g))) behind.now) }
+    ensures { result ≡ (not (is_of (option_map (λ f. F.fact f.now) one.entry) (F.fact fact.now))
+        || list_all (λ g. not (is_of (option_map (λ f. F.fact f.now) one.entry) (F.fact g))
+        || binds bond (pair_of (F.fact fact.now) (F.fact g))) behind.now) }
 {
     !is_of(one, fact) || is_bound_to_all(bond, one, fact, behind)
 }
 
 /// Whether a fact is so bound with each of the cell's facts.
 fn is_bound_to_all<F: PairedFact>(bond: Bond, one: Option<&F>, fact: &F, facts: &[F]) -> bool
-    ensures { result ≡ list_all (λ g. not (is_of (option_map (λ f. F.fact f.now) one.entry) (F.fact g)) || binds bond (pair_of (F.fact fact.now) (F.fact g))) facts.now }
+    ensures { result ≡ list_all (λ g. not (is_of (option_map (λ f. F.fact f.now) one.entry) (F.fact g))
+        || binds bond (pair_of (F.fact fact.now) (F.fact g))) facts.now }
 {
     facts
         .iter()

@@ -27,4 +27,5 @@ pub record RanOf {J M : Type 0} (w : Work J M) (r : Ran J) : Type 0 where
 -- each work comes back in its place
 pub record EachRan {J M : Type 0} (works : List (Work J M)) (rans : List (Ran J)) : Type 0 where
   pub all : length rans ≡ length works
-  pub each : (place : ℕ) (w : Work J M) (r : Ran J) → slice_get works place ≡ Some w → slice_get rans place ≡ Some r → RanOf w r
+  pub each : (place : ℕ) (w : Work J M) (r : Ran J) → slice_get works place ≡ Some w → slice_get rans place ≡ Some r
+      → RanOf w r

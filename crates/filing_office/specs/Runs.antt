@@ -65,32 +65,38 @@ Loads s t _ = ⊥
 -- ---- openings
 
 -- the review is of the last version that the reviewer has then seen, which no receipt told before is newer than
-pub record Reviews {J : Type 0} (seen now_seen : List Repository) (told : List (Outcome J)) (last : Repository) : Type 0 where
+pub record Reviews {J : Type 0} (seen now_seen : List Repository) (told : List (Outcome J))
+    (last : Repository) : Type 0 where
   pub goes_on : IsPrefix seen now_seen
   pub newest : EndsWith now_seen last
   pub not_older : All (IsWithin (last.count + 1)) told
 
-abbrev pub ReviewOpens : {J : Type 0} → RunState → RunState → List (Outcome J) → Text → List Repository → Outcome J → Type 0
+abbrev pub ReviewOpens : {J : Type 0} → RunState → RunState → List (Outcome J) → Text → List Repository → Outcome J
+    → Type 0
 ReviewOpens s t told name seen (Answered a) =
     IsReviewed a reply.Opened
     × (last : Repository) × (now_seen : List Repository) × Reviews seen now_seen told last
     × (t ≡ record s { seen = Some now_seen; names = insert s.names name (place.Review last) })
-ReviewOpens s t told name seen NoMemory = (now_seen : List Repository) × IsPrefix seen now_seen × (t ≡ record s { seen = Some now_seen })
+ReviewOpens s t told name seen NoMemory = (now_seen : List Repository) × IsPrefix seen now_seen
+    × (t ≡ record s { seen = Some now_seen })
 ReviewOpens s t told name seen _ = ⊥
 
 abbrev pub OfficeOpens : {J : Type 0} → RunState → RunState → Text → Outcome J → Type 0
 OfficeOpens s t name (Answered a) =
-    (number : ℕ) × (a.session ≡ Some number) × (reply_of a.reply ≡ reply.Opened) × IsTaken s t a (insert s.names name (place.Office number))
+    (number : ℕ) × (a.session ≡ Some number) × (reply_of a.reply ≡ reply.Opened)
+    × IsTaken s t a (insert s.names name (place.Office number))
 OfficeOpens s t name NoMemory = t ≡ s
 OfficeOpens s t name _ = ⊥
 
 -- a session to review is the reviewer's where there is one
-abbrev pub Opens : {J : Type 0} → RunState → RunState → List (Outcome J) → Text → Kind → Option (List Repository) → Outcome J → Type 0
+abbrev pub Opens : {J : Type 0} → RunState → RunState → List (Outcome J) → Text → Kind → Option (List Repository)
+    → Outcome J → Type 0
 Opens s t told name Review (Some seen) o = ReviewOpens s t told name seen o
 Opens s t told name Review None o = OfficeOpens s t name o
 Opens s t told name Amend seen o = OfficeOpens s t name o
 
-abbrev pub OpensUnder : {J : Type 0} → RunState → RunState → List (Outcome J) → Text → Kind → Option Place → Outcome J → Type 0
+abbrev pub OpensUnder : {J : Type 0} → RunState → RunState → List (Outcome J) → Text → Kind → Option Place → Outcome J
+    → Type 0
 OpensUnder s t told name kind (Some p) o = (o ≡ NameInUse) × (t ≡ s)
 OpensUnder s t told name kind None o = Opens s t told name kind s.seen o
 
@@ -112,11 +118,13 @@ reviewed last _ = reply.Closed
 
 -- under the lock a session may have been ended by somebody else, and its name is then free
 abbrev pub GoesOnAt : {J : Type 0} → RunState → RunState → Text → Step → Place → Outcome J → Type 0
-GoesOnAt s t name step (place.Office number) (Answered a) = (a.session ≡ Some number) × IsTaken s t a (names_after step name s.names)
+GoesOnAt s t name step (place.Office number) (Answered a) = (a.session ≡ Some number)
+    × IsTaken s t a (names_after step name s.names)
 GoesOnAt s t name step (place.Office number) NoSession = t ≡ record s { names = remove s.names name }
 GoesOnAt s t name step (place.Office number) NoMemory = t ≡ s
 GoesOnAt s t name step (place.Office number) NameInUse = ⊥
-GoesOnAt s t name step (place.Review last) (Answered a) = IsReviewed a (reviewed last step) × (t ≡ record s { names = names_after step name s.names })
+GoesOnAt s t name step (place.Review last) (Answered a) = IsReviewed a (reviewed last step)
+    × (t ≡ record s { names = names_after step name s.names })
 GoesOnAt s t name step (place.Review last) NoMemory = t ≡ s
 GoesOnAt s t name step (place.Review last) _ = ⊥
 
@@ -172,6 +180,8 @@ pub record IsLearnt {J : Type 0} (s : Turning) (told : List (Outcome J)) : Type 
 abbrev pub IsReviewedFrom : {J E : Type 0} → Turning → Turning → List (Outcome J) → Result Repository E → Type 0
 IsReviewedFrom s t told (Ok last) =
     (seen : List Repository) → s.state.seen ≡ Some seen
-    → (now_seen : List Repository) × Reviews seen now_seen told last × (t.state ≡ record s.state { seen = Some now_seen })
+    → (now_seen : List Repository) × Reviews seen now_seen told last
+    × (t.state ≡ record s.state { seen = Some now_seen })
 IsReviewedFrom s t told (Err _) =
-    (seen : List Repository) → s.state.seen ≡ Some seen → (now_seen : List Repository) × IsPrefix seen now_seen × (t.state ≡ record s.state { seen = Some now_seen })
+    (seen : List Repository) → s.state.seen ≡ Some seen
+    → (now_seen : List Repository) × IsPrefix seen now_seen × (t.state ≡ record s.state { seen = Some now_seen })

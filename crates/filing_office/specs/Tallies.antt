@@ -17,7 +17,8 @@ nothing_taken = record { steps = 0; receipts = 0 }
 -- a receipt is there exactly where the reply tells a number, and it has that many versions beside the first
 pub record IsReceipted {J : Type 0} (a : Answer J) : Type 0 where
   pub there : is_some a.receipt ≡ counts (reply_of a.reply)
-  pub number : option_map length a.receipt ≡ cond (counts (reply_of a.reply)) (Some (number_in (reply_of a.reply) + 1)) None
+  pub number : option_map length a.receipt
+      ≡ cond (counts (reply_of a.reply)) (Some (number_in (reply_of a.reply) + 1)) None
 
 -- an answer counts as a step, and one with a receipt as a receipt; a fault counts as neither
 pub record IsCounted {J : Type 0} (old new : Tally) (a : Answer J) : Type 0 where

@@ -48,7 +48,8 @@ impl<L: Ledger + Naming, M: Ledger> Office<L, M> {
         requires steps { (steps.name ≡ L.name) × (steps.parts ≡ L.parts) × (steps.parts ≡ desks) }
         requires receipts { (receipts.name ≡ M.name) × (receipts.parts ≡ M.parts) × (receipts.parts ≡ desks) }
         ensures desks { IfOk result (λ o. (vec_len o.desks ≡ desks) × All (λ d. d ≡ nothing_taken) o.desks.items) }
-        ensures reviewers { IfOk result (λ o. (vec_len o.reviewers ≡ reviewers) × All (λ r. r ≡ nothing ∷ []) o.reviewers.items) }
+        ensures reviewers { IfOk result (λ o. (vec_len o.reviewers ≡ reviewers)
+            × All (λ r. r ≡ nothing ∷ []) o.reviewers.items) }
     {
         let core = Core::new(alloc)?;
         let (steps, mut all_steps) = steps.open::<L>();
@@ -70,7 +71,8 @@ impl<L: Ledger + Naming, M: Ledger> Office<L, M> {
 
     /// Ends the office with all its desks. It waits for the readers of reviews that are being opened; reviews that are kept go on answering.
     pub fn finish<R: Wait>(self, rt: &R, desks: Vec<Desk<L, M>>) -> Result<Core, FinishFault<L, M>>
-        ensures counted { MatchResult result (λ c. length c.history ≡ sum (map (λ d. d.steps) desks.items)) (λ f. f.desks ≡ desks) }
+        ensures counted { MatchResult result (λ c. length c.history ≡ sum (map (λ d. d.steps) desks.items))
+            (λ f. f.desks ≡ desks) }
         ensures numbered { IfOk result (λ c. (repository c.history).count ≡ sum (map (λ d. d.receipts) desks.items)) }
         ensures missing { MatchResult result (λ c. vec_len desks ≡ L.parts) (λ f. vec_len desks ≢ L.parts) }
     {

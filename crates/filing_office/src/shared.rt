@@ -40,7 +40,8 @@ fn publish_next<J: Naming, R: Wait>(
     prepared: &Prepared,
 ) -> Result<Option<Receipt<J>>, AllocError>
     requires { (v : StampedReports) → prepared.now.next ≡ Some v → IsChain (publisher.old ++ repository_in v ∷ []) }
-    ensures published { OnOk result (publisher.new ≡ publisher.old ++ option_map_or (λ v. repository_in v ∷ []) prepared.now.next []) }
+    ensures published { OnOk result (publisher.new
+        ≡ publisher.old ++ option_map_or (λ v. repository_in v ∷ []) prepared.now.next []) }
     ensures told { IfOk result (λ r. r ≡ option_map (λ _. publisher.new) prepared.now.next) }
     ensures err { OnErr result (publisher.new ≡ publisher.old) }
 {

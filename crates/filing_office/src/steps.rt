@@ -23,7 +23,8 @@ fn take_one<L: Ledger + Naming, M: Ledger, A: Access<L, M>, G: Gate>(
 ) -> bool
     requires learnt { IsLearnt turn.old outcomes.old.items }
     requires room { vec_len outcomes.old < vec_capacity outcomes.old }
-    ensures goes { (o : Told L) × Goes turn.old.state turn.new.state outcomes.old.items (string_bytes step.name) (step_of step.step) o
+    ensures goes { (o : Told L)
+        × Goes turn.old.state turn.new.state outcomes.old.items (string_bytes step.name) (step_of step.step) o
         × (outcomes.new.items ≡ outcomes.old.items ++ o ∷ []) × (result ≡ not (is_no_memory o)) }
     ensures learnt { IsLearnt turn.new outcomes.new.items }
     ensures len { vec_len outcomes.new ≡ vec_len outcomes.old + 1 }

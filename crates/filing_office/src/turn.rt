@@ -172,7 +172,10 @@ impl<L: Ledger + Naming, M: Ledger> Turn<L, M> {
         requires used { IsSome (get self.old.state.names (string_bytes name)) }
         requires session { IsSome answer.now.session }
         ensures { (n : ℕ) → answer.now.session ≡ Some n → self.new
-            ≡ record self.old { state = record self.old.state { names = insert self.old.state.names (string_bytes name) (place.Office n) } } }
+            ≡ record self.old {
+              state =
+                  record self.old.state { names = insert self.old.state.names (string_bytes name) (place.Office n) };
+            } }
     {
         let Some(number) = answer.session else {
             unreachable!()
@@ -262,7 +265,8 @@ impl<L: Ledger + Naming, M: Ledger> Turn<L, M> {
         step: Step,
     ) -> Result<Outcome<L>, AllocError>
         requires of_session { IsTrue (is_of_session (step_of step)) }
-        ensures goes { GoesOnAt self.old.state self.new.state name.now (step_of step) (place.Office number) (outcome_of result) }
+        ensures goes { GoesOnAt self.old.state self.new.state name.now (step_of step) (place.Office number)
+            (outcome_of result) }
         ensures learnt { self.new.learnt ≡ self.old.learnt }
     {
         let ended = ends(&step);
@@ -314,7 +318,8 @@ impl<L: Ledger + Naming, M: Ledger> Turn<L, M> {
         told: &[Outcome<L>],
     ) -> Result<Outcome<L>, AllocError>
         requires learnt { IsLearnt self.old told.now }
-        ensures goes { Goes self.old.state self.new.state told.now (string_bytes step.name) (step_of step.step) (outcome_of result) }
+        ensures goes { Goes self.old.state self.new.state told.now (string_bytes step.name) (step_of step.step)
+            (outcome_of result) }
         ensures learnt { IsLearnt self.new told.now }
     {
         let DeskStep { name, step } = step;

@@ -32,7 +32,11 @@ impl Model for Keys {
     ghost view = { λ k. record { concept = string_bytes k.concept; period = option_map string_bytes k.period } };
 
     ghost invariant = { λ k. HaveTheirCodes
-        (record { concept = string_bytes k.concept; period = option_map string_bytes k.period }) k.of_concept k.of_period };
+        (record {
+          concept =
+              string_bytes k.concept;
+          period = option_map string_bytes k.period;
+        }) k.of_concept k.of_period };
 }
 
 /// A text of its own, where there is one.

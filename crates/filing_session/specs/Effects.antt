@@ -58,7 +58,12 @@ effect_nowhere ask = record { reply = reply.NoReport; thing = Some (thing.Report
 -- of any other, in the report that it names
 abbrev pub effect_in : Call → Repository → Change → Option Report → Effect
 effect_in ask copy change None = effect_nowhere ask
-effect_in ask copy change (Some r) = record { reply = (answer_in copy ask r).0; thing = read_in ask r; staged = staged_by ask (answer_in copy ask r) change }
+effect_in ask copy change (Some r) = record {
+  reply =
+      (answer_in copy ask r).0;
+  thing = read_in ask r;
+  staged = staged_by ask (answer_in copy ask r) change;
+}
 
 -- what is staged at an identifier
 abbrev pub put_effect : Text → Text → Option Fact → Repository → Change → Effect

@@ -52,11 +52,14 @@ EachSessionRunsAlone = (kind : Kind) (base : Repository) (calls : List Call) →
 
 -- an amendment's change is its net change, but for removals of what the base does not have. Laid over its base it makes its copy
 pub record StagesItsNetChange (base : Repository) (calls : List Call) : Type 0 where
-  pub net : pruned base (after_calls calls (opened Amend base)).change ≡ net_change base calls (solo_replies Amend base calls)
-  pub makes_the_copy : laid_over (after_calls calls (opened Amend base)).change base ≡ (after_calls calls (opened Amend base)).copy
+  pub net : pruned base (after_calls calls (opened Amend base)).change
+      ≡ net_change base calls (solo_replies Amend base calls)
+  pub makes_the_copy : laid_over (after_calls calls (opened Amend base)).change base
+      ≡ (after_calls calls (opened Amend base)).copy
 
 abbrev pub EachAmendmentStagesItsNetChange : Type 0
 EachAmendmentStagesItsNetChange = (base : Repository) (calls : List Call) → StagesItsNetChange base calls
 
 abbrev pub EachReviewStagesNothing : Type 0
-EachReviewStagesNothing = (base : Repository) (calls : List Call) → (after_calls calls (opened Review base)).change ≡ empty
+EachReviewStagesNothing = (base : Repository) (calls : List Call)
+    → (after_calls calls (opened Review base)).change ≡ empty

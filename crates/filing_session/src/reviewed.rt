@@ -28,7 +28,8 @@ fn told(ready: Ready) -> Reply
 
 /// What a review that opens at a version is answered as its first call.
 pub fn reply_at(alloc: Global, version: &Arc<RepoVersion>, call: Call) -> Result<Reply, AllocError>
-    ensures { IfOk result (λ r. reply_of r ≡ (answer kind.Review (call_of call) (repository_in (arc_value version.now))).0) }
+    ensures { IfOk result (λ r. reply_of r
+        ≡ (answer kind.Review (call_of call) (repository_in (arc_value version.now))).0) }
 {
     let staging = Staging::new(alloc, Arc::try_clone(version)?);
     let ready = effect(alloc, Kind::Review, &staging, call)?;

@@ -39,7 +39,8 @@ fn add_new(
     id: String,
     raw: RawFact,
 ) -> Result<Ready, AllocError>
-    requires { Some None ≡ option_map (λ r. fact_in r (string_bytes id)) (report_at staging.now.0 (string_bytes report)) }
+    requires { Some None ≡ option_map (λ r. fact_in r (string_bytes id))
+        (report_at staging.now.0 (string_bytes report)) }
     ensures { IfOk result (λ r. r ≡ effect_in (call.Add (string_bytes report) (string_bytes id) raw)
         staging.now.0 staging.now.1 (report_at staging.now.0 (string_bytes report))) }
 {

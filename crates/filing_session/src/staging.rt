@@ -186,7 +186,8 @@ impl Staging {
 
     /// The same with a value declared.
     pub(crate) fn declaring(&self, report: &str, allowed: Allowed) -> Result<Staging, AllocError>
-        ensures { IfOk result (λ s. s ≡ (declaring_at self.now.0 report.now allowed, with_declared self.now.1 report.now allowed)) }
+        ensures { IfOk result (λ s. s
+            ≡ (declaring_at self.now.0 report.now allowed, with_declared self.now.1 report.now allowed)) }
     {
         let version = Arc::try_clone(&self.version)?;
         let pending = match &self.pending {

@@ -10,5 +10,6 @@ use Rattle.filing_model.specs.Things.{asked_parts}
 -- by concept, then by period, any before none, then by the identifier after which they begin, none before any
 abbrev pub sought_order : Sought → Sought → Ordering
 sought_order a b =
-    ordering_then (ordering_then (text_cmp a.concept b.concept) (slice_cmp (option_cmp text_cmp) (asked_parts a.period) (asked_parts b.period)))
+    ordering_then (ordering_then (text_cmp a.concept b.concept)
+    (slice_cmp (option_cmp text_cmp) (asked_parts a.period) (asked_parts b.period)))
     (option_cmp text_cmp a.after b.after)

@@ -31,7 +31,8 @@ fn order_nullable(one: &Option<String>, other: &Option<String>) -> Ordering
 
 /// Any period, then none, then each by its bytes.
 fn order_asked(one: &Asked, other: &Asked) -> Ordering
-    ensures { result ≡ slice_cmp (option_cmp text_cmp) (asked_parts (asked_of one.now)) (asked_parts (asked_of other.now)) }
+    ensures { result ≡ slice_cmp (option_cmp text_cmp) (asked_parts (asked_of one.now))
+        (asked_parts (asked_of other.now)) }
 {
     match (one, other) {
         (Asked::Any, Asked::Any) | (Asked::Without, Asked::Without) => Ordering::Equal,
@@ -90,7 +91,8 @@ fn order_alike(one: &Thing, other: &Thing) -> Ordering
 impl PartialOrd for Thing {
     ghost partial_cmp = { λ a b. Some (thing_cmp (thing_of a) (thing_of b)) };
 
-    ghost laws = { partial_order_from_agreeing_total (λ a b. thing_cmp (thing_of a) (thing_of b)) (on_total thing_of thing_cmp-total) (λ a b. refl) (λ a b. refl) };
+    ghost laws = { partial_order_from_agreeing_total (λ a b. thing_cmp (thing_of a) (thing_of b))
+        (on_total thing_of thing_cmp-total) (λ a b. refl) (λ a b. refl) };
 
     fn partial_cmp(&self, other: &Thing) -> Option<Ordering> {
         Some(self.cmp(other))

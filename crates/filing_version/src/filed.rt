@@ -280,7 +280,8 @@ impl FiledReport {
 
     /// The least dimensions of facts that are put whose cell is not allowed. A fact that is put stands in the report. A cell is looked at once for all facts of it that are put one after another.
     fn least_among<'a>(&self, puts: &'a TextPages<Option<Held>>) -> Option<&'a DimSet>
-        ensures { option_map (λ d. d.now) result ≡ least_among (filter_map (λ e. e.1) puts.now.entries) self.now.report }
+        ensures { option_map (λ d. d.now) result
+            ≡ least_among (filter_map (λ e. e.1) puts.now.entries) self.now.report }
     {
         let allowed = self.allowed();
         let mut least = None;
@@ -296,7 +297,8 @@ impl FiledReport {
 
     /// The least dimensions whose cell is not allowed.
     pub(crate) fn least_disallowed(&self) -> Option<&DimSet>
-        ensures { option_map (λ d. d.now) result ≡ least_disallowed self.now.report.allowed self.now.report.facts.entries }
+        ensures { option_map (λ d. d.now) result
+            ≡ least_disallowed self.now.report.allowed self.now.report.facts.entries }
     {
         self.facts.least_disallowed(self.allowed())
     }

@@ -113,21 +113,24 @@ impl RepoVersion {
 
     /// The compact text of the `documentInfo` of a report, or none where it is not there.
     pub fn info(&self, report: &str) -> Option<&str>
-        ensures { option_map (λ t. t.now) result ≡ option_map (λ r. r.info) (report_at (repository_in self.now) report.now) }
+        ensures { option_map (λ t. t.now) result
+            ≡ option_map (λ r. r.info) (report_at (repository_in self.now) report.now) }
     {
         Some(self.reports.get(report)?.info())
     }
 
     /// The prefixes of a report with its numeric table, or none where it is not there.
     pub fn names(&self, report: &str) -> Option<&Names>
-        ensures { option_map (λ n. n.now) result ≡ option_map (λ r. r.names) (report_at (repository_in self.now) report.now) }
+        ensures { option_map (λ n. n.now) result
+            ≡ option_map (λ r. r.names) (report_at (repository_in self.now) report.now) }
     {
         Some(self.reports.get(report)?.names())
     }
 
     /// The version with a change laid over it, which counts one more. What the change touches has that number as its stamp.
     pub fn after(&self, alloc: Global, change: &Change) -> Result<RepoVersion, AllocError>
-        requires there { (name : Text) → report_at (repository_in self.now) name ≡ None → value_at change.now name ≡ None }
+        requires there { (name : Text) → report_at (repository_in self.now) name ≡ None
+            → value_at change.now name ≡ None }
         requires few { (repository_in self.now).count + 1 < 2 ^ 64 }
         ensures { IfOk result (λ v. version_in v ≡ version_after change.now (version_in self.now)) }
     {
@@ -255,7 +258,8 @@ impl RepoVersion {
     ///
     /// Where the version before obeyed, this decides the commit: it is the least of all.
     pub fn first_disallowed<'a>(&'a self, change: &'a Change) -> Option<(&'a str, &'a DimSet)>
-        ensures first { option_map (λ d. (d.0.now, d.1.now)) result ≡ first_disallowed (repository_in self.now) change.now }
+        ensures first { option_map (λ d. (d.0.now, d.1.now)) result
+            ≡ first_disallowed (repository_in self.now) change.now }
         ensures decides { (base : Repository) → repository_obeys base ≡ true
             → (repository_in self.now) ≡ after_change change.now base
             → refusal_of (repository_in self.now)
@@ -274,7 +278,8 @@ impl RepoVersion {
     /// The least dimensions whose cell a report does not allow.
     pub fn disallowed_in(&self, report: &str) -> Option<&DimSet>
         ensures { option_map (λ d. d.now) result
-            ≡ option_and_then (λ r. least_disallowed r.allowed r.facts.entries) (report_at (repository_in self.now) report.now) }
+            ≡ option_and_then (λ r. least_disallowed r.allowed r.facts.entries)
+            (report_at (repository_in self.now) report.now) }
     {
         self.reports.get(report)?.least_disallowed()
     }

@@ -12,4 +12,5 @@ is_sought sought e = answers_query sought.concept sought.period e.1 && is_after 
 
 -- the identifiers among some facts that a page looks for
 abbrev pub ids_among : Sought → List (Text × Fact) → List Text
-ids_among sought entries = ids_after sought.after (map (λ e. e.0) (filter (λ e. answers_query sought.concept sought.period e.1) entries))
+ids_among sought entries = ids_after sought.after
+    (map (λ e. e.0) (filter (λ e. answers_query sought.concept sought.period e.1) entries))

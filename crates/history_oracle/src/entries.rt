@@ -67,7 +67,8 @@ pub(crate) fn without<X: Drop>(
     entries: Vec<(String, X)>,
     name: &str,
 ) -> Result<Vec<(String, X)>, AllocError>
-    ensures { IfOk result (λ v. named v.items ≡ where_key text_cmp (λ k. not (text_eq name.now k)) (named entries.items)) }
+    ensures { IfOk result (λ v. named v.items
+        ≡ where_key text_cmp (λ k. not (text_eq name.now k)) (named entries.items)) }
 {
     let mut left = Vec::new(alloc);
     for entry in entries {

@@ -86,7 +86,8 @@ fn read_by(
 
 /// The things but those that are the same as one.
 fn others(alloc: Global, thing: &Thing, things: Vec<Thing>) -> Result<Vec<Thing>, AllocError>
-    ensures { IfOk result (λ v. map thing_of v.items ≡ filter (λ u. not (thing_eq (thing_of thing.now) u)) (map thing_of things.items)) }
+    ensures { IfOk result (λ v. map thing_of v.items
+        ≡ filter (λ u. not (thing_eq (thing_of thing.now) u)) (map thing_of things.items)) }
 {
     let mut left = Vec::new(alloc);
     for other in things {
@@ -99,7 +100,8 @@ fn others(alloc: Global, thing: &Thing, things: Vec<Thing>) -> Result<Vec<Thing>
 
 /// A thing with the others of those that are read later.
 fn with_first(alloc: Global, thing: Thing, later: Vec<Thing>) -> Result<Vec<Thing>, AllocError>
-    ensures { IfOk result (λ v. map thing_of v.items ≡ thing_of thing ∷ filter (λ u. not (thing_eq (thing_of thing) u)) (map thing_of later.items)) }
+    ensures { IfOk result (λ v. map thing_of v.items
+        ≡ thing_of thing ∷ filter (λ u. not (thing_eq (thing_of thing) u)) (map thing_of later.items)) }
 {
     let mut things = others(alloc, &thing, later)?;
     things.insert(0, thing)?;

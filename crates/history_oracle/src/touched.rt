@@ -38,7 +38,8 @@ fn is_in_cell(dims: &DimSet, books: &Books, name: &str, id: &str) -> bool
 
 /// Whether a fact is there that is looked for.
 fn is_in_query(sought: &Sought, books: &Books, name: &str, id: &str) -> bool
-    ensures { result ≡ option_map_or (answers_query sought.now.concept sought.now.period) (fact_at books.now name.now id.now) false }
+    ensures { result ≡ option_map_or (answers_query sought.now.concept sought.now.period)
+        (fact_at books.now name.now id.now) false }
 {
     match books.fact(name, id) {
         Some(fact) => answers_query(sought, fact),
@@ -124,7 +125,8 @@ pub(crate) fn some_call_touches(
     calls: &[Call],
     replies: &[Reply],
 ) -> bool
-    ensures { result ≡ some_call_touches commit.now (thing_of thing.now) (map call_of calls.now) (map reply_of replies.now) }
+    ensures { result ≡ some_call_touches commit.now (thing_of thing.now) (map call_of calls.now)
+        (map reply_of replies.now) }
 {
     let Some((call, calls)) = calls.split_first() else {
         return false;

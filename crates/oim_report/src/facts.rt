@@ -194,7 +194,8 @@ fn facts_in_order<'a>(
 ) -> Result<Vec<(String, Arc<Fact>)>, ReportFault>
     requires { IsTrue (is_some (of_members (read_members members.items) no_members)) }
     ensures facts { Gives report_fault (λ v. facts_view v.items) result
-        (each (entry_of names.now) (pairs (unwrap_or (of_members (read_members members.entry.items) no_members) no_members))) }
+        (each (entry_of names.now) (pairs (unwrap_or
+        (of_members (read_members members.entry.items) no_members) no_members))) }
     ensures rise { IfOk result (λ v. T (is_sorted text_cmp (facts_view v.items))) }
     ensures fitted { IfOk result (λ v. AreFitted names.now (facts_view v.items)) }
 {

@@ -18,21 +18,25 @@ same_some m n h = sym (ap (read_some m) h)
 no_none : (n : ℕ) → Some n ≡ None → ⊥
 no_none n h = subst IsSome h tt
 
-pub leaf_begins : {E : Type 0} (key : E → ℕ) (leaf : E) (n : ℕ) → Some n ≡ Some (key leaf) → BeginsWithKey key n (single leaf)
+pub leaf_begins : {E : Type 0} (key : E → ℕ) (leaf : E) (n : ℕ) → Some n ≡ Some (key leaf)
+    → BeginsWithKey key n (single leaf)
 leaf_begins key leaf n h = (leaf, ([], refl), same_some n (key leaf) h)
 
-pub leaf_ends : {E : Type 0} (key : E → ℕ) (leaf : E) (n : ℕ) → Some n ≡ Some (key leaf) → EndsWithKey key n (single leaf)
+pub leaf_ends : {E : Type 0} (key : E → ℕ) (leaf : E) (n : ℕ) → Some n ≡ Some (key leaf)
+    → EndsWithKey key n (single leaf)
 leaf_ends key leaf n h = (leaf, ([], refl), same_some n (key leaf) h)
 
 module _ {X E : Type 0} (v : X → List E) (k : X → Option ℕ) (key : E → ℕ) where
-  pub block_begins : ((x : X) (n : ℕ) → Some n ≡ k x → BeginsWithKey key n (v x)) → (items : List X) (n : ℕ) → Some n ≡ first_of k items
+  pub block_begins : ((x : X) (n : ℕ) → Some n ≡ k x → BeginsWithKey key n (v x)) → (items : List X) (n : ℕ)
+      → Some n ≡ first_of k items
       → BeginsWithKey key n (flat_map v items)
   block_begins law [] n h = absurd (no_none n h)
   block_begins law (x ∷ xs) n h =
       let b = law x n h in
       (b.0, (b.1.0 ++ flat_map v xs, ap (λ es. es ++ flat_map v xs) b.1.1), b.2)
 
-  pub block_ends : ((x : X) (n : ℕ) → Some n ≡ k x → EndsWithKey key n (v x)) → (items : List X) (n : ℕ) → Some n ≡ last_of k items
+  pub block_ends : ((x : X) (n : ℕ) → Some n ≡ k x → EndsWithKey key n (v x)) → (items : List X) (n : ℕ)
+      → Some n ≡ last_of k items
       → EndsWithKey key n (flat_map v items)
   block_ends law [] n h = absurd (no_none n h)
   block_ends law (x ∷ []) n h =

@@ -31,9 +31,11 @@ pub(crate) trait Level<E: Entry>: Edged + Drop {
     fn share(&self) -> Result<Self, AllocError>
         ensures { IfOk result (λ item. entries item ≡ entries self.now) };
 
-    ghost first_keys: { (item : Self) (key : ℕ) → Some key ≡ Self.Edged.first_key item → BeginsWithKey E.key key (entries item) };
+    ghost first_keys: { (item : Self) (key : ℕ) → Some key ≡ Self.Edged.first_key item
+        → BeginsWithKey E.key key (entries item) };
 
-    ghost last_keys: { (item : Self) (key : ℕ) → Some key ≡ Self.Edged.last_key item → EndsWithKey E.key key (entries item) };
+    ghost last_keys: { (item : Self) (key : ℕ) → Some key ≡ Self.Edged.last_key item
+        → EndsWithKey E.key key (entries item) };
 }
 
 /// An entry, which is the lowest level.
