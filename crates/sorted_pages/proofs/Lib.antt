@@ -5,7 +5,8 @@ pub mod Flats
 pub mod Orders
 pub mod Parts
 pub mod Steps
-pub mod Sizes
+pub mod Shorts
+mod Sizes
 pub mod Stretches
 pub mod Ranging
 pub mod Adjacent

@@ -1,10 +1,12 @@
 //! How items are cut into blocks. No other file knows where a block ends.
-ghost use Rattle.std.specs.Prelude.{◌≡◌, ◌++◌, ◌∷◌, [], ◌<◌, ◌≤◌, length, OnOk, IfOk};
+ghost use Rattle.std.specs.Prelude.{◌≡◌, ◌++◌, ◌∷◌, [], ◌<◌, ◌≤◌, length, if◌then◌else◌, OnOk, IfOk};
+ghost use Rattle.std.specs.List.{flat_map};
 ghost use Rattle.std.specs.Arc.{arc_value};
 ghost use Rattle.sorted_pages.specs.Pages.{items_of};
 
 use crate::block::Block;
-use crate::entry::Edged;
+use crate::entry::{Edged, Entry};
+use crate::level::{Level, push_shares};
 use std::alloc::{AllocError, Global};
 use std::marker::Model;
 use std::mem;
@@ -115,6 +117,21 @@ impl<T: Edged + Drop> Cutter<T> {
         }
         self.rest.push(item)?;
         Ok(cut)
+    }
+
+    /// Pushes shares of items where no block is filled before the last, and says whether it did.
+    pub(crate) fn push_shares<E: Entry>(&mut self, items: &[T]) -> Result<bool, AllocError>
+    where
+        T: Level<E>,
+        ensures { IfOk result (λ pushed. flat_map T.entries self.new
+            ≡ flat_map T.entries self.old ++ flat_map T.entries (if pushed then items.now else [])) }
+    {
+        let limit = self.layout.limit(self.most, self.is_first);
+        if items.len() > limit.saturating_sub(self.rest.len()) {
+            return Ok(false);
+        }
+        push_shares::<E, T>(&mut self.rest, items)?;
+        Ok(true)
     }
 
     /// The items as a block, if there are any.

@@ -5,7 +5,7 @@ ghost use Rattle.std.specs.List.{flat_map};
 use crate::block::Block;
 use crate::cutter::{Cutter, Layout};
 use crate::entry::{Edged, Entry};
-use crate::level::Level;
+use crate::level::{Level, push_shares};
 use std::alloc::{AllocError, Global};
 use std::sync::Arc;
 
@@ -15,6 +15,10 @@ pub(crate) trait Growing<E: Entry, T: Level<E>>: Drop {
 
     fn put(&mut self, item: T) -> Result<(), AllocError>
         ensures { OnOk result (all self.new ≡ all self.old ++ T.entries item) };
+
+    /// Puts shares of items, one after another.
+    fn put_shares(&mut self, items: &[T]) -> Result<(), AllocError>
+        ensures { OnOk result (all self.new ≡ all self.old ++ flat_map T.entries items.now) };
 }
 
 impl<E: Entry, T: Level<E>> Growing<E, T> for Vec<T> {
@@ -23,6 +27,10 @@ impl<E: Entry, T: Level<E>> Growing<E, T> for Vec<T> {
     fn put(&mut self, item: T) -> Result<(), AllocError> {
         self.push(item)?;
         Ok(())
+    }
+
+    fn put_shares(&mut self, items: &[T]) -> Result<(), AllocError> {
+        push_shares::<E, T>(self, items)
     }
 }
 
@@ -39,6 +47,16 @@ impl<E: Entry, T: Level<E>, U: Growing<E, Arc<Block<T>>>> Growing<E, T> for Tier
     fn put(&mut self, item: T) -> Result<(), AllocError> {
         if let Some(block) = self.rest.push(item)? {
             self.above.put(block)?;
+        }
+        Ok(())
+    }
+
+    fn put_shares(&mut self, items: &[T]) -> Result<(), AllocError> {
+        if self.rest.push_shares::<E>(items)? {
+            return Ok(());
+        }
+        for item in items {
+            self.put(item.share()?)?;
         }
         Ok(())
     }

@@ -3,7 +3,7 @@ ghost use Rattle.std.specs.Prelude.{◌≡◌, ◌++◌, ◌∷◌, [], ◌-◌,
 ghost use Rattle.std.specs.List.{list_all, flat_map};
 ghost use Rattle.std.specs.Ordering.{is_lt};
 ghost use Rattle.sorted_pages.specs.Edges.{begins_with};
-ghost use Rattle.sorted_pages.specs.Pages.{held, IsFirst, IsFirstBlock};
+ghost use Rattle.sorted_pages.specs.Pages.{held, of_group, single, IsFirst, IsFirstBlock};
 ghost use Rattle.sorted_pages.specs.Sorted.{IsRising, AllBelow, PassesBelow};
 ghost use Rattle.sorted_pages.specs.Changes.{entry_of, entries_put, with_changes, without_tied};
 
@@ -13,7 +13,7 @@ use crate::cutter::Layout;
 use crate::edge::{Before, Below, Until, split_at_edge, split_before_edge};
 use crate::entry::{Edged, Entry};
 use crate::growing::{Growing, Tier, begin, finish};
-use crate::level::{Leaf, Level};
+use crate::level::{Group, Leaf, Level, Page, Run};
 use crate::spans::Tie;
 use std::alloc::{AllocError, Global};
 use std::sync::Arc;
@@ -56,10 +56,7 @@ fn share_all<E: Entry, T: Level<E>, U: Growing<E, T>>(
     if most_owners(items) == usize::MAX {
         return Err(AllocError);
     }
-    for item in items {
-        grown.put(item.share()?)?;
-    }
-    Ok(())
+    grown.put_shares(items)
 }
 
 /// The entry that a change puts.
@@ -217,6 +214,25 @@ pub(crate) fn lay_blocks<E: Entry, T: Changing<E>, U: Growing<E, Arc<Block<T>>>>
     }
     share_all(left, &mut grown)?;
     Ok(grown)
+}
+
+/// Groups of the entries of one page with changes laid over them.
+pub(crate) fn lay_groups<E: Entry>(
+    alloc: Global,
+    entries: &[Leaf<E>],
+    changes: &[Change<E>],
+) -> Result<Vec<Group<E>>, AllocError>
+    requires items { IsRising E.order (flat_map single entries.now) }
+    requires changes { IsRising E.order (map entry_of changes.now) }
+    ensures { IfOk result (λ groups. flat_map of_group groups.items
+        ≡ with_changes E.order changes.now (flat_map single entries.now)) }
+{
+    let groups: Vec<Group<E>> = Vec::new(alloc);
+    let runs: Tier<Run<E>, Vec<Group<E>>> = begin(alloc, Layout::Halved, 1, groups)?;
+    let pages: Tier<Page<E>, Tier<Run<E>, Vec<Group<E>>>> = begin(alloc, Layout::Halved, 2, runs)?;
+    let pages = lay_block(alloc, entries, changes, pages)?;
+    let runs = finish(pages)?;
+    finish(runs)
 }
 
 /// Appends blocks of entries, one after another.

@@ -1,5 +1,6 @@
 //! The levels of a list: entries, pages of entries, runs of pages and groups of runs.
-ghost use Rattle.std.specs.Prelude.{◌≡◌, ◌≤◌, ℕ, List, IfOk, Some};
+ghost use Rattle.std.specs.Prelude.{◌≡◌, ◌≤◌, ◌+◌, ◌++◌, ℕ, List, length, IfOk, OnOk, Some};
+ghost use Rattle.std.specs.List.{flat_map};
 ghost use Rattle.sorted_pages.specs.Keys.{BeginsWithKey, EndsWithKey};
 ghost use Rattle.sorted_pages.specs.Pages.{single, held, IsFirst, IsLast};
 
@@ -149,6 +150,21 @@ impl<E: Entry, T: Level<E>> Level<E> for Arc<Block<T>> {
         let block = Arc::try_clone(self)?;
         Ok(block)
     }
+}
+
+/// Appends shares of items to a list.
+pub(crate) fn push_shares<E: Entry, T: Level<E>>(
+    list: &mut Vec<T>,
+    items: &[T],
+) -> Result<(), AllocError>
+    ensures entries { OnOk result (flat_map T.entries list.new.items
+        ≡ flat_map T.entries list.old.items ++ flat_map T.entries items.now) }
+    ensures no_more { length list.new.items ≤ length list.old.items + length items.now }
+{
+    for item in items {
+        list.push(item.share()?)?;
+    }
+    Ok(())
 }
 
 /// Entries in one place in the order, which many lists may hold.

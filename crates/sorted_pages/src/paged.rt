@@ -1,40 +1,43 @@
 //! The sorted list itself.
-ghost use Rattle.std.specs.Prelude.{◌≡◌, [], map, length, option_copied, Some, None, if◌then◌else◌, IfOk};
+ghost use Rattle.std.specs.Prelude.{◌≡◌, ◌≤◌, [], map, length, option_copied, Some, None, if◌then◌else◌, IfOk};
 ghost use Rattle.std.specs.Ordering.{is_eq};
 ghost use Rattle.std.specs.FinMap.Entries.{find};
-ghost use Rattle.sorted_pages.specs.Pages.{AreSizes};
+ghost use Rattle.std.specs.List.{flat_map};
+ghost use Rattle.sorted_pages.specs.Pages.{AreSizes, ahead, of_group, single};
 ghost use Rattle.sorted_pages.specs.Sorted.{IsRising, keyed};
-ghost use Rattle.sorted_pages.specs.Ranges.{within, first_within};
+ghost use Rattle.sorted_pages.specs.Ranges.{from_span, within, first_within};
 ghost use Rattle.sorted_pages.specs.Changes.{entry_of, with_changes};
 
 use crate::change::Change;
 use crate::entry::{Entry, Span};
-use crate::laying::{fill_blocks, lay_blocks};
-use crate::level::{Group, Run};
-use crate::range::{Front, Range, all_from, all_until, with_entries, with_pages};
+use crate::laying::{Changing, fill_blocks, lay_blocks, lay_groups};
+use crate::level::{Group, Leaf, Run};
+use crate::range::{Front, Range, all_from, all_until, entries_from, with_entries, with_pages};
 use crate::spans::Tie;
 use std::alloc::{AllocError, Global};
 use std::marker::Model;
 
 /// An unchanging sorted list of entries, of which a changed copy shares the pages where nothing changed.
 ///
+/// The entries of a short list stand in place, so that a changed copy of it asks for memory once. Where there are groups, none do.
+///
 /// Contracts see the list of the entries.
 #[derive(Drop)]
 pub struct Paged<E: Entry> {
+    entries: Vec<Leaf<E>>,
     groups: Vec<Group<E>>,
 }
 
 impl<E: Entry> Model for Paged<E> {
-    ghost use Rattle.std.specs.Prelude.{List};
-    ghost use Rattle.std.specs.List.{flat_map};
-    ghost use Rattle.sorted_pages.specs.Pages.{of_group};
-    ghost use Rattle.sorted_pages.specs.Sorted.{IsRising};
+    ghost use Rattle.std.specs.Prelude.{List, []};
+    ghost use Rattle.sorted_pages.specs.Pages.{ahead};
+    ghost use Rattle.sorted_pages.specs.Blocks.{IsShortOrLong};
 
     ghost Value = { List E };
 
-    ghost view = { λ p. flat_map of_group p.groups.items };
+    ghost view = { λ p. ahead p.entries.items [] [] p.groups.items };
 
-    ghost invariant = { λ p. IsRising E.order (flat_map of_group p.groups.items) };
+    ghost invariant = { λ p. IsShortOrLong E.order p.entries.items p.groups.items };
 }
 
 /// The entry, where it is in the range.
@@ -54,7 +57,31 @@ impl<E: Entry> Paged<E> {
         ensures { result ≡ [] }
     {
         Paged {
+            entries: Vec::new(alloc),
             groups: Vec::new(alloc),
+        }
+    }
+
+    /// A list whose entries stand in place.
+    fn short(alloc: Global, entries: Vec<Leaf<E>>) -> Paged<E>
+        requires rises { IsRising E.order (flat_map single entries.items) }
+        requires few { length entries.items ≤ 64 }
+        ensures { result ≡ flat_map single entries.items }
+    {
+        Paged {
+            entries,
+            groups: Vec::new(alloc),
+        }
+    }
+
+    /// A list whose entries stand in groups.
+    fn long(alloc: Global, groups: Vec<Group<E>>) -> Paged<E>
+        requires { IsRising E.order (flat_map of_group groups.items) }
+        ensures { result ≡ flat_map of_group groups.items }
+    {
+        Paged {
+            entries: Vec::new(alloc),
+            groups,
         }
     }
 
@@ -63,8 +90,13 @@ impl<E: Entry> Paged<E> {
         requires { IsRising E.order entries.items }
         ensures { IfOk result (λ p. p ≡ entries.items) }
     {
+        if entries.len() <= E::most_in_page() {
+            let room: Vec<Leaf<E>> = Vec::with_capacity(alloc, entries.len())?;
+            let entries = Leaf::fill(alloc, entries, room)?;
+            return Ok(Paged::short(alloc, entries));
+        }
         let groups = fill_blocks::<E, Run<E>, Vec<Group<E>>>(alloc, entries, Vec::new(alloc))?;
-        Ok(Paged { groups })
+        Ok(Paged::long(alloc, groups))
     }
 
     /// A copy with changes whose entries rise. This list stays as it is.
@@ -72,10 +104,37 @@ impl<E: Entry> Paged<E> {
         requires { IsRising E.order (map entry_of changes.now) }
         ensures { IfOk result (λ p. p ≡ with_changes E.order changes.now self.now) }
     {
-        let room = self.groups.len().saturating_add(1);
-        let grown = Vec::with_capacity(alloc, room)?;
-        let groups = lay_blocks(alloc, &self.groups, changes, grown)?;
-        Ok(Paged { groups })
+        if !self.groups.is_empty() {
+            let room = self.groups.len().saturating_add(1);
+            let grown = Vec::with_capacity(alloc, room)?;
+            let groups = lay_blocks(alloc, &self.groups, changes, grown)?;
+            return Ok(Paged::long(alloc, groups));
+        }
+        let most = self.entries.len().saturating_add(changes.len());
+        if most > E::most_in_page() {
+            let groups = lay_groups(alloc, &self.entries, changes)?;
+            return Ok(Paged::long(alloc, groups));
+        }
+        let grown: Vec<Leaf<E>> = Vec::with_capacity(alloc, most)?;
+        let entries = Leaf::lay(alloc, &self.entries, changes, grown)?;
+        Ok(Paged::short(alloc, entries))
+    }
+
+    /// The entries from the first on that does not stand before the range.
+    fn front_from<S: Span<E>>(&self, span: &S) -> Front<'_, E>
+        ensures front { ahead result.entries.now result.pages.now result.runs.now result.groups.now
+            ≡ from_span (S.side span.now) self.now }
+        ensures rising { IsRising E.order self.now }
+    {
+        if !self.groups.is_empty() {
+            return all_from(&self.groups, span);
+        }
+        Front {
+            entries: entries_from(&self.entries, span),
+            pages: &[],
+            runs: &[],
+            groups: &[],
+        }
     }
 
     /// The entries in a range. It takes no memory.
@@ -83,14 +142,14 @@ impl<E: Entry> Paged<E> {
         ensures entries { result ≡ within (S.side span.now) self.now }
         ensures rising { IsRising E.order self.now }
     {
-        all_until(all_from(&self.groups, span), span)
+        all_until(self.front_from(span), span)
     }
 
     /// The first entry in a range.
     pub fn first_in<S: Span<E>>(&self, span: &S) -> Option<&E>
         ensures { option_copied result ≡ first_within (S.side span.now) self.now }
     {
-        let front = with_entries(all_from(&self.groups, span));
+        let front = with_entries(self.front_from(span));
         match front.entries.first() {
             Some(first) => only_in(first.entry(), span),
             None => None,
@@ -109,6 +168,10 @@ impl<E: Entry> Paged<E> {
         ensures { IfOk result (λ sizes. AreSizes sizes.items (length self.now)) }
     {
         let mut sizes = Vec::new(alloc);
+        if !self.entries.is_empty() {
+            sizes.push(self.entries.len())?;
+            return Ok(sizes);
+        }
         let mut left = with_pages(Front {
             entries: &[],
             pages: &[],

@@ -225,7 +225,10 @@ fn blocks_from<'a, E: Entry, T: Level<E>, S: Span<E>>(
 }
 
 /// The entries from the first on that does not stand before the range.
-fn entries_from<'a, E: Entry, S: Span<E>>(entries: &'a [Leaf<E>], span: &S) -> &'a [Leaf<E>]
+pub(crate) fn entries_from<'a, E: Entry, S: Span<E>>(
+    entries: &'a [Leaf<E>],
+    span: &S,
+) -> &'a [Leaf<E>]
     requires { IsRising E.order (flat_map single entries.now) }
     ensures { flat_map single result.now ≡ from_span (S.side span.now) (flat_map single entries.now) }
 {

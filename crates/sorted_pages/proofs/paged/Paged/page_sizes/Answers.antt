@@ -1,16 +1,35 @@
-use Rattle.std.proofs.Common.{◌≡◌, ◌∙◌, ap, sym, subst, ◌+◌, ◌<◌, ◌≤◌, arith, sum, length, []}
+use Rattle.std.proofs.Common.{◌≡◌, ◌∙◌, ap, sym, subst, ◌+◌, ◌<◌, ◌≤◌, arith, sum, length, [], ◌∷◌, ◌++◌, true-eqb, false-eqb}
 use Rattle.std.specs.List.{flat_map}
 use Rattle.std.specs.Arc.{arc_value}
 use Rattle.sorted_pages.specs.Pages.{of_group, ahead, AreSizes}
+use Rattle.sorted_pages.proofs.Flats.{no_items, singles}
+use Rattle.sorted_pages.proofs.Shorts.{in_place, of_short}
 use Rattle.sorted_pages.proofs.Sizes.{no_sizes, sizes_push, one_page}
 use Rattle.sorted_pages.proofs.paged.Paged.page_sizes.Goals as goal
+
+pub returns-then-not-is_empty : goal.returns-then-not-is_empty
+returns-then-not-is_empty g c =
+    let entries = c.self.inside.entries.items in
+    let groups = c.self.inside.groups.items in
+    let some : 0 < length entries = omega (arith, false-eqb _ 0 c.if-not-is_empty.ensures, c.self.inside.entries.ok.0) in
+    let few : length entries ≤ 64 = c.self.invariant.few in
+    let none : length groups ≡ 0 = in_place g.E.Entry.order entries groups c.self.invariant some in
+    let all : length c.args.self.now ≡ length entries =
+    ap length (sym c.self.view_is ∙ of_short g.E.Entry.order entries groups none ∙ singles entries) in
+    let told : c.len.result ≡ length entries = omega (arith, c.len.ensures, c.self.inside.entries.ok.0) in
+    let whole : 0 + c.len.result ≡ length c.args.self.now = omega (arith, told, all) in
+    subst (λ n. AreSizes c.push.new.self.items n) whole
+    (sizes_push [] c.push.new.self.items 0 c.len.result no_sizes (omega (arith, told, some)) (omega (arith, told, few))
+    (c.in_ok-push.ensures.items ∙ ap (λ ns. ns ++ c.len.result ∷ []) c.new-sizes.ensures.items))
 
 pub loop-page-init : goal.loop-page-init
 loop-page-init g c =
     let none : c.new-sizes.result.items ≡ [] = c.new-sizes.ensures.items in
     let zero : sum c.new-sizes.result.items ≡ 0 = ap sum none in
+    let short : length c.self.inside.entries.items ≡ 0 = omega (arith, true-eqb _ 0 c.if-not-is_empty.ensures, c.self.inside.entries.ok.0) in
     let all : length (ahead [] c.with_pages-left.result.pages.now c.with_pages-left.result.runs.now c.with_pages-left.result.groups.now) ≡ length c.args.self.now =
-    ap length (c.with_pages-left.ensures.same ∙ ap (flat_map of_group) c.deref.ensures.value ∙ c.self.view_is) in
+    ap length (c.with_pages-left.ensures.same ∙ ap (flat_map of_group) c.deref.ensures.value
+    ∙ ap (λ es. ahead es [] [] c.self.inside.groups.items) (sym (no_items c.self.inside.entries.items short)) ∙ c.self.view_is) in
     record {
       sizes = subst (λ ns. AreSizes ns (sum ns)) (sym none) no_sizes;
       total = omega (arith, zero, all);
@@ -47,11 +66,11 @@ loop-page-preserved g c =
     c.with_pages-left-in-Some.result.groups.now)
     ≡ length (ahead [] c.in-Some.pages.now c.loop-page.left.runs.now c.loop-page.left.groups.now) =
     ap length c.with_pages-left-in-Some.ensures.same in
-    let next : AreSizes c.push.new.self.items (sum c.loop-page.sizes.items + length c.items.result.now) =
-    sizes_push c.loop-page.sizes.items c.push.new.self.items (sum c.loop-page.sizes.items) (length c.items.result.now)
-    c.loop-page.invariant.sizes low high c.in_ok-push.ensures.items in
+    let next : AreSizes c.push-in-Some.new.self.items (sum c.loop-page.sizes.items + length c.items.result.now) =
+    sizes_push c.loop-page.sizes.items c.push-in-Some.new.self.items (sum c.loop-page.sizes.items) (length c.items.result.now)
+    c.loop-page.invariant.sizes low high c.in_ok-push-2.ensures.items in
     record {
-      sizes = subst (λ n. AreSizes c.push.new.self.items n) (sym next.total) next;
+      sizes = subst (λ n. AreSizes c.push-in-Some.new.self.items n) (sym next.total) next;
       total = omega (arith, next.total, same, page, rest, c.loop-page.invariant.total);
       none = λ h. c.with_pages-left-in-Some.ensures.same ∙ c.with_pages-left-in-Some.ensures.none h;
     }
