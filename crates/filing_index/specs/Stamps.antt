@@ -190,8 +190,7 @@ part_among (Id id) = record { rank = rank_of kind.Identifier; code = name_key id
 part_among (Cell dims) = among_group kind.Cell (record no_group { dims = Some dims }) (Between None None)
 part_among (Range sought upto) =
     among_group (asked_kind sought.period) (record no_group {
-      concept =
-          Some sought.concept;
+      concept = Some sought.concept;
       period = asked_period sought.period;
     }) (Between sought.after upto)
 

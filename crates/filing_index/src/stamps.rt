@@ -119,7 +119,7 @@ fn leave_both(stamps: &mut Vec<Stamp>, each: &Move, number: u64) -> Result<(), A
 fn left_by(alloc: Global, moves: &[Move], number: u64) -> Result<Vec<Stamp>, AllocError>
     ensures { IfOk result (λ s. s.items ≡ stamps_of_moves number moves.now) }
 {
-    let mut stamps = Vec::new(alloc);
+    let mut stamps = Vec::with_capacity(alloc, moves.len().saturating_mul(4))?;
     for each in moves {
         leave_both(&mut stamps, each, number)?;
     }
@@ -180,8 +180,7 @@ impl Stamps {
     ) -> u64
         ensures { result ≡ stamp_in self.now (Range
             (record {
-              concept =
-                  concept.now;
+              concept = concept.now;
               period = asked_of period.entry;
               after = option_map (λ t. t.now) after.entry;
             })

@@ -33,8 +33,7 @@ impl Model for Keys {
 
     ghost invariant = { λ k. HaveTheirCodes
         (record {
-          concept =
-              string_bytes k.concept;
+          concept = string_bytes k.concept;
           period = option_map string_bytes k.period;
         }) k.of_concept k.of_period };
 }

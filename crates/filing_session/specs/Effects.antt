@@ -59,8 +59,7 @@ effect_nowhere ask = record { reply = reply.NoReport; thing = Some (thing.Report
 abbrev pub effect_in : Call → Repository → Change → Option Report → Effect
 effect_in ask copy change None = effect_nowhere ask
 effect_in ask copy change (Some r) = record {
-  reply =
-      (answer_in copy ask r).0;
+  reply = (answer_in copy ask r).0;
   thing = read_in ask r;
   staged = staged_by ask (answer_in copy ask r) change;
 }

@@ -44,8 +44,7 @@ impl Ready {
     /// The report is not there, which is read.
     pub(crate) fn nowhere(report: String) -> Ready
         ensures { result ≡ record {
-          reply =
-              reply.NoReport;
+          reply = reply.NoReport;
           thing = Some (thing.Report (string_bytes report));
           staged = None;
         } }
