@@ -109,7 +109,7 @@ impl Watch for Steps {
         self.progress.tell(before.saturating_add(1), "steps taken");
     }
 
-    // The process ends soon. Giving back the versions that receipts keep, page by page, takes a quarter of the time of long scripts; the system takes all of it at once.
+    // The process ends soon. To give the core back fact by fact takes long; the system takes all of it at once.
     fn done_with<T: Drop>(&self, remains: T) {
         forget(remains);
     }

@@ -23,7 +23,7 @@ use Rattle.filing_step.specs.Steps.{call_in}
 use Rattle.filing_editions.specs.Lists.{EndsWith, IsLonger}
 use Rattle.filing_editions.proofs.Chains.{added}
 use Rattle.filing_office.specs.declared.outcome.Outcome.{Outcome}
-use Rattle.filing_office.specs.Runs.{RunState, Turning, HasLearnt, IsLearnt, IsWithin, IsReviewedFrom, Opens, OpensUnder, ReviewOpens, receipt_in, reviewed}
+use Rattle.filing_office.specs.Runs.{RunState, Turning, HasLearnt, IsLearnt, IsWithin, IsReviewedFrom, Learns, Opens, OpensUnder, ReviewOpens, receipt_in, reviewed}
 
 pub prefix_length : {X : Type 0} (xs ys : List X) → IsPrefix xs ys → length xs ≤ length ys
 prefix_length xs ys p = omega (arith, ap length p.1, length-append xs p.0)
@@ -164,3 +164,12 @@ learnt_before s told now o known is = record {
     at : (seen : Option (List Repository)) → HasLearnt s.learnt seen told → HasLearnt s.learnt seen (told ++ o ∷ [])
     at None has = tt
     at (Some seen) has = subst (λ os. All (IsWithin (length seen)) os) (sym (take-append-le s.learnt told (o ∷ []) known.few)) has
+
+-- receipts that are learnt, all or some
+module _ {J : Type 0} (s t : RunState) (told : List (Outcome J)) (seen now : List Repository) (had : s.seen ≡ Some seen) (left : t ≡ record s { seen = Some now }) (begins : IsPrefix seen now) where
+  pub learns : {A E : Type 0} (r : Result A E) → OnOk r (All (IsWithin (length now)) told) → Learns s t told s.seen r
+  learns {A} {E} r all = subst (λ o. Learns {A = A} {E = E} s t told o r) (sym had) (at r all)
+    where
+      at : (r : Result A E) → OnOk r (All (IsWithin (length now)) told) → Learns {A = A} {E = E} s t told (Some seen) r
+      at (Ok x) all = (now, begins, all, left)
+      at (Err e) all = (now, begins, left)

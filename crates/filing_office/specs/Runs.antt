@@ -185,3 +185,12 @@ IsReviewedFrom s t told (Ok last) =
 IsReviewedFrom s t told (Err _) =
     (seen : List Repository) → s.state.seen ≡ Some seen
     → (now_seen : List Repository) × IsPrefix seen now_seen × (t.state ≡ record s.state { seen = Some now_seen })
+
+-- the reviewer, where there is one, learns the receipts of these outcomes; where memory is wanted it may learn some
+abbrev pub Learns : {J A E : Type 0} → RunState → RunState → List (Outcome J) → Option (List Repository) → Result A E
+    → Type 0
+Learns s t told None result = t ≡ s
+Learns s t told (Some seen) (Ok _) = (now_seen : List Repository) × IsPrefix seen now_seen
+    × All (IsWithin (length now_seen)) told × (t ≡ record s { seen = Some now_seen })
+Learns s t told (Some seen) (Err _) = (now_seen : List Repository) × IsPrefix seen now_seen
+    × (t ≡ record s { seen = Some now_seen })

@@ -1,6 +1,6 @@
 //! `Turn`: a desk that takes steps under names, and what each of them becomes.
 
-ghost use Rattle.std.specs.Prelude.{◌≡◌, ℕ, List, cond, None, Some, IsSome, IsTrue, All, length, string_bytes, IfOk, OnOk};
+ghost use Rattle.std.specs.Prelude.{◌≡◌, ℕ, List, cond, None, Some, IsSome, IsTrue, All, length, string_bytes, IfOk, OnErr, OnOk};
 ghost use mathlib.Core.List.{IsPrefix};
 ghost use Rattle.filing_model.specs.TextMap.{empty, get, insert, remove};
 ghost use Rattle.filing_model.specs.Repository.{Repository};
@@ -9,7 +9,7 @@ ghost use Rattle.filing_office.specs.Answers.{is_of_session};
 ghost use Rattle.filing_office.specs.declared.outcome.Outcome.{Outcome as Told};
 ghost use Rattle.filing_office.specs.declared.outcome.Outcome.TheVariants.{Answered};
 ghost use Rattle.filing_office.specs.declared.place.Place.TheVariants as place;
-ghost use Rattle.filing_office.specs.Runs.{ends, names_after, reviewed, outcome_of, Loads, OpensUnder, OfficeOpens, ReviewOpens, StepsUnder, GoesOnAt, Goes, IsReviewedFrom, IsLearnt, IsWithin};
+ghost use Rattle.filing_office.specs.Runs.{ends, names_after, reviewed, outcome_of, Loads, OpensUnder, OfficeOpens, ReviewOpens, StepsUnder, GoesOnAt, Goes, IsReviewedFrom, IsLearnt, IsWithin, Learns};
 
 use crate::access::Access;
 use crate::answer::Answer;
@@ -183,6 +183,24 @@ impl<L: Ledger + Naming, M: Ledger> Turn<L, M> {
         if self.names.insert(name, Place::Office(number)).is_err() {
             unreachable!()
         }
+    }
+
+    /// Learns the receipts of outcomes now, so that none of them is needed for a later review.
+    pub fn learn(&mut self, told: &[Outcome<L>]) -> Result<(), AllocError>
+        requires learnt { IsLearnt self.old told.now }
+        ensures learns { Learns self.old.state self.new.state told.now self.old.state.seen result }
+        ensures none { OnOk result ((others : List (Told L)) → IsLearnt self.new others) }
+        ensures err { OnErr result (IsLearnt self.new told.now) }
+    {
+        let Some(reviewer) = &mut self.reviewer else {
+            self.learnt = 0;
+            return Ok(());
+        };
+        if learn_all(reviewer, &told[self.learnt..]).is_err() {
+            return Err(AllocError);
+        }
+        self.learnt = 0;
+        Ok(())
     }
 
     /// A review of the reviewer, which first learns the receipts of the outcomes.

@@ -1,12 +1,13 @@
 //! Runs worked scripts in threads, and compares what they are told with what is written beside them; and draws scripts, and judges whether what they are told is explained by some order of their steps.
 //!
-//! It takes two words, a seed and a number of drawn sets. `sheet` reads the files of `data/`, `runs` runs scripts, in threads or one after another, `told` says what replies are where the numbers of versions are left aside, `judge` looks for an order of the steps, and `drawn` draws scripts. The judge knows nothing of threads.
+//! It takes two words, a seed and a number of drawn sets. `sheet` reads the files of `data/`, `runs` runs scripts, in threads or one after another, `told` says what replies are where the numbers of versions are left aside, `judge` looks for an order of the steps, `long` runs a script that is too long to be judged at once, and `drawn` draws scripts. The judge knows nothing of threads.
 #![tactic(auto)]
 
 ghost use Rattle.std.specs.Prelude.{◌<◌, ◌≤◌, length};
 
 mod drawn;
 mod judge;
+mod long;
 mod runs;
 mod sheet;
 mod told;
@@ -14,6 +15,7 @@ mod told;
 use anyhow::{Result, anyhow};
 use drawn::drawn_set;
 use judge::{Finding, explanation};
+use long::compare_long;
 use oim_fact::NumericTable;
 use oim_report::read_table;
 use runs::replies_in_threads;
@@ -167,5 +169,6 @@ fn main(rt: HostRuntime) -> Result<()> {
     let table = read_numeric(&rt)?;
     compare_worked(&rt, &table)?;
     judge_written(&rt, &table)?;
+    compare_long(&rt, &table)?;
     try_sets(&rt, &table, seed, sets)
 }

@@ -7,8 +7,11 @@ use oim_fact::NumericTable;
 use std::alloc::{AllocError, Global};
 use std::sync::Arc;
 
-/// So many lines are judged before their steps are taken.
-const BATCH: usize = 256;
+/// So many lines are judged at most before their steps are taken. The steps of many lines, one after another, find what they work on where the ones before have left it, near their processor.
+const MOST_LINES: usize = 2048;
+
+/// So many bytes these lines have at most, unless it is one line, since what is read of them is held.
+const MOST_BYTES: usize = 1_048_576;
 
 /// Lines of a script that are judged.
 #[derive(Drop)]
@@ -52,29 +55,45 @@ impl Batch {
     }
 }
 
-/// Puts a line behind others, in a list of its own where the last is full.
-fn push_line<'a>(
-    alloc: Global,
-    batches: &mut Vec<Vec<&'a [u8]>>,
-    line: &'a [u8],
-) -> Result<(), AllocError> {
-    match batches.last_mut() {
-        Some(lines) if lines.len() < BATCH => Ok(lines.push(line)?),
-        _ => {
-            let mut lines = Vec::with_capacity(alloc, BATCH)?;
-            lines.push(line)?;
-            Ok(batches.push(lines)?)
+/// The lines of a script in lists.
+#[derive(Drop)]
+struct Lists<'a> {
+    lists: Vec<Vec<&'a [u8]>>,
+    /// So many bytes the lines of the last list have.
+    bytes: usize,
+}
+
+impl<'a> Lists<'a> {
+    /// Puts a line behind the others, in a list of its own where the last has no room for it.
+    fn push(&mut self, alloc: Global, line: &'a [u8]) -> Result<(), AllocError> {
+        let bytes = self.bytes.saturating_add(line.len());
+        match self.lists.last_mut() {
+            Some(lines) if lines.len() < MOST_LINES && bytes <= MOST_BYTES => {
+                lines.push(line)?;
+                self.bytes = bytes;
+            }
+            _ => {
+                let mut lines = Vec::new(alloc);
+                lines.push(line)?;
+                self.lists.push(lines)?;
+                self.bytes = line.len();
+            }
         }
+        Ok(())
     }
 }
 
-/// The lines of a script that are not blank, in lists of up to `BATCH`.
+/// The lines of a script that are not blank, in lists of up to `MOST_LINES` lines and `MOST_BYTES` bytes.
 pub(crate) fn batches_of(alloc: Global, text: &[u8]) -> Result<Vec<Vec<&[u8]>>, AllocError> {
-    let mut batches = Vec::new(alloc);
+    let mut batches = Lists {
+        lists: Vec::new(alloc),
+        bytes: 0,
+    };
     for line in text.split(|byte| *byte == b'\n') {
         if !is_blank(line) {
-            push_line(alloc, &mut batches, line)?;
+            batches.push(alloc, line)?;
         }
     }
-    Ok(batches)
+    let Lists { lists, .. } = batches;
+    Ok(lists)
 }
