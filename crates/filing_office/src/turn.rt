@@ -196,7 +196,8 @@ impl<L: Ledger + Naming, M: Ledger> Turn<L, M> {
             self.learnt = 0;
             return Ok(());
         };
-        if learn_all(reviewer, &told[self.learnt..]).is_err() {
+        let others = &told[self.learnt..];
+        if learn_all(reviewer, others).is_err() {
             return Err(AllocError);
         }
         self.learnt = 0;
