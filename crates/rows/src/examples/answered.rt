@@ -1,0 +1,46 @@
+//! What a sheet is answered: its script run, and its history judged.
+
+use crate::examples::changed::told_of_changes;
+use crate::examples::histories::{left_by, lines_of, told_of, verdict_told};
+use crate::examples::sheet::Sheet;
+use anyhow::Result;
+use filing_core::check_run;
+use oim_fact::NumericTable;
+use std::alloc::Global;
+use std::sync::Arc;
+
+/// What a sheet is answered.
+#[derive(Drop)]
+pub(crate) struct Answered {
+    /// The history of the script, where there is one.
+    history: Vec<u8>,
+    /// The verdicts with their statuses.
+    told: Vec<u8>,
+}
+
+impl Answered {
+    /// What a sheet is answered: of a script its history, and of a history the verdict on its lines, on its entries, and on those of which one is changed.
+    pub(crate) fn of(alloc: Global, table: &Arc<NumericTable>, sheet: &Sheet) -> Result<Answered> {
+        let core = left_by(alloc, table, &sheet.script)?;
+        let history = lines_of(alloc, &core)?;
+        let mut told = told_of(alloc, table, &sheet.history)?;
+        if sheet.is_written {
+            let verdict = check_run(alloc, core.history())?;
+            told.extend_from_slice(&verdict_told(alloc, &verdict)?)?;
+        }
+        if sheet.is_changed {
+            told.extend_from_slice(&told_of_changes(alloc, table, &sheet.history)?)?;
+        }
+        Ok(Answered { history, told })
+    }
+
+    pub(crate) fn told(&self) -> &[u8] {
+        self.told.as_slice()
+    }
+
+    /// Whether that is what is written in the sheet.
+    pub(crate) fn is_as_written(&self, sheet: &Sheet) -> bool {
+        self.told.as_slice() == sheet.expected.as_slice()
+            && (!sheet.is_written || self.history.as_slice() == sheet.history.as_slice())
+    }
+}

@@ -1,0 +1,166 @@
+//! Lists in pages beside plain ones.
+
+use crate::pages::item::Item;
+use crate::pages::lists::{Edit, change, changes_of, filled, is_found, make_edits, spaced};
+use crate::pages::seen::Seen;
+use anyhow::Result;
+use sorted_pages::{Change, Paged};
+use std::alloc::{AllocError, Global};
+
+/// So many rounds of changes are made of one list.
+const ROUNDS: u64 = 500;
+
+/// A list in pages, and a plain one in the order of keys.
+#[derive(Drop)]
+struct Both {
+    list: Paged<Item>,
+    plain: Vec<Item>,
+}
+
+/// The next number of a fixed sequence.
+pub(crate) fn next_number(state: u64) -> u64 {
+    state
+        .wrapping_mul(6_364_136_223_846_793_005)
+        .wrapping_add(1_442_695_040_888_963_407)
+}
+
+/// Up to 200 puts and removals of keys below 2,000, with rising keys.
+fn some_changes(alloc: Global, seed: u64, stride: u64) -> Result<Vec<Change<Item>>, AllocError> {
+    let mut changes = Vec::new(alloc);
+    let mut state = seed;
+    for round in 0..200u64 {
+        state = next_number(state);
+        let entry = Item {
+            key: round.wrapping_mul(stride) % 2_000,
+            weight: state >> 40,
+        };
+        let is_here = (state >> 35) % 3;
+        if is_here == 0 {
+            changes.push(Change::Put(entry))?;
+        } else if is_here == 1 {
+            changes.push(Change::Remove(entry))?;
+        }
+    }
+    Ok(changes)
+}
+
+/// The plain list after one change.
+fn change_plain(plain: &mut Vec<Item>, change: &Change<Item>) -> Result<(), AllocError> {
+    let key = change.entry().key;
+    let place = plain.partition_point(|i| i.key < key);
+    if place < plain.len() && plain[place].key == key {
+        plain.remove(place);
+    }
+    if let Change::Put(entry) = change {
+        if place <= plain.len() {
+            plain.insert(place, *entry)?;
+        }
+    }
+    Ok(())
+}
+
+/// The plain list after changes in turn.
+fn change_all(plain: &mut Vec<Item>, changes: &[Change<Item>]) -> Result<(), AllocError> {
+    for change in changes {
+        change_plain(plain, change)?;
+    }
+    Ok(())
+}
+
+/// The sum of the lengths, where each is from 1 to 64.
+fn total(sizes: &[usize]) -> Option<usize> {
+    let mut total = 0usize;
+    for size in sizes {
+        if *size < 1 || *size > 64 {
+            return None;
+        }
+        total = total.saturating_add(*size);
+    }
+    Some(total)
+}
+
+/// How many entries the pages of a list hold, where each holds 1 to 64.
+fn length_of(alloc: Global, list: &Paged<Item>) -> Result<Option<usize>, AllocError> {
+    let sizes = list.page_sizes(alloc)?;
+    Ok(total(&sizes))
+}
+
+/// Whether a list finds all entries of a plain one.
+fn finds_all(list: &Paged<Item>, plain: &[Item]) -> bool {
+    plain
+        .iter()
+        .all(|entry| list.get(entry).copied() == Some(*entry))
+}
+
+impl Both {
+    /// Both of the keys up to a number.
+    fn filled(alloc: Global, count: u64) -> Result<Both, AllocError> {
+        let list = filled(alloc, count)?;
+        let plain = spaced(alloc, 0, 1, count)?;
+        Ok(Both { list, plain })
+    }
+
+    /// Whether both have the same entries, and the pages lengths within their bounds.
+    fn is_same(&self, alloc: Global) -> Result<bool, AllocError> {
+        let length = length_of(alloc, &self.list)?;
+        Ok(length == Some(self.plain.len()) && finds_all(&self.list, &self.plain))
+    }
+
+    /// Makes the changes of a round in both, and compares them.
+    fn take_round(&mut self, alloc: Global, round: u64) -> Result<bool, AllocError> {
+        let changes = some_changes(alloc, round, round % 10 + 1)?;
+        change_all(&mut self.plain, &changes)?;
+        change(alloc, &mut self.list, &changes)?;
+        self.is_same(alloc)
+    }
+
+    /// Changes the list, once more where want of memory refused it. Whether that left it as it was.
+    fn change_list(&mut self, alloc: Global, changes: &[Change<Item>]) -> Result<bool, AllocError> {
+        if change(alloc, &mut self.list, changes).is_ok() {
+            return Ok(true);
+        }
+        let is_left = self.is_same(alloc)?;
+        change(alloc, &mut self.list, changes)?;
+        Ok(is_left)
+    }
+
+    /// Removes keys of both, and compares them.
+    fn remove(&mut self, alloc: Global, edits: &[Edit]) -> Result<bool, AllocError> {
+        let changes = changes_of(alloc, edits)?;
+        let is_left = self.change_list(alloc, &changes)?;
+        change_all(&mut self.plain, &changes)?;
+        Ok(is_left && self.is_same(alloc)?)
+    }
+}
+
+pub(crate) fn compare_rounds<R: Print + AllocGlobal>(rt: &R) -> Result<u64> {
+    let mut both = Both::filled(rt.alloc(), 0)?;
+    let mut seen = Seen::new();
+    for round in 0..ROUNDS {
+        let is_same = both.take_round(rt.alloc(), round)?;
+        seen.note(rt, "a round", is_same)?;
+    }
+    seen.tell(rt, "rounds of changes")
+}
+
+/// Whether a refused change leaves the list, and is made when it is asked for again.
+fn is_removed(alloc: Global) -> Result<bool, AllocError> {
+    let mut both = Both::filled(alloc, 200)?;
+    both.remove(alloc, &[Edit::Remove(100, 180)])
+}
+
+/// Whether a new key is found, and a removed one is not.
+fn is_moved(alloc: Global) -> Result<bool, AllocError> {
+    let mut list = filled(alloc, 1)?;
+    make_edits(alloc, &mut list, &[Edit::Remove(0, 1), Edit::Put(1, 2)])?;
+    Ok(is_found(&list, 1) && list.get(&Item::new(0)).is_none())
+}
+
+pub(crate) fn compare_removals<R: Print + AllocGlobal>(rt: &R) -> Result<u64> {
+    let mut seen = Seen::new();
+    let is_same = is_moved(rt.alloc())?;
+    seen.note(rt, "a new key in place of an old one", is_same)?;
+    let is_same = is_removed(rt.alloc())?;
+    seen.note(rt, "a removal of many keys", is_same)?;
+    seen.tell(rt, "removals")
+}

@@ -1,0 +1,187 @@
+//! Reports that are read, and written again.
+
+use crate::sheets::dimensions::lookups;
+use crate::sheets::facts::push_value;
+use crate::sheets::question::{parts, text_at};
+use anyhow::Result;
+use filing_cli::bad_report_reply;
+use oim_fact::{Allowed, NumericTable};
+use oim_report::{
+    Report, ReportFault, json_value, push_quoted, read_report, report_from, report_of, write_report,
+};
+use serde_json::Value;
+use std::alloc::{AllocError, Global};
+use std::sync::Arc;
+
+/// The word of what is allowed.
+pub(crate) fn allowed_word(allowed: Allowed) -> &'static str {
+    match allowed {
+        Allowed::Never => "none",
+        Allowed::Complete => "complete",
+        Allowed::Consistent => "consistent",
+        Allowed::All => "all",
+    }
+}
+
+/// Whether a report was read, or the reply that refuses it.
+pub(crate) fn told(
+    alloc: Global,
+    answer: Result<Report, ReportFault>,
+) -> Result<String, AllocError> {
+    match answer {
+        Ok(_) => String::from_str(alloc, "read"),
+        Err(fault) => bad_report_reply(alloc, &fault),
+    }
+}
+
+/// The same of the value of a text, looked at and taken apart. Nothing is told where both are as they were of the text.
+fn told_by_value(
+    alloc: Global,
+    value: Value,
+    table: &Arc<NumericTable>,
+    by_text: &str,
+) -> Result<String, AllocError> {
+    let looked_at = told(alloc, report_of(alloc, &value, table))?;
+    let taken_apart = told(alloc, report_from(alloc, value, table))?;
+    if looked_at.as_str() == by_text && taken_apart.as_str() == by_text {
+        return Ok(String::new(alloc));
+    }
+    format!(in alloc; ", but {looked_at} and {taken_apart} by its value")
+}
+
+/// How a text is read: whole, and by its value, where it is JSON.
+fn reading(alloc: Global, text: &[u8], table: &Arc<NumericTable>) -> Result<String, AllocError> {
+    let mut all = told(alloc, read_report(alloc, text, table))?;
+    if let Some(value) = json_value(alloc, text)? {
+        let others = told_by_value(alloc, value, table, &all)?;
+        all.push_str(&others)?;
+    }
+    Ok(all)
+}
+
+/// How a report is read, which is the line or the text that the line is.
+pub(crate) fn report_answer(
+    alloc: Global,
+    line: &[u8],
+    table: &Arc<NumericTable>,
+) -> Result<String, AllocError> {
+    match json_value(alloc, line)? {
+        Some(Value::String(text)) => reading(alloc, text.as_bytes(), table),
+        _ => reading(alloc, line, table),
+    }
+}
+
+/// Whether a text is no JSON.
+fn is_no_json(alloc: Global, text: &[u8], table: &Arc<NumericTable>) -> Result<bool, AllocError> {
+    match read_report(alloc, text, table) {
+        Err(ReportFault::NoMemory) => Err(AllocError),
+        answer => Ok(matches!(answer, Err(ReportFault::NotJson))),
+    }
+}
+
+/// How many proper fronts a text has, and how many of them are anything but no JSON.
+fn fronts(alloc: Global, text: &[u8], table: &Arc<NumericTable>) -> Result<String, AllocError> {
+    let count = text.len();
+    let mut others = 0u64;
+    for end in 0..count {
+        if !is_no_json(alloc, &text[..end], table)? {
+            others = others.saturating_add(1);
+        }
+    }
+    format!(in alloc; "{count} fronts, {others} other than no JSON")
+}
+
+/// The same of the line, or of the text that the line is.
+pub(crate) fn fronts_answer(
+    alloc: Global,
+    line: &[u8],
+    table: &Arc<NumericTable>,
+) -> Result<String, AllocError> {
+    match json_value(alloc, line)? {
+        Some(Value::String(text)) => fronts(alloc, text.as_bytes(), table),
+        _ => fronts(alloc, line, table),
+    }
+}
+
+/// The report of a text.
+fn read(alloc: Global, text: &str, table: &Arc<NumericTable>) -> Result<Report> {
+    Ok(read_report(alloc, text.as_bytes(), table)?)
+}
+
+/// Whether a text is written of the parts of a report too, and of the report that its own value is.
+fn is_written_again(
+    alloc: Global,
+    text: &str,
+    report: &Report,
+    table: &Arc<NumericTable>,
+) -> Result<bool> {
+    Ok(is_written_so(alloc, text, report)? && is_read_so(alloc, text, table)?)
+}
+
+/// What is written of the report of a text, where the same is written again.
+pub(crate) fn written_answer(
+    alloc: Global,
+    question: &Value,
+    table: &Arc<NumericTable>,
+) -> Result<String> {
+    let report = read(alloc, question.as_str().unwrap_or(""), table)?;
+    let text = write_report(alloc, &report)?;
+    if is_written_again(alloc, &text, &report, table)? {
+        return Ok(text);
+    }
+    Ok(String::from_str(alloc, "another text the second time")?)
+}
+
+/// Whether a report that is made of the parts of a clone is written as this text.
+fn is_written_so(alloc: Global, text: &str, report: &Report) -> Result<bool, AllocError> {
+    let again = Report::of(report.clone()?.into_parts());
+    let written = write_report(alloc, &again)?;
+    Ok(written.as_str() == text)
+}
+
+/// What is written of the report that a value is.
+fn written_of(alloc: Global, value: &Value, table: &Arc<NumericTable>) -> Result<String> {
+    Ok(write_report(alloc, &report_of(alloc, value, table)?)?)
+}
+
+/// The same, where the value is taken apart.
+fn written_from(alloc: Global, value: Value, table: &Arc<NumericTable>) -> Result<String> {
+    Ok(write_report(alloc, &report_from(alloc, value, table)?)?)
+}
+
+/// Whether a text is what is written of the report that its value is.
+fn is_read_so(alloc: Global, text: &str, table: &Arc<NumericTable>) -> Result<bool> {
+    let Some(value) = json_value(alloc, text.as_bytes())? else {
+        return Ok(false);
+    };
+    if written_of(alloc, &value, table)?.as_str() != text {
+        return Ok(false);
+    }
+    Ok(written_from(alloc, value, table)?.as_str() == text)
+}
+
+/// Appends what a report allows, and its identifiers with their values.
+fn push_values(told: &mut String, report: &Report) -> Result<(), AllocError> {
+    told.push_str(" ")?;
+    told.push_str(allowed_word(report.allowed()))?;
+    for (id, fact) in report.facts() {
+        told.push_str(" ")?;
+        push_quoted(told, id)?;
+        told.push_str(" ")?;
+        push_value(told, &fact.value)?;
+    }
+    Ok(())
+}
+
+/// What a report holds beside its text: what it allows, the URIs of some prefixes, and the values of its facts.
+pub(crate) fn parts_answer(
+    alloc: Global,
+    question: &Value,
+    table: &Arc<NumericTable>,
+) -> Result<String> {
+    let report = read(alloc, text_at(question, 0), table)?;
+    let prefixes = parts(question).get(1..).unwrap_or(&[]);
+    let mut told = lookups(alloc, report.names(), prefixes)?;
+    push_values(&mut told, &report)?;
+    Ok(told)
+}

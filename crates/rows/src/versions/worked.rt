@@ -1,0 +1,79 @@
+//! The answers of both beside those that are written.
+
+use crate::versions::facts::Pool;
+use crate::versions::session::Session;
+use anyhow::Result;
+use std::alloc::Global;
+
+/// What was seen of the rows.
+#[derive(Clone, Copy)]
+struct Seen {
+    titles: u64,
+    answers: u64,
+    differing: u64,
+}
+
+/// Whether both answered this last.
+fn is_told(session: &Session<'_>, answer: &str) -> bool {
+    session.told.as_str() == answer && session.told_slowly.as_str() == answer
+}
+
+/// Takes a line of a sheet, and compares what was answered where it is an answer.
+fn take<'a, R: Print + AllocGlobal>(
+    rt: &R,
+    pool: &'a Pool,
+    title: &str,
+    line: &'a str,
+    session: &mut Session<'a>,
+    seen: &mut Seen,
+) -> Result<()> {
+    let Some(answer) = line.strip_prefix("=> ") else {
+        return session.take(rt.alloc(), pool, line);
+    };
+    seen.answers = seen.answers.wrapping_add(1);
+    if !is_told(session, answer) {
+        seen.differing = seen.differing.wrapping_add(1);
+        session.tell(rt, title, line)?;
+    }
+    Ok(())
+}
+
+/// Compares a sheet: a title, and lines.
+fn compare_sheet<'a, R: Print + AllocGlobal>(
+    rt: &R,
+    pool: &'a Pool,
+    sheet: &'a str,
+    seen: &mut Seen,
+) -> Result<()> {
+    let Some((title, lines)) = sheet.split_once('\n') else {
+        return Ok(());
+    };
+    seen.titles = seen.titles.wrapping_add(1);
+    let mut session = Session::new(rt.alloc())?;
+    for line in lines.lines() {
+        if !line.is_empty() {
+            take(rt, pool, title, line, &mut session, seen)?;
+        }
+    }
+    Ok(())
+}
+
+/// Compares sheets, of which each begins with `# `.
+pub(crate) fn compare_rows<'a, R: Print + AllocGlobal>(
+    rt: &R,
+    pool: &'a Pool,
+    name: &str,
+    rows: &'a str,
+) -> Result<()> {
+    let mut seen = Seen {
+        titles: 0,
+        answers: 0,
+        differing: 0,
+    };
+    for sheet in rows.split("# ") {
+        compare_sheet(rt, pool, sheet, &mut seen)?;
+    }
+    let (titles, answers, differing) = (seen.titles, seen.answers, seen.differing);
+    println!(rt; "{name}: {titles} examples, {answers} answers, {differing} differ")?;
+    Ok(())
+}

@@ -1,0 +1,269 @@
+//! Four desks that each take 25 rounds of steps in threads of their own, and whether the finished history has just these.
+
+use crate::offices::steps::{ROUND, round_step};
+use anyhow::{Result, anyhow};
+use filing_office::{Answer, Desk, DeskStep, Gate, Naming, Office, Outcome, Ran, Work, run_desks};
+use filing_step::{Entry, Reply};
+use history_text::entry_text;
+use std::alloc::Global;
+use std::marker::{Send, Sync};
+use std::sync::Wait;
+use std::sync::ledger::Ledger;
+use std::thread;
+use std::thread::Threads;
+
+/// So many rounds each desk takes.
+const ROUNDS: usize = 25;
+
+/// How desks take their rounds.
+#[derive(Clone, Copy)]
+pub(crate) enum Way {
+    /// One step after the other, each with the session that the step before it was told.
+    Steps,
+    /// As a list of steps under a name.
+    Lists,
+}
+
+/// What a desk was told of a step.
+#[derive(Drop)]
+pub(crate) struct Told {
+    session: Option<u64>,
+    reply: Reply,
+}
+
+/// A desk in its place, with what it was told, in order.
+#[derive(Drop)]
+pub(crate) struct Busy<L: Ledger + Naming, M: Ledger> {
+    place: usize,
+    desk: Desk<L, M>,
+    told: Vec<Told>,
+}
+
+/// The desks in their places, before their first steps.
+fn busy_desks<L: Ledger + Naming, M: Ledger>(
+    alloc: Global,
+    desks: Vec<Desk<L, M>>,
+) -> Result<Vec<Busy<L, M>>> {
+    let mut all = Vec::with_capacity(alloc, desks.len())?;
+    for (place, desk) in desks.into_iter().enumerate() {
+        let told = Vec::new(alloc);
+        all.push(Busy { place, desk, told })?;
+    }
+    Ok(all)
+}
+
+/// Takes a step, and gives the session of its entry.
+fn take_one<L: Ledger + Naming, M: Ledger, R: Wait + AllocGlobal>(
+    rt: &R,
+    office: &Office<L, M>,
+    busy: &mut Busy<L, M>,
+    session: Option<u64>,
+    at: (usize, usize),
+) -> Result<Option<u64>> {
+    let (round, turn) = at;
+    let step = round_step(rt.alloc(), busy.place, round, turn)?;
+    let Ok(answer) = busy.desk.step(rt, office, rt.alloc(), session, step) else {
+        return Err(anyhow!("a step is refused"));
+    };
+    let Answer { session, reply, .. } = answer;
+    busy.told.push(Told { session, reply })?;
+    Ok(session)
+}
+
+/// Takes all rounds.
+fn take_all<L: Ledger + Naming, M: Ledger, R: Wait + AllocGlobal>(
+    rt: &R,
+    office: &Office<L, M>,
+    busy: &mut Busy<L, M>,
+) -> Result<()> {
+    for round in 0..ROUNDS {
+        let mut session = None;
+        for turn in 0..ROUND {
+            session = take_one(rt, office, busy, session, (round, turn))?;
+        }
+    }
+    Ok(())
+}
+
+/// A desk after its rounds. Where one failed, what it was told is short.
+fn worked<L: Ledger + Naming, M: Ledger, R: Wait + AllocGlobal>(
+    rt: &R,
+    office: &Office<L, M>,
+    busy: Busy<L, M>,
+) -> Busy<L, M> {
+    let mut busy = busy;
+    let _ = take_all(rt, office, &mut busy);
+    busy
+}
+
+/// Lets each desk take its rounds in a thread of its own, step by step.
+fn by_steps<
+    L: Ledger + Naming + Send + Sync,
+    M: Ledger + Send + Sync,
+    R: Threads + Wait + Sync + AllocGlobal,
+>(rt: &R, office: &Office<L, M>, desks: Vec<Desk<L, M>>) -> Result<Vec<Busy<L, M>>> {
+    let run = |busy: Busy<L, M>| -> Busy<L, M> { worked(rt, office, busy) };
+    Ok(thread::map_vec(rt, busy_desks(rt.alloc(), desks)?, &run)?)
+}
+
+/// A gate that holds nobody up.
+struct NoGate;
+
+impl Gate for NoGate {
+    fn before(&self, _desk: usize, _step: usize) {}
+
+    fn after(&self, _desk: usize, _step: usize) {}
+}
+
+/// The steps of all rounds of a desk.
+fn steps_of(alloc: Global, place: usize) -> Result<Vec<DeskStep>> {
+    let mut steps = Vec::with_capacity(alloc, ROUNDS * ROUND)?;
+    for round in 0..ROUNDS {
+        for turn in 0..ROUND {
+            let step = round_step(alloc, place, round, turn)?;
+            let name = String::from_str(alloc, "s")?;
+            steps.push(DeskStep { name, step })?;
+        }
+    }
+    Ok(steps)
+}
+
+fn works_of<L: Ledger + Naming, M: Ledger>(
+    alloc: Global,
+    desks: Vec<Desk<L, M>>,
+) -> Result<Vec<Work<L, M>>> {
+    let mut works = Vec::with_capacity(alloc, desks.len())?;
+    for (place, desk) in desks.into_iter().enumerate() {
+        works.push(Work {
+            desk,
+            reviewer: None,
+            steps: steps_of(alloc, place)?,
+        })?;
+    }
+    Ok(works)
+}
+
+/// What a desk was told by outcomes, up to the first that is no answer.
+fn told_by<J: Naming>(alloc: Global, outcomes: Vec<Outcome<J>>) -> Result<Vec<Told>> {
+    let mut told = Vec::with_capacity(alloc, outcomes.len())?;
+    for outcome in outcomes {
+        let Outcome::Answered(answer) = outcome else {
+            break;
+        };
+        let Answer { session, reply, .. } = answer;
+        told.push(Told { session, reply })?;
+    }
+    Ok(told)
+}
+
+/// A desk after its list of steps.
+fn busy_after<L: Ledger + Naming, M: Ledger>(
+    alloc: Global,
+    place: usize,
+    ran: Ran<L, M>,
+) -> Result<Busy<L, M>> {
+    let (desk, _, outcomes) = ran;
+    let told = told_by(alloc, outcomes)?;
+    Ok(Busy { place, desk, told })
+}
+
+/// Lets each desk take its rounds as a list of steps.
+fn by_lists<
+    L: Ledger + Naming + Send + Sync,
+    M: Ledger + Send + Sync,
+    R: Threads + Wait + Sync + AllocGlobal,
+>(rt: &R, office: &Office<L, M>, desks: Vec<Desk<L, M>>) -> Result<Vec<Busy<L, M>>> {
+    let alloc = rt.alloc();
+    let works = works_of(alloc, desks)?;
+    let ran: Vec<Ran<L, M>> = run_desks(rt, office, alloc, works, &NoGate)?;
+    let mut all = Vec::with_capacity(alloc, ran.len())?;
+    for (place, one) in ran.into_iter().enumerate() {
+        all.push(busy_after(alloc, place, one)?)?;
+    }
+    Ok(all)
+}
+
+/// The lines of the entries that a desk's answers speak of: each has the step that was handed in.
+fn lines_told(alloc: Global, place: usize, told: Vec<Told>) -> Result<Vec<String>> {
+    let mut lines = Vec::with_capacity(alloc, told.len())?;
+    for (k, told) in told.into_iter().enumerate() {
+        let Told { session, reply } = told;
+        let step = round_step(alloc, place, k / ROUND, k % ROUND)?;
+        lines.push(entry_text(
+            alloc,
+            &Entry {
+                session,
+                step,
+                reply,
+            },
+        )?)?;
+    }
+    Ok(lines)
+}
+
+/// The lines of the entries of sessions that a desk was told.
+fn lines_entered(alloc: Global, history: &[Entry], told: &[Told]) -> Result<Vec<String>> {
+    let mut lines = Vec::with_capacity(alloc, told.len())?;
+    for entry in history {
+        let is_own = told.iter().any(|t| t.session == entry.session);
+        if is_own {
+            lines.push(entry_text(alloc, entry)?)?;
+        }
+    }
+    Ok(lines)
+}
+
+/// Lets each desk take its rounds in a thread of its own.
+pub(crate) fn run_rounds<
+    L: Ledger + Naming + Send + Sync,
+    M: Ledger + Send + Sync,
+    R: Threads + Wait + Sync + AllocGlobal,
+>(rt: &R, office: &Office<L, M>, desks: Vec<Desk<L, M>>, way: Way) -> Result<Vec<Busy<L, M>>> {
+    match way {
+        Way::Steps => by_steps(rt, office, desks),
+        Way::Lists => by_lists(rt, office, desks),
+    }
+}
+
+/// The desks, and what each was told.
+pub(crate) fn parted<L: Ledger + Naming, M: Ledger>(
+    alloc: Global,
+    busy: Vec<Busy<L, M>>,
+) -> Result<(Vec<Desk<L, M>>, Vec<Vec<Told>>)> {
+    let mut desks = Vec::with_capacity(alloc, busy.len())?;
+    let mut all_told = Vec::with_capacity(alloc, busy.len())?;
+    for one in busy {
+        let Busy { desk, told, .. } = one;
+        desks.push(desk)?;
+        all_told.push(told)?;
+    }
+    Ok((desks, all_told))
+}
+
+/// Writes of a desk how many answers it got, and whether the entries of its sessions are those, in order.
+fn compare<R: Print + AllocGlobal>(
+    rt: &R,
+    history: &[Entry],
+    place: usize,
+    told: Vec<Told>,
+) -> Result<()> {
+    let answers = told.len();
+    let entered = lines_entered(rt.alloc(), history, &told)?;
+    let is_same = entered == lines_told(rt.alloc(), place, told)?;
+    println!(rt;
+        "desk {place}: {answers} answers, which are the entries of its sessions: {is_same}"
+    )?;
+    Ok(())
+}
+
+/// Writes the same of each desk.
+pub(crate) fn compare_all<R: Print + AllocGlobal>(
+    rt: &R,
+    history: &[Entry],
+    all_told: Vec<Vec<Told>>,
+) -> Result<()> {
+    for (place, told) in all_told.into_iter().enumerate() {
+        compare(rt, history, place, told)?;
+    }
+    Ok(())
+}

@@ -1,0 +1,151 @@
+//! Two desks that wait for one another while each has a session open.
+
+use crate::offices::rounds::{learn, review, tell};
+use crate::offices::steps::addition;
+use anyhow::{Result, anyhow};
+use filing_office::{
+    Answer, Desk, DeskStep, Gate, Naming, Office, Outcome, Ran, Reviewer, Work, run_desks,
+};
+use filing_step::{Kind, Reply, Step};
+use std::alloc::Global;
+use std::marker::{Send, Sync};
+use std::sync::Wait;
+use std::sync::atomic::AtomicBool;
+use std::sync::atomic::Ordering::SeqCst;
+use std::sync::ledger::Ledger;
+use std::thread;
+use std::thread::Threads;
+
+/// So often a desk looks whether the other has come.
+const TURNS: usize = 1_000_000;
+
+/// A gate at which each of two desks waits before its second step until the other is there too.
+#[derive(Drop)]
+pub(crate) struct Meeting {
+    first: AtomicBool,
+    second: AtomicBool,
+    missed: AtomicBool,
+}
+
+impl Meeting {
+    fn new() -> Meeting {
+        Meeting {
+            first: AtomicBool::new(false),
+            second: AtomicBool::new(false),
+            missed: AtomicBool::new(false),
+        }
+    }
+
+    fn wait_for(&self, other: &AtomicBool) {
+        for _ in 0..TURNS {
+            if other.load(SeqCst) {
+                return;
+            }
+            thread::yield_now();
+        }
+        self.missed.store(true, SeqCst);
+    }
+}
+
+impl Gate for Meeting {
+    fn before(&self, desk: usize, step: usize) {
+        if step != 1 {
+            return;
+        }
+        let (own, other) = if desk == 0 {
+            (&self.first, &self.second)
+        } else {
+            (&self.second, &self.first)
+        };
+        own.store(true, SeqCst);
+        self.wait_for(other);
+    }
+
+    fn after(&self, _desk: usize, _step: usize) {}
+}
+
+fn named(alloc: Global, step: Step) -> Result<DeskStep> {
+    Ok(DeskStep {
+        name: String::from_str(alloc, "s")?,
+        step,
+    })
+}
+
+/// A desk that adds a fact to the report `r1` in a session of its own.
+fn work<L: Ledger + Naming, M: Ledger>(
+    alloc: Global,
+    desk: Desk<L, M>,
+    id: &str,
+) -> Result<Work<L, M>> {
+    let mut steps = Vec::with_capacity(alloc, 3)?;
+    steps.push(named(alloc, Step::Open(Kind::Amend))?)?;
+    steps.push(named(alloc, addition(alloc, id)?)?)?;
+    steps.push(named(alloc, Step::Commit)?)?;
+    Ok(Work {
+        desk,
+        reviewer: None,
+        steps,
+    })
+}
+
+/// Lets two desks run at once, and tells whether one waited for the other in vain.
+pub(crate) fn run_both<
+    L: Ledger + Naming + Send + Sync,
+    M: Ledger + Send + Sync,
+    R: Threads + Wait + Sync + Print + AllocGlobal,
+>(rt: &R, office: &Office<L, M>, first: Desk<L, M>, second: Desk<L, M>) -> Result<Vec<Ran<L, M>>> {
+    let alloc = rt.alloc();
+    let mut works = Vec::with_capacity(alloc, 2)?;
+    works.push(work(alloc, first, "a")?)?;
+    works.push(work(alloc, second, "b")?)?;
+    let meeting = Meeting::new();
+    let ran = run_desks(rt, office, alloc, works, &meeting)?;
+    let missed = meeting.missed.load(SeqCst);
+    println!(rt; "a desk waited in vain: {missed}")?;
+    Ok(ran)
+}
+
+/// Writes a reply of one of two desks. Which of them commits first is not told.
+fn tell_at_once<R: Print + AllocGlobal>(rt: &R, reply: &Reply) -> Result<()> {
+    match reply {
+        Reply::Committed(_) => {
+            println!(rt; "at once: committed")?;
+            Ok(())
+        }
+        reply => tell(rt, "at once", reply),
+    }
+}
+
+/// Writes an answer, whose receipt a reviewer learns.
+fn meet<J: Naming, R: Print + AllocGlobal>(
+    rt: &R,
+    reviewer: &mut Reviewer<J>,
+    outcome: &Outcome<J>,
+) -> Result<()> {
+    let Outcome::Answered(answer) = outcome else {
+        return Err(anyhow!("a step is refused"));
+    };
+    let Answer { reply, receipt, .. } = answer;
+    tell_at_once(rt, reply)?;
+    if let Some(receipt) = receipt {
+        reviewer.learn(receipt)?;
+    }
+    Ok(())
+}
+
+/// Writes what each desk was answered, and what a reviewer reads who learnt all receipts.
+pub(crate) fn tell_all<L: Ledger + Naming, M: Ledger, R: Print + AllocGlobal>(
+    rt: &R,
+    reviewer: &mut Reviewer<L>,
+    ran: Vec<Ran<L, M>>,
+) -> Result<Vec<Desk<L, M>>> {
+    let mut desks = Vec::with_capacity(rt.alloc(), ran.len())?;
+    for (desk, _, outcomes) in ran {
+        for outcome in &outcomes {
+            meet(rt, reviewer, outcome)?;
+        }
+        desks.push(desk)?;
+    }
+    review(rt, "one who learnt", reviewer, "a")?;
+    Ok(desks)
+}

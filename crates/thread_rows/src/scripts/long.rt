@@ -1,0 +1,66 @@
+//! Long scripts: of more lines, and of more bytes, than are judged at once.
+
+use crate::scripts::runs::{replies_alone, replies_in_threads};
+use crate::scripts::sheet::push_line;
+use anyhow::Result;
+use oim_fact::NumericTable;
+use std::alloc::{AllocError, Global};
+use std::marker::Sync;
+use std::sync::{Arc, Wait};
+use std::thread::Threads;
+
+// So many rounds of three lines a long script has.
+const ROUNDS: u64 = 1500;
+
+// So many of its lines are long ones, and so many bytes each of them has.
+const LONG_LINES: u64 = 12;
+
+const LONG: usize = 150_000;
+
+/// A session that reads what is not there.
+fn push_round(script: &mut Vec<u8>) -> Result<(), AllocError> {
+    push_line(script, b"[\"open\",\"s\",\"amend\"]")?;
+    push_line(script, b"[\"get\",\"s\",\"r\",\"f\"]")?;
+    push_line(script, b"[\"close\",\"s\"]")
+}
+
+/// 4,500 short lines, then 12 of 150,000 bytes, each before a session.
+fn long_script(alloc: Global) -> Result<Vec<u8>, AllocError> {
+    let long = Vec::from_elem(alloc, b'-', LONG)?;
+    let mut script = Vec::new(alloc);
+    for _ in 0..ROUNDS {
+        push_round(&mut script)?;
+    }
+    for _ in 0..LONG_LINES {
+        push_line(&mut script, &long)?;
+        push_round(&mut script)?;
+    }
+    Ok(script)
+}
+
+/// The bytes twice.
+fn twice(alloc: Global, bytes: &[u8]) -> Result<Vec<u8>, AllocError> {
+    let mut both = Vec::from_slice(alloc, bytes)?;
+    both.extend_from_slice(bytes)?;
+    Ok(both)
+}
+
+/// Runs a long script twice at once, and tells whether each is told what one alone is told.
+pub(crate) fn compare_long<R: Print + AllocGlobal + Threads + Wait + Sync>(
+    rt: &R,
+    table: &Arc<NumericTable>,
+) -> Result<()> {
+    let script = long_script(rt.alloc())?;
+    let alone = replies_alone(rt.alloc(), table, &script)?;
+    let mut scripts = Vec::with_capacity(rt.alloc(), 2)?;
+    scripts.push(Vec::from_slice(rt.alloc(), &script)?)?;
+    scripts.push(script)?;
+    let told = replies_in_threads(rt, table, &scripts)?;
+    let lines = told.iter().filter(|byte| **byte == b'\n').count();
+    if told == twice(rt.alloc(), &alone)? {
+        println!(rt; "two long scripts with {lines} replies, as one after the other")?;
+    } else {
+        println!(rt; "TWO LONG SCRIPTS DIFFER from one after the other")?;
+    }
+    Ok(())
+}
