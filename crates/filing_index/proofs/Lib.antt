@@ -4,6 +4,7 @@ pub mod AskedCodes
 pub mod DistinctKeys
 pub mod FoundAfter
 pub mod MovedFacts
+pub mod PushedMoves
 pub mod IndexesOfLists
 -- ---- what an index shows, and the cells that are not allowed
 pub mod KeptElements

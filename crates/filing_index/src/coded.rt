@@ -52,6 +52,10 @@ impl Coded {
 impl Peaked for Coded {
     ghost peak = { λ c. 0 };
 
+    fn are_zero() -> bool {
+        true
+    }
+
     fn peak(&self) -> u64 {
         0
     }

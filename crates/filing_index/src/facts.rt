@@ -11,7 +11,7 @@ ghost use Rattle.filing_index.specs.Moved.{moves_in, AreMoves};
 ghost use Rattle.std.specs.Arc.{arc_value};
 
 use crate::coded::Coded;
-use crate::indexing::{changes_by_id, index_after, index_of};
+use crate::indexing::{changes_by_id, index_after, index_into_after, index_of};
 use crate::moves::Move;
 use crate::order::Order;
 use filing_pages::{Held, Named, Range, TextPages};
@@ -169,6 +169,31 @@ impl Facts {
         let by_cell = index_after(alloc, Order::Cell, &self.by_cell, moves)?;
         let by_period = index_after(alloc, Order::Period, &self.by_period, moves)?;
         let by_concept = index_after(alloc, Order::Concept, &self.by_concept, moves)?;
+        Ok(Facts {
+            by_id,
+            by_cell,
+            by_period,
+            by_concept,
+        })
+    }
+
+    /// The same, in place where no others hold what changes.
+    pub fn into_after(self, alloc: Global, moves: &[Move]) -> Result<Facts, AllocError>
+        requires { AreMoves self moves.now }
+        ensures { IfOk result (λ after. (changes : TextMap (Option PlainFact))
+            → moves.now ≡ moves_in changes.entries self → after ≡ with_changes changes.entries self) }
+    {
+        let Facts {
+            by_id,
+            by_cell,
+            by_period,
+            by_concept,
+        } = self;
+        let changes = changes_by_id(alloc, moves)?;
+        let by_id = by_id.into_after(alloc, &changes)?;
+        let by_cell = index_into_after(alloc, Order::Cell, by_cell, moves)?;
+        let by_period = index_into_after(alloc, Order::Period, by_period, moves)?;
+        let by_concept = index_into_after(alloc, Order::Concept, by_concept, moves)?;
         Ok(Facts {
             by_id,
             by_cell,

@@ -112,6 +112,21 @@ pub(crate) fn index_after(
     index.after(alloc, &changes)
 }
 
+/// The same, in place where no other index holds what changes.
+pub(crate) fn index_into_after(
+    alloc: Global,
+    order: Order,
+    index: Paged<Coded>,
+    moves: &[Move],
+) -> Result<Paged<Coded>, AllocError>
+    requires { (facts : TextMap Fact) × AreMoves facts moves.now }
+    ensures { IfOk result (λ next. IsIndexAfter (code_in order) moves.now index next) }
+{
+    let mut changes = coded_changes(alloc, order, moves)?;
+    changes.sort_unstable_by(|one, other| one.entry().order(other.entry()));
+    index.into_after(alloc, &changes)
+}
+
 /// Pushes what a move changes in the order of identifiers.
 fn push_by_id(moved: &Move, changes: &mut Vec<Change<Named<Held>>>) -> Result<(), AllocError>
     ensures { OnOk result (changes.new.items

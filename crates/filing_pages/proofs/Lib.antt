@@ -2,3 +2,5 @@ pub mod NamedLists
 pub mod MapsOfChanges
 pub mod KeptTexts
 pub mod ComparedHeads
+pub mod TakenEntries
+pub mod ComparedKeys

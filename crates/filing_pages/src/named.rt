@@ -1,5 +1,5 @@
 //! A value under a name.
-ghost use Rattle.std.specs.Prelude.{◌≡◌, get_or, string_bytes, IfOk};
+ghost use Rattle.std.specs.Prelude.{◌≡◌, get_or, string_bytes, IfOk, MatchResult};
 ghost use Rattle.filing_model.specs.Text.{text_cmp};
 ghost use Rattle.filing_pages.specs.Heads.{head_of, name_key, IsHeadOf, IsKeyOfHead};
 
@@ -160,29 +160,56 @@ impl<V: Drop> Pair<V> {
     }
 }
 
-/// A value under a name, shared by all lists that hold it.
+/// A value under a name, shared by all lists that hold it. The key of the name stands beside the pointer, so that most comparisons follow none.
 ///
 /// Contracts see the pair of the name's bytes and the value.
 #[derive(Drop)]
 pub struct Named<V: Drop> {
+    key: u64,
     pair: Arc<Pair<V>>,
 }
 
 impl<V: Drop> Model for Named<V> {
     ghost use Rattle.std.specs.Arc.{arc_value};
     ghost use Rattle.filing_model.specs.Text.{Text};
+    ghost use Rattle.std.specs.Prelude.{◌≡◌};
+    ghost use Rattle.filing_pages.specs.Heads.{name_key};
 
     ghost Value = { Text × V };
 
     ghost view = { λ n. arc_value n.pair };
+
+    ghost invariant = { λ n. n.key ≡ name_key (arc_value n.pair).0 };
+}
+
+impl<V: Drop> Pair<V> {
+    fn into_parts(self) -> (String, V)
+        ensures { (string_bytes result.0, result.1) ≡ self }
+    {
+        let Pair { name, value, .. } = self;
+        (name, value)
+    }
 }
 
 impl<V: Drop> Named<V> {
+    /// The name and the value, where no other list holds them.
+    pub fn into_parts(self) -> Result<(String, V), Named<V>>
+        ensures { MatchResult result (λ p. (string_bytes p.0, p.1) ≡ self) (λ n. n ≡ self) }
+    {
+        let Named { key, pair } = self;
+        match Arc::try_unwrap(pair) {
+            Ok(pair) => Ok(pair.into_parts()),
+            Err(pair) => Err(Named { key, pair }),
+        }
+    }
+
     pub fn new(alloc: Global, name: String, value: V) -> Result<Named<V>, AllocError>
         ensures { IfOk result (λ n. n ≡ (string_bytes name, value)) }
     {
-        let pair = Arc::new(alloc, Pair::of(name, value))?;
-        Ok(Named { pair })
+        let pair = Pair::of(name, value);
+        let key = pair.key();
+        let pair = Arc::new(alloc, pair)?;
+        Ok(Named { key, pair })
     }
 
     pub fn name(&self) -> &str
@@ -201,12 +228,19 @@ impl<V: Drop> Named<V> {
     pub fn order_sought(&self, sought: &SoughtName<'_>) -> Ordering
         ensures { result ≡ text_cmp self.now.0 sought.now }
     {
-        self.pair.order_sought(sought)
+        match self.key.cmp(&sought.key()) {
+            Ordering::Equal => self.pair.order_sought(sought),
+            order => order,
+        }
     }
 }
 
 impl<V: Drop> Peaked for Named<V> {
     ghost peak = { λ n. 0 };
+
+    fn are_zero() -> bool {
+        true
+    }
 
     fn peak(&self) -> u64 {
         0
@@ -235,11 +269,14 @@ impl<V: Drop> Entry for Named<V> {
     }
 
     fn key(&self) -> u64 {
-        self.pair.key()
+        self.key
     }
 
     fn order(&self, other: &Self) -> Ordering {
-        self.pair.order(&other.pair)
+        match self.key.cmp(&other.key) {
+            Ordering::Equal => self.pair.order(&other.pair),
+            order => order,
+        }
     }
 
     fn owners(&self) -> usize {
@@ -248,6 +285,9 @@ impl<V: Drop> Entry for Named<V> {
 
     fn share(&self) -> Result<Named<V>, AllocError> {
         let pair = Arc::try_clone(&self.pair)?;
-        Ok(Named { pair })
+        Ok(Named {
+            key: self.key,
+            pair,
+        })
     }
 }

@@ -1,9 +1,9 @@
 //! A map from texts in shared pages.
-ghost use Rattle.std.specs.Prelude.{◌≡◌, T as Holds, map, option_copied, option_map, string_bytes, IfOk};
+ghost use Rattle.std.specs.Prelude.{◌≡◌, T as Holds, map, option_copied, option_map, string_bytes, IfOk, IfSome, Some, None};
 ghost use Rattle.std.specs.FinMap.Entries.{is_sorted};
 ghost use Rattle.sorted_pages.specs.Changes.{entry_of};
 ghost use Rattle.filing_model.specs.Text.{text_cmp};
-ghost use Rattle.filing_model.specs.TextMap.{empty, get, insert};
+ghost use Rattle.filing_model.specs.TextMap.{empty, get, insert, remove};
 ghost use Rattle.filing_pages.specs.MapChanges.{map_with_changes};
 
 use crate::named::{Named, SoughtName};
@@ -120,6 +120,41 @@ impl<V: Drop> TextPages<V> {
     {
         let pages = self.pages.after(alloc, changes)?;
         Ok(TextPages { pages })
+    }
+
+    /// The map after changes whose names rise, in place where no other map holds what they change and there is room.
+    pub fn into_after(
+        self,
+        alloc: Global,
+        changes: &[Change<Named<V>>],
+    ) -> Result<TextPages<V>, AllocError>
+        requires { Holds (is_sorted text_cmp (map entry_of changes.now)) }
+        ensures { IfOk result (λ m. m ≡ map_with_changes changes.now self) }
+    {
+        let TextPages { pages } = self;
+        let pages = pages.into_after(alloc, changes)?;
+        Ok(TextPages { pages })
+    }
+
+    /// Takes the entry of a name out of a small map. Out of a large one none is taken.
+    pub fn take(self, alloc: Global, name: &str) -> (TextPages<V>, Option<Named<V>>)
+        ensures none { result.1 ≡ None → result.0 ≡ self }
+        ensures some { IfSome result.1 (λ n. (Some n ≡ option_map (λ v. (name.now, v)) (get self name.now))
+            × (result.0 ≡ remove self name.now)) }
+    {
+        let TextPages { pages } = self;
+        let (pages, taken) = pages.take(alloc, &At(SoughtName::of(name)));
+        match taken {
+            None => (TextPages { pages }, None),
+            Some(named) => (TextPages { pages }, Some(named)),
+        }
+    }
+
+    /// The map with an entry, in place where no other map holds what that changes and there is room.
+    pub fn put_back(self, alloc: Global, entry: Named<V>) -> Result<TextPages<V>, AllocError>
+        ensures { IfOk result (λ m. m ≡ insert self entry.0 entry.1) }
+    {
+        self.into_after(alloc, &[Change::Put(entry)])
     }
 
     /// The same map once more, which shares all pages.

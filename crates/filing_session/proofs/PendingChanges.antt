@@ -156,3 +156,16 @@ module _ (c : Repository) (p : Change) (name : Text) where
 
       new : ReportChange
       new = record (change_in p name) { declared = Some value }
+
+-- ---- two changes that are laid over two repositories, and come to one
+
+module _ (v b : Repository) (p c : Change) (same : laid_over p v ≡ laid_over c b) (name : Text) where
+  pub put_both : (id : Text) (fact : Option Fact) → laid_over (with_change p name id fact) v ≡ laid_over (with_change c name id fact) b
+  put_both id fact = put_laid v p name id fact ∙ ap (λ r. with_fact_at r name id fact) same ∙ sym (put_laid b c name id fact)
+
+  pub declared_both : (value : Allowed) → laid_over (with_declared p name value) v ≡ laid_over (with_declared c name value) b
+  declared_both value = declared_laid v p name value ∙ ap (λ r. declaring_at r name value) same ∙ sym (declared_laid b c name value)
+
+pub of_either : {X Y : Type 0} (f : X → Y) (base : Option X) (version : X) → unwrap_or (option_map f base) (f version) ≡ f (unwrap_or base version)
+of_either f None version = refl
+of_either f (Some base) version = refl

@@ -12,11 +12,14 @@ use filing_version::{Change, Got, RepoVersion};
 use oim_fact::{Allowed, Fact, Names};
 use std::alloc::{AllocError, Global};
 use std::marker::Model;
+use std::mem;
 use std::sync::Arc;
 
 /// What is staged, and a version that has some of it. What it does not have yet is laid over it all at once, when a cell or a page is asked for; what stands at an identifier is told by both. Contracts see the copy with all that is staged, and the change.
 #[derive(Drop)]
 pub(crate) struct Staging {
+    /// The version of the opening, where the other one has some of what is staged.
+    base: Option<Arc<RepoVersion>>,
     /// The version of the opening with what is no more pending.
     version: Arc<RepoVersion>,
     /// What the version does not have yet, where that is not all that is staged.
@@ -30,12 +33,15 @@ impl Model for Staging {
 
     ghost Value = { Repository × PlainChange };
 
-    ghost use Rattle.std.specs.Prelude.{unwrap_or};
+    ghost use Rattle.std.specs.Prelude.{◌≡◌, unwrap_or};
     ghost use Rattle.std.specs.Arc.{arc_value};
     ghost use Rattle.filing_model.specs.Changes.{laid_over};
     ghost use Rattle.filing_version.specs.Filed.{repository_in};
 
     ghost view = { λ s. (laid_over (unwrap_or s.pending s.change) (repository_in (arc_value s.version)), s.change) };
+
+    ghost invariant = { λ s. laid_over (unwrap_or s.pending s.change) (repository_in (arc_value s.version))
+        ≡ laid_over s.change (repository_in (arc_value (unwrap_or s.base s.version))) };
 }
 
 /// What is pending, where that is not all that is staged, or all.
@@ -95,12 +101,39 @@ fn laid(
     Ok(Arc::new(alloc, changed)?)
 }
 
+/// The same of a version that is given up for it, in place where nobody else holds what changes.
+fn laid_in(
+    alloc: Global,
+    version: Arc<RepoVersion>,
+    pending: &Change,
+) -> Result<Arc<RepoVersion>, AllocError>
+    ensures { IfOk result (λ v. repository_in (arc_value v)
+        ≡ laid_over pending.now (repository_in (arc_value version))) }
+{
+    let changed = match Arc::try_unwrap(version) {
+        Ok(version) => version.into_with_change(alloc, pending)?,
+        Err(version) => version.with_change(alloc, pending)?,
+    };
+    Ok(Arc::new(alloc, changed)?)
+}
+
+/// Another owner of a version, where there is one.
+fn shared(version: &Option<Arc<RepoVersion>>) -> Result<Option<Arc<RepoVersion>>, AllocError>
+    ensures { IfOk result (λ o. option_map arc_value o ≡ option_map arc_value version.now) }
+{
+    match version {
+        None => Ok(None),
+        Some(version) => Ok(Some(Arc::try_clone(version)?)),
+    }
+}
+
 impl Staging {
     /// Nothing is staged over this version.
     pub(crate) fn new(alloc: Global, version: Arc<RepoVersion>) -> Staging
         ensures { result ≡ (repository_in (arc_value version), empty) }
     {
         Staging {
+            base: None,
             version,
             pending: None,
             change: Change::new(alloc),
@@ -149,11 +182,22 @@ impl Staging {
     pub(crate) fn lay(&mut self, alloc: Global) -> Result<(), AllocError>
         ensures { self.new ≡ self.old }
     {
-        if !pending_of(&self.pending, &self.change).is_empty() {
-            let copy = self.copy(alloc)?;
-            self.version = copy;
-            self.pending = Some(Change::new(alloc));
+        if pending_of(&self.pending, &self.change).is_empty() {
+            return Ok(());
         }
+        let copy = match shared(&self.base)? {
+            None => self.copy(alloc)?,
+            Some(base) => {
+                // Where memory is wanted below, all that is staged is pending over the version of the opening.
+                let version = mem::replace(&mut self.version, base);
+                let pending = mem::replace(&mut self.pending, None);
+                self.base = None;
+                laid_in(alloc, version, pending_of(&pending, &self.change))?
+            }
+        };
+        let base = mem::replace(&mut self.version, copy);
+        self.base = Some(base);
+        self.pending = Some(Change::new(alloc));
         Ok(())
     }
 
@@ -169,6 +213,7 @@ impl Staging {
           with_change self.now.1 report.now (string_bytes id) (option_map arc_value fact),
         )) }
     {
+        let base = shared(&self.base)?;
         let version = Arc::try_clone(&self.version)?;
         let (pending, change) = match &self.pending {
             None => (None, self.change.with_fact(report, id, fact)?),
@@ -178,6 +223,7 @@ impl Staging {
             }
         };
         Ok(Staging {
+            base,
             version,
             pending,
             change,
@@ -189,6 +235,7 @@ impl Staging {
         ensures { IfOk result (λ s. s
             ≡ (declaring_at self.now.0 report.now allowed, with_declared self.now.1 report.now allowed)) }
     {
+        let base = shared(&self.base)?;
         let version = Arc::try_clone(&self.version)?;
         let pending = match &self.pending {
             None => None,
@@ -196,6 +243,7 @@ impl Staging {
         };
         let change = self.change.declaring(report, allowed)?;
         Ok(Staging {
+            base,
             version,
             pending,
             change,

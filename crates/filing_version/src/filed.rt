@@ -104,6 +104,18 @@ fn declaring(
     }
 }
 
+/// Facts with puts laid over them, in place where no others hold what changes.
+fn facts_with(
+    alloc: Global,
+    facts: Facts,
+    puts: &TextPages<Option<Held>>,
+) -> Result<Facts, AllocError>
+    ensures { IfOk result (λ after. after ≡ with_changes puts.now.entries facts) }
+{
+    let moves = facts.moves(alloc, puts)?;
+    facts.into_after(alloc, &moves)
+}
+
 impl FiledReport {
     /// A report that is loaded as this version. All of it is shared but its identifiers.
     pub(crate) fn new(
@@ -206,6 +218,33 @@ impl FiledReport {
             facts,
             loaded: self.loaded,
             declared: self.declared,
+            stamps,
+        })
+    }
+
+    /// The same, in place where no other version holds what changes.
+    pub(crate) fn into_with_change(
+        self,
+        alloc: Global,
+        change: &ChangedReport,
+    ) -> Result<FiledReport, AllocError>
+        ensures { IfOk result (λ f. filed_of f
+            ≡ record (filed_of self) { report = changed change.now self.report }) }
+    {
+        let FiledReport {
+            front,
+            facts: before,
+            loaded,
+            declared,
+            stamps,
+        } = self;
+        let front = declaring(alloc, &front, change.declared())?;
+        let facts = facts_with(alloc, before, change.facts())?;
+        Ok(FiledReport {
+            front,
+            facts,
+            loaded,
+            declared,
             stamps,
         })
     }

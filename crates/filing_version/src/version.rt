@@ -237,6 +237,47 @@ impl RepoVersion {
         Ok(version)
     }
 
+    /// The version with the change of one report laid over it, in place where no other version holds what changes.
+    fn into_with_part(
+        self,
+        alloc: Global,
+        part: &Named<ChangedReport>,
+    ) -> Result<RepoVersion, AllocError>
+        ensures { IfOk result (λ v. version_in v
+            ≡ record (version_in self) { repository = changed_at (repository_in self) part.now }) }
+    {
+        let RepoVersion { number, reports } = self;
+        let (reports, taken) = reports.take(alloc, part.name());
+        let Some(named) = taken else {
+            let same = RepoVersion { number, reports };
+            return same.with_part(alloc, part);
+        };
+        match named.into_parts() {
+            Ok((name, filed)) => {
+                let changed = filed.into_with_change(alloc, part.value())?;
+                let reports = reports.put_back(alloc, Named::new(alloc, name, changed)?)?;
+                Ok(RepoVersion { number, reports })
+            }
+            Err(named) => {
+                let reports = reports.put_back(alloc, named)?;
+                let same = RepoVersion { number, reports };
+                same.with_part(alloc, part)
+            }
+        }
+    }
+
+    /// The version with a change laid over it, as `with_change` has it, in place where no other version holds what changes.
+    pub fn into_with_change(self, alloc: Global, change: &Change) -> Result<RepoVersion, AllocError>
+        ensures { IfOk result (λ v. version_in v
+            ≡ record (version_in self) { repository = laid_over change.now (repository_in self) }) }
+    {
+        let mut version = self;
+        for part in change.reports() {
+            version = version.into_with_part(alloc, part)?;
+        }
+        Ok(version)
+    }
+
     /// The report of this name. Its facts are shared.
     pub fn report(&self, alloc: Global, name: &str) -> Result<Option<Report>, AllocError>
         ensures { IfOk result (λ o. o ≡ report_at (repository_in self.now) name.now) }

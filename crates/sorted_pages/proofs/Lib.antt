@@ -11,3 +11,4 @@ pub mod Stretches
 pub mod Ranging
 pub mod Adjacent
 pub mod Tiers
+pub mod InPlace

@@ -25,6 +25,14 @@ pub greatest-append : {X : Type 0} (f : X → ℕ) (xs ys : List X) → greatest
 greatest-append f [] ys = omega arith
 greatest-append f (x ∷ xs) ys = let rest = greatest-append f xs ys in omega (arith, rest)
 
+-- where all numbers are 0, so is the greatest
+pub greatest_zero : {X : Type 0} (f : X → ℕ) → ((x : X) → f x ≡ 0) → (xs : List X) → greatest f xs ≡ 0
+greatest_zero f zero [] = refl
+greatest_zero f zero (x ∷ xs) =
+    let first = zero x in
+    let rest = greatest_zero f zero xs in
+    omega (arith, first, rest)
+
 -- the greatest of the items' own is the greatest of all that they hold
 pub greatest-held : {X E : Type 0} (f : X → ℕ) (p : E → ℕ) (v : X → List E) → ((x : X) → f x ≡ greatest p (v x)) → (xs : List X)
     → greatest f xs ≡ greatest p (flat_map v xs)

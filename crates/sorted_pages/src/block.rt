@@ -33,6 +33,9 @@ impl<T: Edged> Model for Block<T> {
 pub(crate) fn greatest_of<T: Peaked>(items: &[T]) -> u64
     ensures { result ≡ greatest T.peak items.now }
 {
+    if T::are_zero() {
+        return 0;
+    }
     let mut best = 0u64;
     for item in items {
         best = best.max(item.peak());
@@ -80,6 +83,16 @@ impl<T: Edged> Block<T> {
         }
     }
 
+    /// The items, which stand in no block then.
+    pub(crate) fn into_items(self) -> Vec<T>
+        ensures items { result.items ≡ self }
+        ensures some { 0 < length self }
+        ensures few { length self ≤ 64 }
+    {
+        let Block { items, .. } = self;
+        items
+    }
+
     pub(crate) fn items(&self) -> &[T]
         ensures items { result.now ≡ self.now }
         ensures some { 0 < length self.now }
@@ -103,6 +116,10 @@ impl<T: Edged> Block<T> {
 
 impl<T: Edged> Peaked for Arc<Block<T>> {
     ghost peak = { λ block. greatest T.peak (arc_value block) };
+
+    fn are_zero() -> bool {
+        T::are_zero()
+    }
 
     fn peak(&self) -> u64 {
         let block: &Block<T> = self;

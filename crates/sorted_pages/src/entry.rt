@@ -1,5 +1,5 @@
 //! What an entry is, and what asks for a range of entries.
-ghost use Rattle.std.specs.Prelude.{◌≡◌, ◌≤◌, ℕ, IfOk, Option, Some};
+ghost use Rattle.std.specs.Prelude.{◌≡◌, ◌≤◌, ℕ, IfOk, IsTrue, Option, Some};
 ghost use Rattle.std.specs.Cmp.{IsTotalOrder};
 ghost use Rattle.std.specs.declared.cmp.Ordering.{Ordering};
 ghost use Rattle.std.specs.Ordering.{nat_cmp};
@@ -12,6 +12,13 @@ use std::cmp::Ordering;
 /// What has a number, of which each page keeps the greatest.
 pub trait Peaked {
     ghost peak: { Self → ℕ };
+
+    /// Whether all numbers are 0, so that none has to be read.
+    fn are_zero() -> bool
+        ensures { IsTrue result → (x : Self) → peak x ≡ 0 }
+    {
+        false
+    }
 
     fn peak(&self) -> u64
         ensures { result ≡ peak self.now };

@@ -1,10 +1,10 @@
 //! How changes are laid over a level. Where nothing changes a block is shared.
-ghost use Rattle.std.specs.Prelude.{◌≡◌, ◌++◌, ◌∷◌, [], ◌-◌, ◌<◌, map, length, not, IfOk, OnOk, T as Holds};
+ghost use Rattle.std.specs.Prelude.{◌≡◌, ◌++◌, ◌∷◌, [], ◌-◌, ◌<◌, map, drop, length, not, IfOk, OnOk, T as Holds};
 ghost use Rattle.std.specs.List.{list_all, flat_map};
 ghost use Rattle.std.specs.Ordering.{is_lt};
 ghost use Rattle.sorted_pages.specs.Edges.{begins_with};
 ghost use Rattle.sorted_pages.specs.Pages.{held, of_group, single, IsFirst, IsFirstBlock};
-ghost use Rattle.sorted_pages.specs.Sorted.{IsRising, AllBelow, PassesBelow};
+ghost use Rattle.sorted_pages.specs.Sorted.{IsRising, AllBelow, PassesBelow, is_below};
 ghost use Rattle.sorted_pages.specs.Changes.{entry_of, entries_put, with_changes, without_tied};
 
 use crate::block::Block;
@@ -151,10 +151,14 @@ fn changes_before_all<'a, E: Entry, T: Level<E>>(
 }
 
 /// The items before the one where an entry goes, and the others.
-fn split_at_place<'a, E: Entry, T: Level<E>>(items: &'a [T], entry: &E) -> (&'a [T], &'a [T])
+pub(crate) fn split_at_place<'a, E: Entry, T: Level<E>>(
+    items: &'a [T],
+    entry: &E,
+) -> (&'a [T], &'a [T])
     requires { IsRising E.order (flat_map T.entries items.now) }
     ensures parts { items.now ≡ result.0.now ++ result.1.now }
     ensures before { AllBelow E.order (flat_map T.entries result.0.now) (entry.now ∷ []) }
+    ensures after { Holds (is_below E.order entry.now (flat_map T.entries (drop 1 result.1.now))) }
 {
     split_before_edge(items, &Until(&Tie(entry)))
 }

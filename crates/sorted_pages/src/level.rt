@@ -58,6 +58,13 @@ impl<E> Leaf<E> {
         Leaf { entry }
     }
 
+    pub(crate) fn into_entry(self) -> E
+        ensures { result ≡ self }
+    {
+        let Leaf { entry } = self;
+        entry
+    }
+
     pub(crate) fn entry(&self) -> &E
         ensures { result.now ≡ self.now }
     {
@@ -67,6 +74,10 @@ impl<E> Leaf<E> {
 
 impl<E: Peaked> Peaked for Leaf<E> {
     ghost peak = { λ leaf. E.peak leaf };
+
+    fn are_zero() -> bool {
+        E::are_zero()
+    }
 
     fn peak(&self) -> u64 {
         self.entry.peak()

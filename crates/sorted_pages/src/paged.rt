@@ -1,15 +1,19 @@
 //! The sorted list itself.
-ghost use Rattle.std.specs.Prelude.{◌≡◌, ◌≤◌, [], map, length, option_copied, Some, None, if◌then◌else◌, IfOk};
+ghost use Rattle.std.specs.Prelude.{◌≡◌, ◌≤◌, ◌<◌, get_or, IfSome, [], map, length, option_copied, Some, None, if◌then◌else◌, IfOk};
 ghost use Rattle.std.specs.Ordering.{is_eq};
 ghost use Rattle.std.specs.FinMap.Entries.{find};
-ghost use Rattle.std.specs.List.{flat_map};
+ghost use Rattle.std.specs.List.{flat_map, remove};
 ghost use Rattle.sorted_pages.specs.Pages.{AreSizes, ahead, of_group, single};
 ghost use Rattle.sorted_pages.specs.Sorted.{IsRising, keyed};
 ghost use Rattle.sorted_pages.specs.Ranges.{from_span, within, first_within};
-ghost use Rattle.sorted_pages.specs.Changes.{entry_of, with_changes};
+ghost use Rattle.sorted_pages.specs.Changes.{entry_of, with_change, with_changes};
+ghost use Rattle.sorted_pages.specs.Edges.{first_passes};
+ghost use Rattle.sorted_pages.specs.declared.change.Change.TheVariants.{Remove};
 
 use crate::change::Change;
+use crate::edge::{Before, split_at_edge};
 use crate::entry::{Entry, Span};
+use crate::in_place::InPlace;
 use crate::laying::{Changing, fill_blocks, lay_blocks, lay_groups};
 use crate::level::{Group, Leaf, Run};
 use crate::range::{Front, Range, all_from, all_until, entries_from, with_entries, with_pages};
@@ -49,6 +53,28 @@ fn only_in<'a, E: Entry, S: Span<E>>(entry: &'a E, span: &S) -> Option<&'a E>
     } else {
         None
     }
+}
+
+/// Whether the first of these is in the range.
+fn is_in<E: Entry, S: Span<E>>(entries: &[Leaf<E>], span: &S) -> bool
+    ensures { result ≡ first_passes (λ e. is_eq (S.side span.now e)) entries.now }
+{
+    match entries.first() {
+        Some(first) => span.side(first.entry()).is_eq(),
+        None => false,
+    }
+}
+
+/// The first entries, the one that follows them, and the others.
+fn taken_at<E>(entries: Vec<Leaf<E>>, place: usize) -> (Vec<Leaf<E>>, E)
+    requires { place < length entries.items }
+    ensures left { result.0.items ≡ remove entries.items place }
+    ensures fewer { length result.0.items ≤ length entries.items }
+    ensures entry { result.1 ≡ get_or entries.items place result.1 }
+{
+    let mut entries = entries;
+    let taken = entries.remove(place);
+    (entries, taken.into_entry())
 }
 
 impl<E: Entry> Paged<E> {
@@ -118,6 +144,71 @@ impl<E: Entry> Paged<E> {
         let grown: Vec<Leaf<E>> = Vec::with_capacity(alloc, most)?;
         let entries = Leaf::lay(alloc, &self.entries, changes, grown)?;
         Ok(Paged::short(alloc, entries))
+    }
+
+    /// This list where a change is made already, and else the list after it.
+    fn completed(
+        self,
+        alloc: Global,
+        one: &[Change<E>],
+        is_made: bool,
+    ) -> Result<Paged<E>, AllocError>
+        requires { IsRising E.order (map entry_of one.now) }
+        ensures { IfOk result (λ p. p ≡ (if is_made then self else with_changes E.order one.now self)) }
+    {
+        if is_made {
+            Ok(self)
+        } else {
+            self.after(alloc, one)
+        }
+    }
+
+    /// The list after one change, in place where no other list holds what it changes and there is room.
+    fn changed(self, alloc: Global, one: &[Change<E>]) -> Result<Paged<E>, AllocError>
+        requires { IsRising E.order (map entry_of one.now) }
+        ensures { IfOk result (λ p. p ≡ with_changes E.order one.now self) }
+    {
+        let [change] = one else {
+            return self.after(alloc, one);
+        };
+        let Paged { entries, groups } = self;
+        if groups.is_empty() {
+            let (entries, is_made) = Leaf::change(alloc, entries, change)?;
+            return Paged::short(alloc, entries).completed(alloc, one, is_made);
+        }
+        let (groups, is_made) = Group::change(alloc, groups, change)?;
+        Paged::long(alloc, groups).completed(alloc, one, is_made)
+    }
+
+    /// The list after changes whose entries rise, in place where no other list holds what they change and there is room. Many changes take as long as so many single ones.
+    pub fn into_after(self, alloc: Global, changes: &[Change<E>]) -> Result<Paged<E>, AllocError>
+        requires { IsRising E.order (map entry_of changes.now) }
+        ensures { IfOk result (λ p. p ≡ with_changes E.order changes.now self) }
+    {
+        let mut list = self;
+        let mut ahead = changes;
+        while !ahead.is_empty() {
+            let (one, later) = ahead.split_at(1);
+            list = list.changed(alloc, one)?;
+            ahead = later;
+        }
+        Ok(list)
+    }
+
+    /// Takes the first entry in a range out of a list whose entries stand in place. Out of groups none is taken.
+    pub fn take<S: Span<E>>(self, alloc: Global, span: &S) -> (Paged<E>, Option<E>)
+        ensures none { result.1 ≡ None → result.0 ≡ self }
+        ensures some { IfSome result.1 (λ e. (Some e ≡ first_within (S.side span.now) self)
+            × (result.0 ≡ with_change E.order (Remove e) self)) }
+    {
+        let Paged { entries, groups } = self;
+        let (before, rest) = split_at_edge(&entries, &Before(span));
+        let (place, is_there) = (before.len(), is_in(rest, span));
+        if !is_there {
+            return (Paged { entries, groups }, None);
+        }
+        let (entries, taken) = taken_at(entries, place);
+        (Paged::short(alloc, entries), Some(taken))
     }
 
     /// The entries from the first on that does not stand before the range.
