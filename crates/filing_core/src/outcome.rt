@@ -66,7 +66,11 @@ pub(crate) fn load_outcome(
             reply: Reply::Loaded(next.number()),
             next: Some(next),
         }),
-        Some(dims) => Ok(told(disallowed(alloc, &next, name, dims)?)),
+        Some(dims) => {
+            let reply = disallowed(alloc, &next, name, dims);
+            drop(next);
+            Ok(told(reply?))
+        }
     }
 }
 
@@ -89,7 +93,11 @@ fn change_outcome(
             reply: Reply::Committed(next.number()),
             next: Some(next),
         }),
-        Some((name, dims)) => Ok(told(disallowed(alloc, &next, name, dims)?)),
+        Some((name, dims)) => {
+            let reply = disallowed(alloc, &next, name, dims);
+            drop(next);
+            Ok(told(reply?))
+        }
     }
 }
 

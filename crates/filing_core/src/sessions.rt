@@ -45,7 +45,7 @@ impl Sessions {
             → session_of self.new n ≡ cond (n == number) (Some session) (session_of self.old n)) }
         ensures err { OnErr result (self.new ≡ self.old) }
     {
-        self.by_number.insert(number, session)?;
+        drop(self.by_number.insert(number, session)?);
         Ok(())
     }
 
@@ -53,7 +53,7 @@ impl Sessions {
     pub(crate) fn remove(&mut self, number: u64)
         ensures { (n : ℕ) → session_of self.new n ≡ cond (n == number) None (session_of self.old n) }
     {
-        self.by_number.remove(&number);
+        drop(self.by_number.remove(&number));
     }
 
     /// Makes all growths of a call of a session.

@@ -11,7 +11,7 @@ use crate::session::effect;
 use crate::staging::Staging;
 use filing_model::Kind;
 use filing_step::{Call, Reply};
-use filing_version::RepoVersion;
+use filing_version::{Keyring, RepoVersion};
 use std::alloc::{AllocError, Global};
 use std::sync::Arc;
 
@@ -20,9 +20,11 @@ fn told(ready: Ready) -> Reply
 {
     let Ready {
         reply,
-        thing: _thing,
-        staged: _staged,
+        thing,
+        staged,
     } = ready;
+    drop(thing);
+    drop(staged);
     reply
 }
 
@@ -32,6 +34,8 @@ pub fn reply_at(alloc: Global, version: &Arc<RepoVersion>, call: Call) -> Result
         ≡ (answer kind.Review (call_of call) (repository_in (arc_value version.now))).0) }
 {
     let staging = Staging::new(alloc, Arc::try_clone(version)?);
-    let ready = effect(alloc, Kind::Review, &staging, call)?;
-    Ok(told(ready))
+    let mut keyring = Keyring::new(alloc);
+    let ready = effect(alloc, Kind::Review, &staging, &mut keyring, call);
+    drop(staging);
+    Ok(told(ready?))
 }

@@ -20,11 +20,12 @@ use crate::staging::Staging;
 use crate::{looks, pages, stages};
 use filing_model::Kind;
 use filing_step::{Asked, Call, Limit, Reply, Sought, Thing};
-use filing_version::{Change, RepoVersion};
+use filing_version::{Change, Keyring, RepoVersion};
 use indexmap::IndexSet;
 use oim_fact::{Allowed, DimSet, RawFact};
 use std::alloc::{AllocError, Global};
 use std::marker::Model;
+use std::mem;
 use std::sync::Arc;
 
 /// An open session. Contracts see its state as its calls leave it, and whether there is room for one more thing read.
@@ -34,6 +35,7 @@ pub struct Session {
     kind: Kind,
     base: Arc<RepoVersion>,
     staging: Staging,
+    keyring: Keyring,
     reads: IndexSet<Thing>,
 }
 
@@ -85,7 +87,12 @@ fn lay_for(alloc: Global, staging: &mut Staging, call: &Call) -> Result<(), Allo
 }
 
 /// Makes the growths of a call that may be made.
-fn made(alloc: Global, staging: &Staging, call: Call) -> Result<Ready, AllocError>
+fn made(
+    alloc: Global,
+    staging: &Staging,
+    keyring: &mut Keyring,
+    call: Call,
+) -> Result<Ready, AllocError>
     ensures { IfOk result (λ r. r ≡ effect_in (call_of call) staging.now.0 staging.now.1
         (report_at staging.now.0 (report_of_call (call_of call)))) }
 {
@@ -93,8 +100,8 @@ fn made(alloc: Global, staging: &Staging, call: Call) -> Result<Ready, AllocErro
         Call::Get(report, id) => looks::get(staging, report, id),
         Call::Cell(report, dims) => looks::cell(alloc, staging, report, dims),
         Call::Page(report, sought, limit) => pages::page(alloc, staging, report, sought, limit),
-        Call::Add(report, id, fact) => stages::add(alloc, staging, report, id, fact),
-        Call::Remove(report, id) => stages::remove(staging, report, id),
+        Call::Add(report, id, fact) => stages::add(alloc, staging, keyring, report, id, fact),
+        Call::Remove(report, id) => stages::remove(alloc, staging, keyring, report, id),
         Call::Declared(report) => Ok(looks::declared(staging, report)),
         Call::Declare(report, allowed) => stages::declare(staging, report, allowed),
     }
@@ -105,12 +112,13 @@ pub(crate) fn effect(
     alloc: Global,
     kind: Kind,
     staging: &Staging,
+    keyring: &mut Keyring,
     call: Call,
 ) -> Result<Ready, AllocError>
     ensures { IfOk result (λ r. r ≡ effect_of kind (call_of call) staging.now.0 staging.now.1) }
 {
     if may_make(kind, &call) {
-        made(alloc, staging, call)
+        made(alloc, staging, keyring, call)
     } else {
         Ok(Ready::read_only())
     }
@@ -135,7 +143,7 @@ fn put_in_place(staging: &mut Staging, staged: Option<Staging>)
     ensures changed { staging.new.1 ≡ option_map_or (λ s. s.1) staged staging.old.1 }
 {
     if let Some(staged) = staged {
-        *staging = staged;
+        drop(mem::replace(staging, staged));
     }
 }
 
@@ -150,6 +158,7 @@ impl Session {
             kind,
             base,
             staging: Staging::new(alloc, version),
+            keyring: Keyring::new(alloc),
             reads: IndexSet::new(alloc),
         })
     }
@@ -189,7 +198,13 @@ impl Session {
     {
         self.reads.reserve(1)?;
         lay_for(self.alloc, &mut self.staging, &call)?;
-        effect(self.alloc, self.kind, &self.staging, call)
+        effect(
+            self.alloc,
+            self.kind,
+            &self.staging,
+            &mut self.keyring,
+            call,
+        )
     }
 
     /// Does what is ready. It takes no memory. Where nothing but readers was called since it was made ready, this is the call (`each_effect_is_its_call`).

@@ -8,14 +8,16 @@ ghost use Rattle.filing_session.specs.Effects.{effect_in, put_effect};
 use crate::ready::Ready;
 use crate::staging::Staging;
 use filing_step::{Reply, Thing};
-use filing_version::Got;
+use filing_version::{Got, Keyring, PutRecord};
 use oim_fact::{Allowed, Fact, RawFact, fit};
 use std::alloc::{AllocError, Global};
 use std::sync::Arc;
 
 /// A fact is put, or removed, at an identifier, which is read.
 fn put(
+    alloc: Global,
     staging: &Staging,
+    keyring: &mut Keyring,
     report: String,
     id: String,
     fact: Option<Arc<Fact>>,
@@ -23,7 +25,8 @@ fn put(
     ensures { IfOk result (λ r. r ≡ put_effect (string_bytes report) (string_bytes id) (option_map arc_value fact)
         staging.now.0 staging.now.1) }
 {
-    let staged = staging.with_fact(&report, id.clone()?, fact)?;
+    let record = PutRecord::among(alloc, keyring, id.clone()?, fact)?;
+    let staged = staging.with_fact(&report, record)?;
     Ok(Ready {
         reply: Reply::Staged,
         thing: Some(Thing::Id(report, id)),
@@ -35,6 +38,7 @@ fn put(
 fn add_new(
     alloc: Global,
     staging: &Staging,
+    keyring: &mut Keyring,
     report: String,
     id: String,
     raw: RawFact,
@@ -51,7 +55,7 @@ fn add_new(
         Err(fault) => Ok(Ready::read(Reply::BadFact(fault), Thing::Id(report, id))),
         Ok(fact) => {
             let fact = Arc::new(alloc, fact)?;
-            put(staging, report, id, Some(fact))
+            put(alloc, staging, keyring, report, id, Some(fact))
         }
     }
 }
@@ -59,6 +63,7 @@ fn add_new(
 pub(crate) fn add(
     alloc: Global,
     staging: &Staging,
+    keyring: &mut Keyring,
     report: String,
     id: String,
     raw: RawFact,
@@ -68,19 +73,25 @@ pub(crate) fn add(
 {
     match staging.get(&report, &id) {
         Got::NoReport => Ok(Ready::nowhere(report)),
-        Got::Absent => add_new(alloc, staging, report, id, raw),
+        Got::Absent => add_new(alloc, staging, keyring, report, id, raw),
         Got::Found(_) => Ok(Ready::read(Reply::Taken, Thing::Id(report, id))),
     }
 }
 
-pub(crate) fn remove(staging: &Staging, report: String, id: String) -> Result<Ready, AllocError>
+pub(crate) fn remove(
+    alloc: Global,
+    staging: &Staging,
+    keyring: &mut Keyring,
+    report: String,
+    id: String,
+) -> Result<Ready, AllocError>
     ensures { IfOk result (λ r. r ≡ effect_in (call.Remove (string_bytes report) (string_bytes id))
         staging.now.0 staging.now.1 (report_at staging.now.0 (string_bytes report))) }
 {
     match staging.get(&report, &id) {
         Got::NoReport => Ok(Ready::nowhere(report)),
         Got::Absent => Ok(Ready::read(Reply::Absent, Thing::Id(report, id))),
-        Got::Found(_) => put(staging, report, id, None),
+        Got::Found(_) => put(alloc, staging, keyring, report, id, None),
     }
 }
 

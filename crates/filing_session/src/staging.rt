@@ -8,7 +8,7 @@ ghost use Rattle.filing_version.specs.Filed.{repository_in};
 ghost use Rattle.filing_version.specs.Found.{got_of};
 ghost use Rattle.filing_version.specs.Puts.{fact_seen};
 
-use filing_version::{Change, Got, RepoVersion};
+use filing_version::{Change, Got, PutRecord, RepoVersion};
 use oim_fact::{Allowed, Fact, Names};
 use std::alloc::{AllocError, Global};
 use std::marker::Model;
@@ -202,26 +202,19 @@ impl Staging {
     }
 
     /// The same with a fact put, or removed, at an identifier.
-    pub(crate) fn with_fact(
-        &self,
-        report: &str,
-        id: String,
-        fact: Option<Arc<Fact>>,
-    ) -> Result<Staging, AllocError>
+    pub(crate) fn with_fact(&self, report: &str, put: PutRecord) -> Result<Staging, AllocError>
         ensures { IfOk result (λ s. s ≡ (
-          with_fact_at self.now.0 report.now (string_bytes id) (option_map arc_value fact),
-          with_change self.now.1 report.now (string_bytes id) (option_map arc_value fact),
+          with_fact_at self.now.0 report.now put.0 put.1,
+          with_change self.now.1 report.now put.0 put.1,
         )) }
     {
         let base = shared(&self.base)?;
         let version = Arc::try_clone(&self.version)?;
-        let (pending, change) = match &self.pending {
-            None => (None, self.change.with_fact(report, id, fact)?),
-            Some(pending) => {
-                let (pending, change) = pending.both_with_fact(&self.change, report, id, fact)?;
-                (Some(pending), change)
-            }
+        let pending = match &self.pending {
+            None => None,
+            Some(pending) => Some(pending.with_record(report, put.share()?)?),
         };
+        let change = self.change.with_record(report, put)?;
         Ok(Staging {
             base,
             version,

@@ -5,12 +5,14 @@ ghost use Rattle.filing_model.specs.TextMap.{empty, get, insert};
 ghost use Rattle.filing_model.specs.Changes.{change_at, declared_in, with_change, with_declared};
 ghost use Rattle.filing_version.specs.Puts.{fact_seen, puts_of};
 
-use crate::changed_report::{ChangedReport, fact_of, held_of, shared};
+use crate::changed_report::{ChangedReport, fact_of};
+use crate::put_record::PutRecord;
 use crate::puts::Puts;
-use filing_pages::{Held, Named, Range, TextPages};
+use filing_pages::{Named, Range, TextPages};
 use oim_fact::{Allowed, Fact};
 use std::alloc::{AllocError, Global};
 use std::marker::Model;
+use std::mem;
 use std::sync::Arc;
 
 /// What is put, removed and declared, by report. Contracts see the plain change.
@@ -86,12 +88,14 @@ impl Change {
         })
     }
 
-    /// The change with this put, or removal, at an identifier.
-    fn with_put(&self, report: &str, id: String, put: Option<Held>) -> Result<Change, AllocError>
-        ensures { IfOk result (λ next. next ≡ with_change self.now report.now (string_bytes id) put) }
+    /// The change with a put into a report, in the place of an earlier put of its identifier. This change stays as it is.
+    pub fn with_record(&self, report: &str, put: PutRecord) -> Result<Change, AllocError>
+        ensures { IfOk result (λ next. next ≡ with_change self.now report.now put.0 put.1) }
     {
         let none = ChangedReport::new(self.alloc);
-        let changed = self.report_or(report, &none).with_put(self.alloc, id, put)?;
+        let changed = self
+            .report_or(report, &none)
+            .with_entry(self.alloc, put.into_entry())?;
         self.with_report(report, changed)
     }
 
@@ -105,27 +109,8 @@ impl Change {
         ensures { IfOk result (λ next. next
             ≡ with_change self.now report.now (string_bytes id) (option_map arc_value fact)) }
     {
-        let put = held_of(self.alloc, fact)?;
-        self.with_put(report, id, put)
-    }
-
-    /// This change and another, each with the same fact put, or removed, at an identifier. What the fact is compared by is made once. Both stay as they are.
-    pub fn both_with_fact(
-        &self,
-        other: &Change,
-        report: &str,
-        id: String,
-        fact: Option<Arc<Fact>>,
-    ) -> Result<(Change, Change), AllocError>
-        ensures this { IfOk result (λ both. both.0
-            ≡ with_change self.now report.now (string_bytes id) (option_map arc_value fact)) }
-        ensures other { IfOk result (λ both. both.1
-            ≡ with_change other.now report.now (string_bytes id) (option_map arc_value fact)) }
-    {
-        let put = held_of(self.alloc, fact)?;
-        let again = shared(&put)?;
-        let this = self.with_put(report, id.clone()?, again)?;
-        Ok((this, other.with_put(report, id, put)?))
+        let put = PutRecord::of(self.alloc, id, fact)?;
+        self.with_record(report, put)
     }
 
     /// Makes the growths of `put`. The change stays as it is.
@@ -146,7 +131,7 @@ impl Change {
     pub fn take(&mut self, ready: ReadyPut)
         ensures { self.new ≡ ready }
     {
-        *self = ready.change;
+        drop(mem::replace(self, ready.change));
     }
 
     /// Puts a fact, or removes what stands there, in the place of an earlier put of the identifier.
@@ -188,7 +173,7 @@ impl Change {
     pub fn take_declare(&mut self, ready: ReadyDeclare)
         ensures { self.new ≡ ready }
     {
-        *self = ready.change;
+        drop(mem::replace(self, ready.change));
     }
 
     /// Declares a value, in the place of the one that the change declared before.

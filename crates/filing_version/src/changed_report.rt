@@ -1,11 +1,11 @@
 //! What a change puts, removes and declares in one report.
-ghost use Rattle.std.specs.Prelude.{◌≡◌, Some, option_map, string_bytes, IfOk};
+ghost use Rattle.std.specs.Prelude.{◌≡◌, Some, option_map, IfOk};
 ghost use Rattle.std.specs.Arc.{arc_value};
 ghost use Rattle.filing_model.specs.TextMap.{insert};
 ghost use Rattle.filing_model.specs.Changes.{no_change};
 ghost use Rattle.filing_version.specs.Puts.{fact_seen};
 
-use filing_pages::{Held, TextPages};
+use filing_pages::{Held, Keyring, Named, TextPages};
 use oim_fact::{Allowed, Fact};
 use std::alloc::{AllocError, Global};
 use std::marker::Model;
@@ -34,22 +34,16 @@ pub(crate) fn fact_of(put: &Option<Held>) -> Option<&Arc<Fact>>
 }
 
 /// A fact that is put, or none.
-pub(crate) fn held_of(alloc: Global, fact: Option<Arc<Fact>>) -> Result<Option<Held>, AllocError>
+pub(crate) fn held_among(
+    alloc: Global,
+    keyring: &mut Keyring,
+    fact: Option<Arc<Fact>>,
+) -> Result<Option<Held>, AllocError>
     ensures { IfOk result (λ put. put ≡ option_map arc_value fact) }
 {
     match fact {
         None => Ok(None),
-        Some(fact) => Ok(Some(Held::of(alloc, fact)?)),
-    }
-}
-
-/// Another owner of a fact that is put, or none.
-pub(crate) fn shared(put: &Option<Held>) -> Result<Option<Held>, AllocError>
-    ensures { IfOk result (λ again. again ≡ put.now) }
-{
-    match put {
-        None => Ok(None),
-        Some(held) => Ok(Some(held.share()?)),
+        Some(fact) => Ok(Some(Held::among(alloc, keyring, fact)?)),
     }
 }
 
@@ -77,16 +71,15 @@ impl ChangedReport {
     }
 
     /// A copy with a fact put, or removed, at an identifier.
-    pub(crate) fn with_put(
+    pub(crate) fn with_entry(
         &self,
         alloc: Global,
-        id: String,
-        put: Option<Held>,
+        entry: Named<Option<Held>>,
     ) -> Result<ChangedReport, AllocError>
-        ensures { IfOk result (λ r. r ≡
-            record self.now { facts = insert self.now.facts (string_bytes id) put }) }
+        ensures { IfOk result (λ r. r ≡ record self.now { facts = insert self.now.facts entry.0 entry.1 }) }
     {
-        let facts = self.facts.with(alloc, id, put)?;
+        let again = self.facts.share(alloc)?;
+        let facts = again.put_back(alloc, entry)?;
         Ok(ChangedReport {
             declared: self.declared,
             facts,

@@ -112,8 +112,13 @@ fn facts_with(
 ) -> Result<Facts, AllocError>
     ensures { IfOk result (λ after. after ≡ with_changes puts.now.entries facts) }
 {
-    let moves = facts.moves(alloc, puts)?;
-    facts.into_after(alloc, &moves)
+    match facts.moves(alloc, puts) {
+        Ok(moves) => facts.into_after(alloc, &moves),
+        Err(error) => {
+            drop(facts);
+            Err(error)
+        }
+    }
 }
 
 impl FiledReport {
@@ -125,8 +130,8 @@ impl FiledReport {
     ) -> Result<FiledReport, AllocError>
         ensures { IfOk result (λ f. filed_of f ≡ newly_filed number (arc_value report.now)) }
     {
-        let facts = indexed(alloc, report)?;
         let front = Arc::try_clone(report)?;
+        let facts = indexed(alloc, report)?;
         Ok(FiledReport {
             front,
             facts,
@@ -149,8 +154,8 @@ impl FiledReport {
             ≡ stamped_by (moves_of puts.now.entries self.now.report.facts) number (stamp_in self.now.stamps)) }
     {
         let moves = self.facts.moves(alloc, puts)?;
-        let facts = self.facts.after(alloc, &moves)?;
         let stamps = self.stamps.after(alloc, &moves, number)?;
+        let facts = self.facts.after(alloc, &moves)?;
         Ok((facts, stamps))
     }
 
@@ -211,8 +216,8 @@ impl FiledReport {
             ≡ record (filed_of self.now) { report = changed change.now self.now.report }) }
     {
         let front = declaring(alloc, &self.front, change.declared())?;
-        let facts = self.facts_after(alloc, change.facts())?;
         let stamps = self.stamps_again(alloc, number)?;
+        let facts = self.facts_after(alloc, change.facts())?;
         Ok(FiledReport {
             front,
             facts,
@@ -231,14 +236,14 @@ impl FiledReport {
         ensures { IfOk result (λ f. filed_of f
             ≡ record (filed_of self) { report = changed change.now self.report }) }
     {
+        let front = declaring(alloc, &self.front, change.declared())?;
         let FiledReport {
-            front,
+            front: _,
             facts: before,
             loaded,
             declared,
             stamps,
         } = self;
-        let front = declaring(alloc, &front, change.declared())?;
         let facts = facts_with(alloc, before, change.facts())?;
         Ok(FiledReport {
             front,

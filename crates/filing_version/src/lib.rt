@@ -10,12 +10,15 @@ mod changed_report;
 mod entries;
 mod filed;
 mod got;
+mod put_record;
 mod puts;
 mod version;
 
 pub use change::{Change, ReadyDeclare, ReadyPut};
 pub use entries::Entries;
 pub use filing_index::{Asked, Ids};
+pub use filing_pages::Keyring;
 pub use got::Got;
+pub use put_record::PutRecord;
 pub use puts::{Put, Puts};
 pub use version::RepoVersion;

@@ -138,8 +138,9 @@ impl RepoVersion {
         let mut reports = self.reports.share(alloc)?;
         for part in change.reports() {
             if let Some(filed) = reports.get(part.name()) {
+                let name = String::from_str(alloc, part.name())?;
                 let next = filed.after(alloc, part.value(), number)?;
-                reports = reports.with(alloc, String::from_str(alloc, part.name())?, next)?;
+                reports = reports.with(alloc, name, next)?;
             }
         }
         Ok(RepoVersion { number, reports })
@@ -230,11 +231,8 @@ impl RepoVersion {
         ensures { IfOk result (λ v. version_in v
             ≡ record (version_in self.now) { repository = laid_over change.now (repository_in self.now) }) }
     {
-        let mut version = self.again(alloc)?;
-        for part in change.reports() {
-            version = version.with_part(alloc, part)?;
-        }
-        Ok(version)
+        let version = self.again(alloc)?;
+        version.into_with_change(alloc, change)
     }
 
     /// The version with the change of one report laid over it, in place where no other version holds what changes.

@@ -27,8 +27,8 @@ returns-in-None c =
       next_so = ap Some made ∙ ap (λ r. cond (counts r) (Some (version_with name report v)) None) (sym told);
     }
 
-pub returns-in_ok-disallowed-in-Some : goal.returns-in_ok-disallowed-in-Some
-returns-in_ok-disallowed-in-Some c =
+pub returns-in_ok-reply-in-Some : goal.returns-in_ok-reply-in-Some
+returns-in_ok-reply-in-Some c =
     let v = version_in c.args.current.now in
     let before = repository_in c.args.current.now in
     let name = c.args.name.now in
@@ -42,7 +42,7 @@ returns-in_ok-disallowed-in-Some c =
     let least = sym (c.in-Some.ensures ∙ ap (option_and_then (λ (r : Report). least_disallowed r.allowed r.facts.entries)) there) in
     let told = refused before next name report dims none there least in
     record {
-      told_so = ap (λ o. o.reply) c.told-in-Some.ensures ∙ c.in_ok-disallowed-in-Some.ensures ∙ sym told;
+      told_so = ap (λ o. o.reply) c.told-in-Some.ensures ∙ c.in_ok-reply-in-Some.ensures ∙ sym told;
       next_so = ap (λ o. option_map version_in o.next) c.told-in-Some.ensures
           ∙ ap (λ b. cond b (Some (version_with name report v)) None) (sym (refusal_at_is_quiet next (name, dims))
           ∙ ap counts (sym told));

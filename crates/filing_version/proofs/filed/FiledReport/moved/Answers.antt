@@ -6,16 +6,16 @@ use Rattle.filing_version.specs.Filed.{StampedReport}
 use Rattle.filing_version.proofs.StampedReports.{stamped_by-moves_in}
 use Rattle.filing_version.proofs.filed.FiledReport.moved.Goals as goal
 
-pub after-requires : goal.after-requires
-after-requires c = (c.args.puts.now, c.deref.ensures.value ∙ c.in_ok-moves.ensures)
-
 pub after-requires-2 : goal.after-requires-2
-after-requires-2 c = λ part. subst (λ (f : StampedReport). stamp_in f.stamps part ≤ c.args.number) (sym c.self.view_is) (c.requires part)
+after-requires-2 c = (c.args.puts.now, c.deref-2.ensures.value ∙ c.in_ok-moves.ensures)
+
+pub after-requires : goal.after-requires
+after-requires c = λ part. subst (λ (f : StampedReport). stamp_in f.stamps part ≤ c.args.number) (sym c.self.view_is) (c.requires part)
 
 pub returns-clause-stamps : goal.returns-clause-stamps
 returns-clause-stamps c =
     let changes = c.args.puts.now.entries in
     c.in_ok-stamps.ensures
-    ∙ ap (λ (ms : List Move). stamped_by ms c.args.number (stamp_in c.self.inside.stamps)) (c.deref-2.ensures.value ∙ c.in_ok-moves.ensures)
+    ∙ ap (λ (ms : List Move). stamped_by ms c.args.number (stamp_in c.self.inside.stamps)) (c.deref.ensures.value ∙ c.in_ok-moves.ensures)
     ∙ stamped_by-moves_in changes c.self.inside.facts c.args.number (stamp_in c.self.inside.stamps)
     ∙ ap (λ (f : StampedReport). stamped_by (moves_of changes f.report.facts) c.args.number (stamp_in f.stamps)) c.self.view_is

@@ -29,7 +29,7 @@ loop-part-preserved-in-Some-get c =
     let made : filed_of c.in_ok-next.next ≡ changed_filed number part.1 (filed_of filed) =
     c.in_ok-next.ensures ∙ (λ i. changed_filed ((c.self.view_is i).number + 1) (c.value.ensures i) (filed_of filed)) in
     let put : c.in_ok-reports-2.reports ≡ insert m part.0 c.in_ok-next.next =
-    c.in_ok-reports-2.ensures ∙ ap (λ name. insert m name c.in_ok-next.next) (c.in_ok-from_str.ensures.ok ∙ c.name-in-Some-get.ensures) in
+    c.in_ok-reports-2.ensures ∙ ap (λ name. insert m name c.in_ok-next.next) (c.in_ok-name.ensures.ok ∙ c.name-in-Some-get.ensures) in
     let next : mapped filed_of c.in_ok-reports-2.reports ≡ insert (mapped filed_of m) part.0 (changed_filed number part.1 (filed_of filed)) =
     ap (mapped filed_of) put ∙ mapped-insert m part.0 c.in_ok-next.next ∙ ap (insert (mapped filed_of m) part.0) made in
     subst (LaysTheRest number all first rest) (sym next)

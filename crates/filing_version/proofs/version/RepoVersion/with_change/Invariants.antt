@@ -1,6 +1,0 @@
-use Rattle.filing_version.specs.Filed.{version_in}
-use Rattle.filing_version.proofs.LaidInTurn.{LaysTheOthers}
-use Rattle.filing_version.proofs.version.RepoVersion.with_change.Given as goal
-
-abbrev pub invariant-loop-part : goal.invariant-loop-part
-invariant-loop-part l = LaysTheOthers (version_in l.self) l.change.entries l.part-iterator (version_in l.version)

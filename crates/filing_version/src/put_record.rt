@@ -1,0 +1,65 @@
+//! A put that several changes may hold.
+ghost use Rattle.std.specs.Prelude.{◌≡◌, option_map, string_bytes, IfOk};
+ghost use Rattle.std.specs.Arc.{arc_value};
+
+use crate::changed_report::held_among;
+use filing_pages::{Held, Keyring, Named};
+use oim_fact::Fact;
+use sorted_pages::Entry;
+use std::alloc::{AllocError, Global};
+use std::marker::Model;
+use std::sync::Arc;
+
+/// An identifier with the fact that is put there, or none where it is removed. Several changes may hold it. Contracts see the two.
+#[derive(Drop)]
+pub struct PutRecord {
+    entry: Named<Option<Held>>,
+}
+
+impl Model for PutRecord {
+    ghost use Rattle.std.specs.Prelude.{Option};
+    ghost use Rattle.filing_model.specs.Text.{Text};
+    ghost use Rattle.filing_model.specs.Facts.{Fact as PlainFact};
+
+    ghost Value = { Text × Option PlainFact };
+
+    ghost view = { λ p. p.entry };
+}
+
+impl PutRecord {
+    /// A put by itself.
+    pub fn of(alloc: Global, id: String, fact: Option<Arc<Fact>>) -> Result<PutRecord, AllocError>
+        ensures { IfOk result (λ p. p ≡ (string_bytes id, option_map arc_value fact)) }
+    {
+        PutRecord::among(alloc, &mut Keyring::new(alloc), id, fact)
+    }
+
+    /// A put among others, which shares what its fact has in common with those before it.
+    pub fn among(
+        alloc: Global,
+        keyring: &mut Keyring,
+        id: String,
+        fact: Option<Arc<Fact>>,
+    ) -> Result<PutRecord, AllocError>
+        ensures { IfOk result (λ p. p ≡ (string_bytes id, option_map arc_value fact)) }
+    {
+        let put = held_among(alloc, keyring, fact)?;
+        let entry = Named::new(alloc, id, put)?;
+        Ok(PutRecord { entry })
+    }
+
+    /// The same put for one more change.
+    pub fn share(&self) -> Result<PutRecord, AllocError>
+        ensures { IfOk result (λ p. p ≡ self.now) }
+    {
+        let entry = self.entry.share()?;
+        Ok(PutRecord { entry })
+    }
+
+    pub(crate) fn into_entry(self) -> Named<Option<Held>>
+        ensures { result ≡ self }
+    {
+        let PutRecord { entry } = self;
+        entry
+    }
+}
