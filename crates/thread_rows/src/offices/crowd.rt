@@ -183,20 +183,31 @@ fn by_lists<
     Ok(all)
 }
 
+/// The line of the entry that an answer of a desk speaks of.
+fn line_told(alloc: Global, place: usize, turn: usize, told: Told) -> Result<String> {
+    let Told { session, reply } = told;
+    let step = match round_step(alloc, place, turn / ROUND, turn % ROUND) {
+        Ok(step) => step,
+        Err(error) => {
+            drop(reply);
+            return Err(error.into());
+        }
+    };
+    let entry = Entry {
+        session,
+        step,
+        reply,
+    };
+    let text = entry_text(alloc, &entry);
+    drop(entry);
+    Ok(text?)
+}
+
 /// The lines of the entries that a desk's answers speak of: each has the step that was handed in.
 fn lines_told(alloc: Global, place: usize, told: Vec<Told>) -> Result<Vec<String>> {
     let mut lines = Vec::with_capacity(alloc, told.len())?;
-    for (k, told) in told.into_iter().enumerate() {
-        let Told { session, reply } = told;
-        let step = round_step(alloc, place, k / ROUND, k % ROUND)?;
-        lines.push(entry_text(
-            alloc,
-            &Entry {
-                session,
-                step,
-                reply,
-            },
-        )?)?;
+    for (turn, told) in told.into_iter().enumerate() {
+        lines.push(line_told(alloc, place, turn, told)?)?;
     }
     Ok(lines)
 }

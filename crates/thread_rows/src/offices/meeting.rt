@@ -133,6 +133,37 @@ fn meet<J: Naming, R: Print + AllocGlobal>(
     Ok(())
 }
 
+/// Writes answers, whose receipts a reviewer learns.
+fn meet_all<J: Naming, R: Print + AllocGlobal>(
+    rt: &R,
+    reviewer: &mut Reviewer<J>,
+    outcomes: &[Outcome<J>],
+) -> Result<()> {
+    for outcome in outcomes {
+        meet(rt, reviewer, outcome)?;
+    }
+    Ok(())
+}
+
+/// Writes what a desk was answered, and hands it back.
+fn tell_of<L: Ledger + Naming, M: Ledger, R: Print + AllocGlobal>(
+    rt: &R,
+    reviewer: &mut Reviewer<L>,
+    ran: Ran<L, M>,
+) -> Result<Desk<L, M>> {
+    let (desk, left, outcomes) = ran;
+    drop(left);
+    let met = meet_all(rt, reviewer, &outcomes);
+    drop(outcomes);
+    match met {
+        Ok(()) => Ok(desk),
+        Err(error) => {
+            drop(desk);
+            Err(error)
+        }
+    }
+}
+
 /// Writes what each desk was answered, and what a reviewer reads who learnt all receipts.
 pub(crate) fn tell_all<L: Ledger + Naming, M: Ledger, R: Print + AllocGlobal>(
     rt: &R,
@@ -140,12 +171,9 @@ pub(crate) fn tell_all<L: Ledger + Naming, M: Ledger, R: Print + AllocGlobal>(
     ran: Vec<Ran<L, M>>,
 ) -> Result<Vec<Desk<L, M>>> {
     let mut desks = Vec::with_capacity(rt.alloc(), ran.len())?;
-    for (desk, _, outcomes) in ran {
-        for outcome in &outcomes {
-            meet(rt, reviewer, outcome)?;
-        }
-        desks.push(desk)?;
+    for one in ran {
+        desks.push(tell_of(rt, reviewer, one)?)?;
     }
-    review(rt, "one who learnt", reviewer, "a")?;
+    drop(review(rt, "one who learnt", reviewer, "a")?);
     Ok(desks)
 }

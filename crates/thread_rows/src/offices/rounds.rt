@@ -86,6 +86,37 @@ fn page(alloc: Global, review: &Review) -> Result<Reply> {
     )?)
 }
 
+/// Writes what a review is answered of a fact.
+fn look_at_fact<R: Print + AllocGlobal>(
+    rt: &R,
+    who: &str,
+    review: &Review,
+    id: &str,
+) -> Result<()> {
+    let alloc = rt.alloc();
+    let told = review.get(alloc, first_report(alloc)?, String::from_str(alloc, id)?)?;
+    let is_written = tell(rt, who, &told);
+    drop(told);
+    is_written
+}
+
+/// Writes what it is answered of its cell.
+fn look_at_cell<R: Print + AllocGlobal>(rt: &R, who: &str, review: &Review) -> Result<()> {
+    let alloc = rt.alloc();
+    let told = review.cell(alloc, first_report(alloc)?, names(alloc)?)?;
+    let is_written = tell(rt, who, &told);
+    drop(told);
+    is_written
+}
+
+/// Writes what it is answered of a page.
+fn look_at_page<R: Print + AllocGlobal>(rt: &R, who: &str, review: &Review) -> Result<()> {
+    let told = page(rt.alloc(), review)?;
+    let is_written = tell(rt, who, &told);
+    drop(told);
+    is_written
+}
+
 /// Writes what a review is answered of a fact, of its cell, of a page and of what is allowed.
 pub(crate) fn look<R: Print + AllocGlobal>(
     rt: &R,
@@ -93,15 +124,9 @@ pub(crate) fn look<R: Print + AllocGlobal>(
     review: &Review,
     id: &str,
 ) -> Result<()> {
-    let alloc = rt.alloc();
-    let id = String::from_str(alloc, id)?;
-    tell(rt, who, &review.get(alloc, first_report(alloc)?, id)?)?;
-    tell(
-        rt,
-        who,
-        &review.cell(alloc, first_report(alloc)?, names(alloc)?)?,
-    )?;
-    tell(rt, who, &page(alloc, review)?)?;
+    look_at_fact(rt, who, review, id)?;
+    look_at_cell(rt, who, review)?;
+    look_at_page(rt, who, review)?;
     tell(rt, who, &review.declared("r1"))
 }
 
@@ -131,6 +156,45 @@ pub(crate) fn review<J: Naming, R: Print + AllocGlobal>(
     Ok(review)
 }
 
+/// One desk loads, and a reviewer learns it and begins a review.
+fn load_and_learn<L: Ledger + Naming, M: Ledger, R: Wait + Print + AllocGlobal>(
+    rt: &R,
+    office: &Office<L, M>,
+    desk: &mut Desk<L, M>,
+    reviewer: &mut Reviewer<L>,
+) -> Result<(Receipt<L>, Review)> {
+    let loaded = load_first(rt, office, desk)?;
+    learn(rt, "one", reviewer, &loaded)?;
+    let old = review(rt, "one", reviewer, "f")?;
+    Ok((loaded, old))
+}
+
+/// The desk commits, and the reviewer learns it, while the review goes on.
+fn commit_and_learn<L: Ledger + Naming, M: Ledger, R: Wait + Print + AllocGlobal>(
+    rt: &R,
+    office: &Office<L, M>,
+    desk: &mut Desk<L, M>,
+    reviewer: &mut Reviewer<L>,
+    old: &Review,
+) -> Result<()> {
+    let committed = add_one(rt, office, desk, "f")?;
+    look(rt, "the old review", old, "f")?;
+    learn(rt, "one", reviewer, &committed)
+}
+
+/// Both review once more, and the one learns again what it learnt first.
+fn review_again<J: Naming, R: Print + AllocGlobal>(
+    rt: &R,
+    one: &mut Reviewer<J>,
+    other: &mut Reviewer<J>,
+    loaded: &Receipt<J>,
+) -> Result<()> {
+    drop(review(rt, "one", one, "f")?);
+    learn(rt, "one", one, loaded)?;
+    drop(review(rt, "other", other, "f")?);
+    Ok(())
+}
+
 /// One desk loads and commits, one reviewer learns and the other does not. The review of before the commit is handed back.
 pub(crate) fn before_and_after<L: Ledger + Naming, M: Ledger, R: Wait + Print + AllocGlobal>(
     rt: &R,
@@ -140,14 +204,17 @@ pub(crate) fn before_and_after<L: Ledger + Naming, M: Ledger, R: Wait + Print + 
     other: &mut Reviewer<L>,
 ) -> Result<Review> {
     tell_seen(rt, "one", one)?;
-    let loaded = load_first(rt, office, desk)?;
-    learn(rt, "one", one, &loaded)?;
-    let old = review(rt, "one", one, "f")?;
-    let committed = add_one(rt, office, desk, "f")?;
-    look(rt, "the old review", &old, "f")?;
-    learn(rt, "one", one, &committed)?;
-    review(rt, "one", one, "f")?;
-    learn(rt, "one", one, &loaded)?;
-    review(rt, "other", other, "f")?;
-    Ok(old)
+    let (loaded, old) = load_and_learn(rt, office, desk, one)?;
+    let reviewed = match commit_and_learn(rt, office, desk, one, &old) {
+        Ok(()) => review_again(rt, one, other, &loaded),
+        Err(error) => Err(error),
+    };
+    drop(loaded);
+    match reviewed {
+        Ok(()) => Ok(old),
+        Err(error) => {
+            drop(old);
+            Err(error)
+        }
+    }
 }
