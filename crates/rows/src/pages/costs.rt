@@ -7,6 +7,7 @@ use crate::pages::long_name::LongName;
 use anyhow::Result;
 use sorted_pages::{Between, Change, Paged, are_rising, is_rising};
 use std::alloc::{AllocError, Global};
+use std::mem;
 use std::rt::Runtime;
 use std::time::Instant;
 
@@ -87,7 +88,8 @@ fn change(
     changes: &[Change<LongName>],
 ) -> Result<(), AllocError> {
     if are_rising(changes) {
-        *list = list.after(alloc, changes)?;
+        let after = list.after(alloc, changes)?;
+        drop(mem::replace(list, after));
     }
     Ok(())
 }

@@ -3,6 +3,7 @@
 use crate::pages::item::Item;
 use sorted_pages::{Change, Paged, are_rising, is_rising};
 use std::alloc::{AllocError, Global};
+use std::mem;
 
 /// Puts or removals of the keys from one number up to another.
 #[derive(Clone, Copy)]
@@ -46,7 +47,8 @@ pub(crate) fn change(
     changes: &[Change<Item>],
 ) -> Result<(), AllocError> {
     if are_rising(changes) {
-        *list = list.after(alloc, changes)?;
+        let after = list.after(alloc, changes)?;
+        drop(mem::replace(list, after));
     }
     Ok(())
 }

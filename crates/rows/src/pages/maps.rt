@@ -5,6 +5,7 @@ use anyhow::Result;
 use filing_pages::{Named, TextPages};
 use sorted_pages::{Change, are_rising, is_rising};
 use std::alloc::{AllocError, Global};
+use std::mem;
 
 /// A name, and the value that is put there, or none where it is removed.
 type Row = (&'static str, Option<u64>);
@@ -74,7 +75,8 @@ fn built(alloc: Global, entries: Vec<Named<u64>>) -> Result<TextPages<u64>, Allo
 
 /// Puts a value under a name.
 fn put(alloc: Global, map: &mut TextPages<u64>, name: &str, value: u64) -> Result<(), AllocError> {
-    *map = map.with(alloc, String::from_str(alloc, name)?, value)?;
+    let after = map.with(alloc, String::from_str(alloc, name)?, value)?;
+    drop(mem::replace(map, after));
     Ok(())
 }
 
@@ -107,7 +109,8 @@ fn change(
     changes: &[Change<Named<u64>>],
 ) -> Result<(), AllocError> {
     if are_rising(changes) {
-        *map = map.after(alloc, changes)?;
+        let after = map.after(alloc, changes)?;
+        drop(mem::replace(map, after));
     }
     Ok(())
 }

@@ -265,7 +265,7 @@ impl Versions {
 
     /// Takes the last version back.
     pub(crate) fn take_back(&mut self) {
-        self.all.pop();
+        drop(self.all.pop());
     }
 
     /// Appends the answer of the version with this number.
