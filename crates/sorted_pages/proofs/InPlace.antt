@@ -1,5 +1,5 @@
 -- One change made at its place.
-use Rattle.std.proofs.Common.{◌≡◌, ◌∙◌, ap, sym, subst, refl, Bool, true, false, cond, ◌&&◌, ◌||◌, T, not, ℕ, zero, suc, ◌+◌, ◌<◌, arith, List, [], ◌∷◌, ◌++◌, take, drop, length, get_or, Option, Some, Ordering, Less, Equal, Greater, is_lt}
+use Rattle.std.proofs.Common.{◌≡◌, ◌∙◌, ap, sym, subst, refl, Bool, true, false, cond, ◌&&◌, ◌||◌, T, not, ℕ, zero, suc, ◌+◌, ◌<◌, ◌≤◌, arith, List, [], ◌∷◌, ◌++◌, take, drop, length, get_or, Some, Result, Ok, Err, IfOk, Ordering, Less, Equal, Greater, is_lt}
 use Rattle.std.proofs.Math.Seq.{take-append_seam, drop-append_seam, drop-append-add}
 use Rattle.std.specs.Cmp.{IsTotalOrder}
 use Rattle.std.specs.List.{flat_map, insert, remove, list_all}
@@ -9,7 +9,7 @@ use Rattle.sorted_pages.specs.declared.change.Change.{Change}
 use Rattle.sorted_pages.specs.declared.change.Change.TheVariants.{Remove}
 use Rattle.sorted_pages.specs.Ranges.{IsMonotone, first_within}
 use Rattle.sorted_pages.specs.Sorted.{IsRising, is_below, AllBelow}
-use Rattle.sorted_pages.specs.Changes.{entry_of, entries_put, with_change, without_tied}
+use Rattle.sorted_pages.specs.Changes.{entry_of, entries_put, with_change, with_changes, without_tied}
 use Rattle.sorted_pages.specs.Edges.{ends_with, begins_with, first_passes, is_before_edge, is_none}
 use Rattle.sorted_pages.proofs.Edges.{first, second}
 use Rattle.sorted_pages.proofs.Flats.{flat_map-append}
@@ -177,3 +177,17 @@ module _ {E : Type 0} (R : E → E → Ordering) (o : IsTotalOrder R) where
         ∙ ap (with_change R d) (sym (flat_map-append v before (b ∷ rest)))
     changed_in d x before b b' rest false ex a t e =
         flat_map-append v before (b' ∷ rest) ∙ ap (λ es. flat_map v before ++ (es ++ flat_map v rest)) e ∙ sym (flat_map-append v before (b ∷ rest))
+
+-- a list of one item
+pub only : {X : Type 0} (xs : List X) (x : X) → 1 ≤ length xs → length xs < 2 → x ≡ get_or xs 0 x → xs ≡ x ∷ []
+only [] x h k e = absurd (omega (arith, h))
+only (y ∷ []) x h k e = ap (λ z. z ∷ []) (sym e)
+only (y ∷ z ∷ ys) x h k e = absurd (omega (arith, k))
+
+-- the list after one change, which was made in place or is made then
+pub completes : {E X : Type 0} (R : E → E → Ordering) (r : Result (List E) X) (made : Bool) (one : List (Change E)) (c : Change E) (list es old : List E)
+    → one ≡ c ∷ [] → es ≡ old → list ≡ cond made (with_change R c es) es
+    → IfOk r (λ p. p ≡ cond made list (with_changes R one list)) → IfOk r (λ p. p ≡ with_changes R one old)
+completes R (Ok p) true one c list es old eo ee el h = h ∙ el ∙ ap (with_change R c) ee ∙ ap (λ cs. with_changes R cs old) (sym eo)
+completes R (Ok p) false one c list es old eo ee el h = h ∙ ap (with_changes R one) (el ∙ ee)
+completes R (Err e) made one c list es old eo ee el h = tt

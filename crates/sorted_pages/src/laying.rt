@@ -220,6 +220,40 @@ pub(crate) fn lay_blocks<E: Entry, T: Changing<E>, U: Growing<E, Arc<Block<T>>>>
     Ok(grown)
 }
 
+/// Appends runs of the entries of one page with changes laid over them.
+fn push_runs<E: Entry, U: Growing<E, Run<E>>>(
+    alloc: Global,
+    entries: &[Leaf<E>],
+    changes: &[Change<E>],
+    grown: U,
+) -> Result<U, AllocError>
+    requires items { IsRising E.order (flat_map single entries.now) }
+    requires changes { IsRising E.order (map entry_of changes.now) }
+    ensures { IfOk result (λ laid. U.all laid
+        ≡ U.all grown ++ with_changes E.order changes.now (flat_map single entries.now)) }
+{
+    let pages: Tier<Page<E>, U> = begin(alloc, Layout::Halved, 2, grown)?;
+    let pages = lay_block(alloc, entries, changes, pages)?;
+    finish(pages)
+}
+
+/// Appends groups of the entries of one page with changes laid over them.
+fn push_groups<E: Entry, U: Growing<E, Group<E>>>(
+    alloc: Global,
+    entries: &[Leaf<E>],
+    changes: &[Change<E>],
+    grown: U,
+) -> Result<U, AllocError>
+    requires items { IsRising E.order (flat_map single entries.now) }
+    requires changes { IsRising E.order (map entry_of changes.now) }
+    ensures { IfOk result (λ laid. U.all laid
+        ≡ U.all grown ++ with_changes E.order changes.now (flat_map single entries.now)) }
+{
+    let runs: Tier<Run<E>, U> = begin(alloc, Layout::Halved, 1, grown)?;
+    let runs = push_runs(alloc, entries, changes, runs)?;
+    finish(runs)
+}
+
 /// Groups of the entries of one page with changes laid over them.
 pub(crate) fn lay_groups<E: Entry>(
     alloc: Global,
@@ -232,11 +266,7 @@ pub(crate) fn lay_groups<E: Entry>(
         ≡ with_changes E.order changes.now (flat_map single entries.now)) }
 {
     let groups: Vec<Group<E>> = Vec::new(alloc);
-    let runs: Tier<Run<E>, Vec<Group<E>>> = begin(alloc, Layout::Halved, 1, groups)?;
-    let pages: Tier<Page<E>, Tier<Run<E>, Vec<Group<E>>>> = begin(alloc, Layout::Halved, 2, runs)?;
-    let pages = lay_block(alloc, entries, changes, pages)?;
-    let runs = finish(pages)?;
-    finish(runs)
+    push_groups(alloc, entries, changes, groups)
 }
 
 /// Appends blocks of entries, one after another.

@@ -77,6 +77,104 @@ fn taken_at<E>(entries: Vec<Leaf<E>>, place: usize) -> (Vec<Leaf<E>>, E)
     (entries, taken.into_entry())
 }
 
+/// The list of entries that stand in place.
+fn short_of_sorted<E: Entry>(alloc: Global, entries: Vec<E>) -> Result<Paged<E>, AllocError>
+    requires rises { IsRising E.order entries.items }
+    requires few { length entries.items ≤ 64 }
+    ensures { IfOk result (λ p. p ≡ entries.items) }
+{
+    let room: Vec<Leaf<E>> = Vec::with_capacity(alloc, entries.len())?;
+    let entries = Leaf::fill(alloc, entries, room)?;
+    Ok(Paged::short(alloc, entries))
+}
+
+/// The list of entries that stand in groups.
+fn long_of_sorted<E: Entry>(alloc: Global, entries: Vec<E>) -> Result<Paged<E>, AllocError>
+    requires { IsRising E.order entries.items }
+    ensures { IfOk result (λ p. p ≡ entries.items) }
+{
+    let groups = fill_blocks::<E, Run<E>, Vec<Group<E>>>(alloc, entries, Vec::new(alloc))?;
+    Ok(Paged::long(alloc, groups))
+}
+
+/// The list after changes of one whose entries stand in place.
+fn short_after<E: Entry>(
+    alloc: Global,
+    entries: &[Leaf<E>],
+    changes: &[Change<E>],
+) -> Result<Paged<E>, AllocError>
+    requires entries { IsRising E.order (flat_map single entries.now) }
+    requires changes { IsRising E.order (map entry_of changes.now) }
+    ensures { IfOk result (λ p. p ≡ with_changes E.order changes.now (flat_map single entries.now)) }
+{
+    let most = entries.len().saturating_add(changes.len());
+    if most > E::most_in_page() {
+        return long_of_changed(alloc, entries, changes);
+    }
+    let grown: Vec<Leaf<E>> = Vec::with_capacity(alloc, most)?;
+    let entries = Leaf::lay(alloc, entries, changes, grown)?;
+    Ok(Paged::short(alloc, entries))
+}
+
+/// The same, for whose entries there is no room in place.
+fn long_of_changed<E: Entry>(
+    alloc: Global,
+    entries: &[Leaf<E>],
+    changes: &[Change<E>],
+) -> Result<Paged<E>, AllocError>
+    requires entries { IsRising E.order (flat_map single entries.now) }
+    requires changes { IsRising E.order (map entry_of changes.now) }
+    ensures { IfOk result (λ p. p ≡ with_changes E.order changes.now (flat_map single entries.now)) }
+{
+    let groups = lay_groups(alloc, entries, changes)?;
+    Ok(Paged::long(alloc, groups))
+}
+
+/// The list after changes of one whose entries stand in groups.
+fn long_after<E: Entry>(
+    alloc: Global,
+    groups: &[Group<E>],
+    changes: &[Change<E>],
+) -> Result<Paged<E>, AllocError>
+    requires entries { IsRising E.order (flat_map of_group groups.now) }
+    requires changes { IsRising E.order (map entry_of changes.now) }
+    ensures { IfOk result (λ p. p ≡ with_changes E.order changes.now (flat_map of_group groups.now)) }
+{
+    let room = groups.len().saturating_add(1);
+    let grown = Vec::with_capacity(alloc, room)?;
+    let groups = lay_blocks(alloc, groups, changes, grown)?;
+    Ok(Paged::long(alloc, groups))
+}
+
+/// The list after a change of entries that stand in place, where it can be made there, and whether it was.
+fn short_changed<E: Entry>(
+    alloc: Global,
+    entries: Vec<Leaf<E>>,
+    change: &Change<E>,
+) -> Result<(Paged<E>, bool), AllocError>
+    requires rises { IsRising E.order (flat_map single entries.items) }
+    requires few { length entries.items ≤ 64 }
+    ensures { IfOk result (λ r. r.0 ≡ (if r.1 then with_change E.order change.now (flat_map single entries.items)
+        else flat_map single entries.items)) }
+{
+    let (entries, is_made) = Leaf::change(alloc, entries, change)?;
+    Ok((Paged::short(alloc, entries), is_made))
+}
+
+/// The same of entries that stand in groups.
+fn long_changed<E: Entry>(
+    alloc: Global,
+    groups: Vec<Group<E>>,
+    change: &Change<E>,
+) -> Result<(Paged<E>, bool), AllocError>
+    requires { IsRising E.order (flat_map of_group groups.items) }
+    ensures { IfOk result (λ r. r.0 ≡ (if r.1 then with_change E.order change.now (flat_map of_group groups.items)
+        else flat_map of_group groups.items)) }
+{
+    let (groups, is_made) = Group::change(alloc, groups, change)?;
+    Ok((Paged::long(alloc, groups), is_made))
+}
+
 impl<E: Entry> Paged<E> {
     /// The list of no entry. It takes no memory.
     pub fn new(alloc: Global) -> Paged<E>
@@ -117,12 +215,10 @@ impl<E: Entry> Paged<E> {
         ensures { IfOk result (λ p. p ≡ entries.items) }
     {
         if entries.len() <= E::most_in_page() {
-            let room: Vec<Leaf<E>> = Vec::with_capacity(alloc, entries.len())?;
-            let entries = Leaf::fill(alloc, entries, room)?;
-            return Ok(Paged::short(alloc, entries));
+            short_of_sorted(alloc, entries)
+        } else {
+            long_of_sorted(alloc, entries)
         }
-        let groups = fill_blocks::<E, Run<E>, Vec<Group<E>>>(alloc, entries, Vec::new(alloc))?;
-        Ok(Paged::long(alloc, groups))
     }
 
     /// A copy with changes whose entries rise. This list stays as it is.
@@ -130,20 +226,11 @@ impl<E: Entry> Paged<E> {
         requires { IsRising E.order (map entry_of changes.now) }
         ensures { IfOk result (λ p. p ≡ with_changes E.order changes.now self.now) }
     {
-        if !self.groups.is_empty() {
-            let room = self.groups.len().saturating_add(1);
-            let grown = Vec::with_capacity(alloc, room)?;
-            let groups = lay_blocks(alloc, &self.groups, changes, grown)?;
-            return Ok(Paged::long(alloc, groups));
+        if self.groups.is_empty() {
+            short_after(alloc, &self.entries, changes)
+        } else {
+            long_after(alloc, &self.groups, changes)
         }
-        let most = self.entries.len().saturating_add(changes.len());
-        if most > E::most_in_page() {
-            let groups = lay_groups(alloc, &self.entries, changes)?;
-            return Ok(Paged::long(alloc, groups));
-        }
-        let grown: Vec<Leaf<E>> = Vec::with_capacity(alloc, most)?;
-        let entries = Leaf::lay(alloc, &self.entries, changes, grown)?;
-        Ok(Paged::short(alloc, entries))
     }
 
     /// This list where a change is made already, and else the list after it.
@@ -157,10 +244,11 @@ impl<E: Entry> Paged<E> {
         ensures { IfOk result (λ p. p ≡ (if is_made then self else with_changes E.order one.now self)) }
     {
         if is_made {
-            Ok(self)
-        } else {
-            self.after(alloc, one)
+            return Ok(self);
         }
+        let after = self.after(alloc, one);
+        drop(self);
+        after
     }
 
     /// The list after one change, in place where no other list holds what it changes and there is room.
@@ -169,15 +257,17 @@ impl<E: Entry> Paged<E> {
         ensures { IfOk result (λ p. p ≡ with_changes E.order one.now self) }
     {
         let [change] = one else {
-            return self.after(alloc, one);
+            return self.completed(alloc, one, false);
         };
         let Paged { entries, groups } = self;
         if groups.is_empty() {
-            let (entries, is_made) = Leaf::change(alloc, entries, change)?;
-            return Paged::short(alloc, entries).completed(alloc, one, is_made);
+            drop(groups);
+            let (list, is_made) = short_changed(alloc, entries, change)?;
+            return list.completed(alloc, one, is_made);
         }
-        let (groups, is_made) = Group::change(alloc, groups, change)?;
-        Paged::long(alloc, groups).completed(alloc, one, is_made)
+        drop(entries);
+        let (list, is_made) = long_changed(alloc, groups, change)?;
+        list.completed(alloc, one, is_made)
     }
 
     /// The list after changes whose entries rise, in place where no other list holds what they change and there is room. Many changes take as long as so many single ones.

@@ -1,7 +1,6 @@
 use Rattle.std.proofs.Common.{◌≡◌, ◌∙◌, ◌<◌, ◌++◌, ◌∷◌, ap, sym, subst, refl, arith, drop, length, get_or, cond}
 use Rattle.std.specs.List.{flat_map}
 use Rattle.sorted_pages.specs.Pages.{held}
-use Rattle.sorted_pages.specs.Sorted.{IsRising}
 use Rattle.sorted_pages.specs.Changes.{with_change}
 use Rattle.sorted_pages.proofs.Steps.{rising_parts}
 use Rattle.sorted_pages.proofs.Flats.{flat_map-append}

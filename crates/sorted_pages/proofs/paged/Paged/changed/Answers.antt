@@ -1,20 +1,35 @@
-use Rattle.std.proofs.Common.{◌≡◌, ◌<◌, ◌∙◌, ap, sym, subst, arith, length, true-eqb, false-eqb}
+use Rattle.std.proofs.Common.{◌≡◌, ◌<◌, ◌∙◌, sym, arith, length, true-eqb, false-eqb}
 use Rattle.std.specs.List.{flat_map}
 use Rattle.sorted_pages.specs.Pages.{of_group, single}
-use Rattle.sorted_pages.proofs.Shorts.{rises_long, rises_short}
-use Rattle.sorted_pages.proofs.InPlace.{rises_made}
+use Rattle.sorted_pages.proofs.InPlace.{completes, only}
+use Rattle.sorted_pages.proofs.Shorts.{of_long, of_short, rises_long, rises_short}
 use Rattle.sorted_pages.proofs.paged.Paged.changed.Goals as goal
 
-pub short-requires-clause-rises : goal.short-requires-clause-rises
-short-requires-clause-rises g c =
+pub short_changed-requires-clause-rises : goal.short_changed-requires-clause-rises
+short_changed-requires-clause-rises g c =
     let none : length c.self.inside.groups.items ≡ 0 = omega (arith, true-eqb _ 0 c.if-is_empty.ensures, c.self.inside.groups.ok.0) in
-    rises_made g.E.Entry.order g.met.E.Entry.is_total c.change-item.result (flat_map single c.self.inside.entries.items) _ c.in_ok-entries.is_made
-    c.in_ok-entries.ensures.entries
-    (rises_short g.E.Entry.order c.self.inside.entries.items c.self.inside.groups.items c.self.invariant none)
+    rises_short g.E.Entry.order c.self.inside.entries.items c.self.inside.groups.items c.self.invariant none
 
-pub long-requires : goal.long-requires
-long-requires g c =
+pub short_changed-requires-clause-few : goal.short_changed-requires-clause-few
+short_changed-requires-clause-few g c = c.self.invariant.few
+
+pub long_changed-requires : goal.long_changed-requires
+long_changed-requires g c =
     let some : 0 < length c.self.inside.groups.items = omega (arith, false-eqb _ 0 c.if-is_empty.ensures, c.self.inside.groups.ok.0) in
-    rises_made g.E.Entry.order g.met.E.Entry.is_total c.change-item.result (flat_map of_group c.self.inside.groups.items) _ c.in_ok-groups.is_made
-    c.in_ok-groups.ensures.entries
-    (rises_long g.E.Entry.order c.self.inside.entries.items c.self.inside.groups.items c.self.invariant some)
+    rises_long g.E.Entry.order c.self.inside.entries.items c.self.inside.groups.items c.self.invariant some
+
+pub returns-then-is_empty : goal.returns-then-is_empty
+returns-then-is_empty g c =
+    let none : length c.self.inside.groups.items ≡ 0 = omega (arith, true-eqb _ 0 c.if-is_empty.ensures, c.self.inside.groups.ok.0) in
+    completes g.E.Entry.order c.completed-then-is_empty.result c.in_ok-list.is_made c.args.one.now c.change-item.result c.in_ok-list.list (flat_map single c.self.inside.entries.items) c.args.self
+    (only c.args.one.now c.change-item.result c.in-len1.len_at_least c.in-len1.len_below c.change-item.is)
+    (sym (of_short g.E.Entry.order c.self.inside.entries.items c.self.inside.groups.items none) ∙ c.self.view_is)
+    c.in_ok-list.ensures c.completed-then-is_empty.ensures
+
+pub returns : goal.returns
+returns g c =
+    let some : 0 < length c.self.inside.groups.items = omega (arith, false-eqb _ 0 c.if-is_empty.ensures, c.self.inside.groups.ok.0) in
+    completes g.E.Entry.order c.completed-2.result c.in_ok-list-2.is_made c.args.one.now c.change-item.result c.in_ok-list-2.list (flat_map of_group c.self.inside.groups.items) c.args.self
+    (only c.args.one.now c.change-item.result c.in-len1.len_at_least c.in-len1.len_below c.change-item.is)
+    (sym (of_long g.E.Entry.order c.self.inside.entries.items c.self.inside.groups.items c.self.invariant some) ∙ c.self.view_is)
+    c.in_ok-list-2.ensures c.completed-2.ensures

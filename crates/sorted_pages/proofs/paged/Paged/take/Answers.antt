@@ -1,4 +1,4 @@
-use Rattle.std.proofs.Common.{◌≡◌, ◌∙◌, ◌<◌, ◌++◌, ◌∷◌, [], ap, sym, subst, refl, arith, drop, length, get_or, true, List}
+use Rattle.std.proofs.Common.{◌≡◌, ◌∙◌, ◌<◌, ◌++◌, ◌∷◌, [], ap, sym, subst, refl, arith, drop, length, get_or, true}
 use Rattle.std.specs.Ordering.{is_eq}
 use Rattle.sorted_pages.specs.declared.change.Change.TheVariants.{Remove}
 use Rattle.sorted_pages.specs.Changes.{with_change}
