@@ -32,15 +32,6 @@ impl Model for Held {
 }
 
 impl Held {
-    /// A fact by itself.
-    pub fn of(alloc: Global, fact: Arc<Fact>) -> Result<Held, AllocError>
-        ensures { IfOk result (λ h. h ≡ arc_value fact) }
-    {
-        let keys = Arc::new(alloc, Keys::of(alloc, &fact.dims)?)?;
-        let cell = code_of_dims(&fact.dims);
-        Ok(Held { fact, cell, keys })
-    }
-
     /// A fact among others, which shares what it has in common with those before it.
     pub fn among(alloc: Global, keyring: &mut Keyring, fact: Arc<Fact>) -> Result<Held, AllocError>
         ensures { IfOk result (λ h. h ≡ arc_value fact) }
