@@ -1,6 +1,6 @@
 //! The facts of a report as JSON says them.
 
-ghost use Rattle.std.specs.Prelude.{◌≡◌, T, codes, Option, option_map, string_bytes, IfOk, IsTrue, is_some, unwrap_or};
+ghost use Rattle.std.specs.Prelude.{◌≡◌, [], T, codes, Option, option_map, string_bytes, IfOk, IsTrue, OnOk, is_some, unwrap_or};
 ghost use Rattle.std.specs.Arc.{arc_value};
 ghost use Rattle.std.specs.FinMap.Entries.{is_sorted};
 ghost use Rattle.serde_json.specs.Find.{get};
@@ -30,6 +30,7 @@ use filing_model::Trouble;
 use oim_fact::{Fact, Names, RawFact, fit};
 use serde_json::{Map, Value};
 use std::alloc::Global;
+use std::collections::btree_map::IntoIter;
 use std::sync::Arc;
 
 /// The fault that a fact's trouble is: want of memory is the report's own.
@@ -93,6 +94,25 @@ fn entry_copied(
     entry(alloc, names, id.clone()?, value.clone()?)
 }
 
+/// Takes the facts that these members are, each under its identifier, into a list that has none.
+fn take_facts(
+    alloc: Global,
+    names: &Names,
+    members: &mut IntoIter<String, Value>,
+    facts: &mut Vec<(String, Arc<Fact>)>,
+) -> Result<(), ReportFault>
+    requires { facts.old.items ≡ [] }
+    ensures facts { Gives report_fault (λ _. facts_view facts.new.items) result
+        (each (entry_of names.now) (pairs (members_view members.old))) }
+    ensures fitted { OnOk result (AreFitted names.now (facts_view facts.new.items)) }
+{
+    facts.reserve(members.len())?;
+    for (id, value) in members {
+        facts.push(entry(alloc, names, id, value)?)?;
+    }
+    Ok(())
+}
+
 /// The facts that these members are, each under its identifier.
 fn facts_in(
     alloc: Global,
@@ -104,11 +124,17 @@ fn facts_in(
     ensures rise { IfOk result (λ v. T (is_sorted text_cmp (facts_view v.items))) }
     ensures fitted { IfOk result (λ v. AreFitted names.now (facts_view v.items)) }
 {
-    let mut facts = Vec::with_capacity(alloc, members.len())?;
-    for (id, value) in members {
-        facts.push(entry(alloc, names, id, value)?)?;
+    let mut facts = Vec::new(alloc);
+    let mut members = members.into_iter();
+    let taken = take_facts(alloc, names, &mut members, &mut facts);
+    drop(members);
+    match taken {
+        Ok(()) => Ok(facts),
+        Err(fault) => {
+            drop(facts);
+            Err(fault)
+        }
     }
-    Ok(facts)
 }
 
 /// The facts of a report, out of its member `facts`, in byte order of their identifiers.

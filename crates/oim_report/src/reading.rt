@@ -1,6 +1,6 @@
 //! Whole reports as JSON says them.
 
-ghost use Rattle.std.specs.Prelude.{◌≡◌, T, codes, Option, option_map, IfOk};
+ghost use Rattle.std.specs.Prelude.{◌≡◌, T, codes, Option, option_map, IfErr, IfOk, Err, Ok};
 ghost use Rattle.std.specs.FinMap.Entries.{is_sorted};
 ghost use Rattle.std.specs.Arc.{arc_value};
 ghost use Rattle.serde_json.specs.Find.{get};
@@ -116,6 +116,27 @@ fn assembled(declared: Declared, facts: Vec<(String, Arc<Fact>)>) -> Report
     })
 }
 
+/// The report of what it says of itself and of its facts, or the fault for which they were not read.
+fn with_facts_read(
+    declared: Declared,
+    facts: Result<Vec<(String, Arc<Fact>)>, ReportFault>,
+) -> Result<Report, ReportFault>
+    requires info { IsInfo declared.info declared.names.prefixes declared.allowed }
+    requires rise { IfOk facts (λ v. T (is_sorted text_cmp (facts_view v.items))) }
+    requires fitted { IfOk facts (λ v. AreFitted declared.names (facts_view v.items)) }
+    ensures ok { IfOk facts (λ v. result ≡ Ok (of_declared declared (from_entries (facts_view v.items)))) }
+    ensures err { IfErr facts (λ fault. result ≡ Err fault) }
+    ensures readable { IfOk result IsReadable }
+{
+    match facts {
+        Ok(facts) => Ok(assembled(declared, facts)),
+        Err(fault) => {
+            drop(declared);
+            Err(fault)
+        }
+    }
+}
+
 /// The report of these members: each part of them is dropped as soon as it is read.
 fn report_of_members(
     alloc: Global,
@@ -127,9 +148,20 @@ fn report_of_members(
         (option_map view members.document_info) (option_map view members.facts)) }
     ensures readable { IfOk result IsReadable }
 {
-    let declared = declaration(alloc, members.document_info, table)?;
-    let facts = facts(alloc, &declared.names, members.facts)?;
-    Ok(assembled(declared, facts))
+    let TopMembers {
+        document_info,
+        facts: stated,
+    } = members;
+    match declaration(alloc, document_info, table) {
+        Ok(declared) => {
+            let facts = facts(alloc, &declared.names, stated);
+            with_facts_read(declared, facts)
+        }
+        Err(fault) => {
+            drop(stated);
+            Err(fault)
+        }
+    }
 }
 
 /// As `report_of`, of a value that is given up: the texts of the report move out of it.
@@ -158,8 +190,23 @@ pub fn report_of(
 {
     let document_info = copy_at(value, "documentInfo")?;
     let declared = declaration(alloc, document_info, table)?;
-    let facts = facts_at(alloc, &declared.names, value)?;
-    Ok(assembled(declared, facts))
+    let facts = facts_at(alloc, &declared.names, value);
+    with_facts_read(declared, facts)
+}
+
+/// What a report declares, of a value whose texts are those that were read.
+fn declaration_in_text(
+    alloc: Global,
+    value: &json::Value<'_>,
+    table: &Arc<NumericTable>,
+) -> Result<Declared, ReportFault>
+    requires { IsInRange value.now }
+    ensures declared { Gives report_fault same result
+        (declared_by (arc_value table.now) (get (codes "documentInfo") (data_of value.now))) }
+    ensures info { IfOk result (λ d. IsInfo d.info d.names.prefixes d.allowed) }
+{
+    let document_info = owned_at(alloc, value, "documentInfo")?;
+    declaration(alloc, document_info, table)
 }
 
 /// As `report_from`, of a value whose texts are those that were read: each that the report keeps is copied once.
@@ -174,10 +221,16 @@ pub fn report_in_text(
         (report_of (arc_value table.now) (data_of value.entry)) }
     ensures readable { IfOk result IsReadable }
 {
-    let document_info = owned_at(alloc, &value, "documentInfo")?;
-    let declared = declaration(alloc, document_info, table)?;
-    let facts = facts_in_text(alloc, &declared.names, value)?;
-    Ok(assembled(declared, facts))
+    match declaration_in_text(alloc, &value, table) {
+        Ok(declared) => {
+            let facts = facts_in_text(alloc, &declared.names, value);
+            with_facts_read(declared, facts)
+        }
+        Err(fault) => {
+            drop(value);
+            Err(fault)
+        }
+    }
 }
 
 /// The report that a text is, after one byte order mark, or the first fault: no JSON, or as `report_of`.

@@ -6,11 +6,11 @@ use Rattle.filing_model.specs.ReadReport.{entry_of}
 use Rattle.oim_report.specs.Parts.{fact_view, facts_view}
 use Rattle.oim_report.specs.Readable.{AreFitted}
 use Rattle.oim_report.proofs.EachMember.{read_on}
-use Rattle.oim_report.proofs.facts.facts_in.Given as goal
+use Rattle.oim_report.proofs.facts.take_facts.Given as goal
 
 -- what was read, with what is left
 abbrev pub invariant-loop-id : goal.invariant-loop-id
 invariant-loop-id l = record {
-  read : read_on fact_view (entry_of l.names) l.facts.items l.id-iterator ≡ each (entry_of l.names) (pairs (members_view l.fn.members.entries));
+  read : read_on fact_view (entry_of l.names) l.facts.items l.id-iterator ≡ each (entry_of l.names) (pairs (members_view l.initial.id-iterator));
   fitted : AreFitted l.names (facts_view l.facts.items);
 }
