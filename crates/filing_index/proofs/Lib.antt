@@ -6,6 +6,7 @@ pub mod FoundAfter
 pub mod MovedFacts
 pub mod PushedMoves
 pub mod IndexesOfLists
+pub mod KeptOrders
 -- ---- what an index shows, and the cells that are not allowed
 pub mod KeptElements
 pub mod WantedCodes

@@ -11,7 +11,7 @@ ghost use Rattle.filing_index.specs.Moved.{moves_in, AreMoves};
 ghost use Rattle.std.specs.Arc.{arc_value};
 
 use crate::coded::Coded;
-use crate::indexing::{changes_by_id, index_after, index_into_after, index_of};
+use crate::indexing::{beside, ids_after, ids_into_after, index_after, index_into_after, index_of};
 use crate::moves::Move;
 use crate::order::Order;
 use filing_pages::{Held, Named, Range, TextPages};
@@ -164,11 +164,19 @@ impl Facts {
         ensures { IfOk result (λ after. (changes : TextMap (Option PlainFact))
             → moves.now ≡ moves_in changes.entries self.now → after ≡ with_changes changes.entries self.now) }
     {
-        let changes = changes_by_id(alloc, moves)?;
-        let by_id = self.by_id.after(alloc, &changes)?;
-        let by_cell = index_after(alloc, Order::Cell, &self.by_cell, moves)?;
-        let by_period = index_after(alloc, Order::Period, &self.by_period, moves)?;
-        let by_concept = index_after(alloc, Order::Concept, &self.by_concept, moves)?;
+        let by_id = ids_after(alloc, &self.by_id, moves)?;
+        let (by_cell, by_id) = beside(
+            index_after(alloc, Order::Cell, &self.by_cell, moves),
+            by_id,
+        )?;
+        let (by_period, (by_cell, by_id)) = beside(
+            index_after(alloc, Order::Period, &self.by_period, moves),
+            (by_cell, by_id),
+        )?;
+        let (by_concept, (by_period, by_cell, by_id)) = beside(
+            index_after(alloc, Order::Concept, &self.by_concept, moves),
+            (by_period, by_cell, by_id),
+        )?;
         Ok(Facts {
             by_id,
             by_cell,
@@ -189,11 +197,22 @@ impl Facts {
             by_period,
             by_concept,
         } = self;
-        let changes = changes_by_id(alloc, moves)?;
-        let by_id = by_id.into_after(alloc, &changes)?;
-        let by_cell = index_into_after(alloc, Order::Cell, by_cell, moves)?;
-        let by_period = index_into_after(alloc, Order::Period, by_period, moves)?;
-        let by_concept = index_into_after(alloc, Order::Concept, by_concept, moves)?;
+        let (by_id, (by_cell, by_period, by_concept)) = beside(
+            ids_into_after(alloc, by_id, moves),
+            (by_cell, by_period, by_concept),
+        )?;
+        let (by_cell, (by_id, by_period, by_concept)) = beside(
+            index_into_after(alloc, Order::Cell, by_cell, moves),
+            (by_id, by_period, by_concept),
+        )?;
+        let (by_period, (by_id, by_cell, by_concept)) = beside(
+            index_into_after(alloc, Order::Period, by_period, moves),
+            (by_id, by_cell, by_concept),
+        )?;
+        let (by_concept, (by_id, by_cell, by_period)) = beside(
+            index_into_after(alloc, Order::Concept, by_concept, moves),
+            (by_id, by_cell, by_period),
+        )?;
         Ok(Facts {
             by_id,
             by_cell,

@@ -7,7 +7,10 @@ use Rattle.filing_index.proofs.facts.Facts.push_move.Goals.{then-is_some-via-the
 pub returns-in_ok-push : goal.returns-in_ok-push
 returns-in_ok-push c =
     let some : is_some c.in_ok-old.old ≡ false → is_some c.in_ok-new.new ≡ true =
-    λ none. elim c.then-is_some.branch [ then-is_some-via-then-is_some w ↦ absurd (true≢false (w.if-is_some.ensures ∙ none)) | then-is_some-via-else-is_some+then-is_some-2 w ↦ sym w.if-is_some-2.ensures ] in
+    λ none. elim c.then-is_some.branch [
+      | then-is_some-via-then-is_some w ↦ absurd (true≢false (w.if-is_some.ensures ∙ none))
+      | then-is_some-via-else-is_some+then-is_some-2 w ↦ sym w.if-is_some-2.ensures
+    ] in
     c.in_ok-push.ensures.items
     ∙ ap (λ moved. c.args.moves.now.items ++ moved)
     (pushed c.args.change.now.0 (get c.args.self.now c.args.change.now.0) c.args.change.now.1 c.in_ok-old.old c.in_ok-new.new c.of.result
