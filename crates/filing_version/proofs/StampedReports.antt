@@ -111,7 +111,7 @@ pub record LaysTheRest (number : ℕ) (all : List (Text × ReportChange)) (first
   pub up_to : (t : Thing) → stamp_at so_far t ≤ number
 
 -- one that is there
-pub lays_one : (number : ℕ) (all : List (Text × ReportChange)) (first : TextMap Filed) (e : Text × ReportChange) (es : List (Text × ReportChange)) (m : TextMap Filed) (f : Filed)
+lays_one : (number : ℕ) (all : List (Text × ReportChange)) (first : TextMap Filed) (e : Text × ReportChange) (es : List (Text × ReportChange)) (m : TextMap Filed) (f : Filed)
     → get m e.0 ≡ Some f → LaysTheRest number all first (e ∷ es) m → LaysTheRest number all first es (insert m e.0 (changed_filed number e.1 f))
 lays_one number all first e es m f held h = record {
   same = sym (ap (λ o. filed_after number es (option_map_or (λ f. insert m e.0 (changed_filed number e.1 f)) o m)) held) ∙ h.same;
@@ -135,12 +135,25 @@ lays_one number all first e es m f held h = record {
     by t false other = h.up_to t
 
 -- one that is not
-pub lays_none : (number : ℕ) (all : List (Text × ReportChange)) (first : TextMap Filed) (e : Text × ReportChange) (es : List (Text × ReportChange)) (m : TextMap Filed)
+lays_none : (number : ℕ) (all : List (Text × ReportChange)) (first : TextMap Filed) (e : Text × ReportChange) (es : List (Text × ReportChange)) (m : TextMap Filed)
     → get m e.0 ≡ None → LaysTheRest number all first (e ∷ es) m → LaysTheRest number all first es m
 lays_none number all first e es m none h = record {
   same = sym (ap (λ o. filed_after number es (option_map_or (λ f. insert m e.0 (changed_filed number e.1 f)) o m)) none) ∙ h.same;
   up_to = h.up_to;
 }
+
+-- either
+pub lays_next : (number : ℕ) (all : List (Text × ReportChange)) (first : TextMap Filed) (e : Text × ReportChange) (es : List (Text × ReportChange)) (m next : TextMap Filed)
+    → next ≡ filed_after number (e ∷ []) m → LaysTheRest number all first (e ∷ es) m → LaysTheRest number all first es next
+lays_next number all first e es m next is h = subst (LaysTheRest number all first es) (sym is) (by (get m e.0) refl)
+  where
+    by : (o : Option Filed) → get m e.0 ≡ o → LaysTheRest number all first es (option_map_or (λ f. insert m e.0 (changed_filed number e.1 f)) (get m e.0) m)
+    by None none =
+        subst (λ o. LaysTheRest number all first es (option_map_or (λ f. insert m e.0 (changed_filed number e.1 f)) o m)) (sym none)
+        (lays_none number all first e es m none h)
+    by (Some f) held =
+        subst (λ o. LaysTheRest number all first es (option_map_or (λ f. insert m e.0 (changed_filed number e.1 f)) o m)) (sym held)
+        (lays_one number all first e es m f held h)
 
 -- ---- the first disallowed cell
 

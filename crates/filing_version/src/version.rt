@@ -1,12 +1,12 @@
 //! `RepoVersion`: one unchanging state of the repository.
-ghost use Rattle.std.specs.Prelude.{◌≡◌, ◌+◌, ◌<◌, ◌^◌, None, true, Option, option_map, option_and_then, string_bytes, IfOk};
+ghost use Rattle.std.specs.Prelude.{◌≡◌, ◌+◌, ◌<◌, ◌^◌, [], ◌∷◌, None, Ok, true, Option, option_map, option_and_then, string_bytes, unwrap_or, IfOk};
 ghost use Rattle.std.specs.Arc.{arc_value};
 ghost use Rattle.filing_model.specs.Text.{Text};
-ghost use Rattle.filing_model.specs.TextMap.{get as value_at};
+ghost use Rattle.filing_model.specs.TextMap.{get as value_at, insert};
 ghost use Rattle.filing_model.specs.Repository.{Repository, report_at, fact_in, with_report_at};
 ghost use Rattle.filing_model.specs.Things as thing;
 ghost use Rattle.filing_model.specs.Stamps.{first_version, version_after, version_with};
-ghost use Rattle.filing_model.specs.Changes.{after_change, changed_at, first_disallowed, laid_over};
+ghost use Rattle.filing_model.specs.Changes.{after_change, changed, changed_at, first_disallowed, laid_over};
 ghost use Rattle.filing_model.specs.Duplicates.{class_of, least_disallowed};
 ghost use Rattle.filing_model.specs.Queries.{cell_facts, cell_ids, ids_for};
 ghost use Rattle.filing_model.specs.Sessions.{repository_obeys, refusal_of};
@@ -14,6 +14,7 @@ ghost use Rattle.filing_laws.specs.NetChange.{refusal_at};
 ghost use Rattle.filing_index.specs.Wanted.{asked_of};
 ghost use Rattle.filing_version.specs.Found.{got_of};
 ghost use Rattle.filing_version.specs.Filed.{StampedReport, KeepsItsStamps, version_in, repository_in};
+ghost use Rattle.filing_version.specs.Filed.{mapped, filed_of, filed_after, IsStampedUpTo};
 
 use crate::change::Change;
 use crate::changed_report::ChangedReport;
@@ -43,6 +44,83 @@ impl Model for RepoVersion {
     ghost view = { λ v. record { number = v.number; reports = v.reports } };
 
     ghost invariant = { λ v. IsStampedUpTo v.number (mapped filed_of v.reports) };
+}
+
+/// A report under its name with a change laid over it, in place where no other version holds what changes.
+fn changed_entry(
+    alloc: Global,
+    name: String,
+    filed: FiledReport,
+    change: &ChangedReport,
+) -> Result<Named<FiledReport>, AllocError>
+    ensures name { IfOk result (λ n. n.0 ≡ string_bytes name) }
+    ensures report { IfOk result (λ n. filed_of n.1
+        ≡ record (filed_of filed) { report = changed change.now filed.report }) }
+{
+    let changed = filed.into_with_change(alloc, change)?;
+    Named::new(alloc, name, changed)
+}
+
+/// The reports with an entry, where it could be made.
+fn with_entry(
+    alloc: Global,
+    reports: TextPages<FiledReport>,
+    entry: Result<Named<FiledReport>, AllocError>,
+) -> Result<TextPages<FiledReport>, AllocError>
+    ensures { IfOk result (λ next. (made : Text × StampedReport) × (entry ≡ Ok made)
+        × (next ≡ insert reports made.0 made.1)) }
+{
+    match entry {
+        Ok(entry) => reports.put_back(alloc, entry),
+        Err(error) => {
+            drop(reports);
+            Err(error)
+        }
+    }
+}
+
+/// The reports with the change of one of them laid over it, stamped with this number; none where it is not there.
+fn with_stamped_part(
+    alloc: Global,
+    reports: &TextPages<FiledReport>,
+    part: &Named<ChangedReport>,
+    number: u64,
+) -> Result<Option<TextPages<FiledReport>>, AllocError>
+    requires { IsStampedUpTo number (mapped filed_of reports.now) }
+    ensures { IfOk result (λ o. unwrap_or (option_map (mapped filed_of) o) (mapped filed_of reports.now)
+        ≡ filed_after number (part.now ∷ []) (mapped filed_of reports.now)) }
+{
+    let Some(filed) = reports.get(part.name()) else {
+        return Ok(None);
+    };
+    let name = String::from_str(alloc, part.name())?;
+    let next = filed.after(alloc, part.value(), number)?;
+    let reports = reports.with(alloc, name, next)?;
+    Ok(Some(reports))
+}
+
+/// The same in the place of these reports, which stay where it is not there.
+fn into_stamped_part(
+    alloc: Global,
+    reports: TextPages<FiledReport>,
+    part: &Named<ChangedReport>,
+    number: u64,
+) -> Result<TextPages<FiledReport>, AllocError>
+    requires { IsStampedUpTo number (mapped filed_of reports) }
+    ensures { IfOk result (λ next. mapped filed_of next
+        ≡ filed_after number (part.now ∷ []) (mapped filed_of reports)) }
+{
+    match with_stamped_part(alloc, &reports, part, number) {
+        Ok(None) => Ok(reports),
+        Ok(Some(next)) => {
+            drop(reports);
+            Ok(next)
+        }
+        Err(error) => {
+            drop(reports);
+            Err(error)
+        }
+    }
 }
 
 #[tactic(auto, using(crate::proofs::StampedReports::reported))]
@@ -137,11 +215,7 @@ impl RepoVersion {
         let number = self.number + 1;
         let mut reports = self.reports.share(alloc)?;
         for part in change.reports() {
-            if let Some(filed) = reports.get(part.name()) {
-                let name = String::from_str(alloc, part.name())?;
-                let next = filed.after(alloc, part.value(), number)?;
-                reports = reports.with(alloc, name, next)?;
-            }
+            reports = into_stamped_part(alloc, reports, part, number)?;
         }
         Ok(RepoVersion { number, reports })
     }
@@ -194,15 +268,14 @@ impl RepoVersion {
     fn with_filed(
         &self,
         alloc: Global,
-        name: &str,
+        name: String,
         filed: FiledReport,
     ) -> Result<RepoVersion, AllocError>
-        requires { (old : StampedReport) × KeepsItsStamps self.now.reports name.now old filed }
+        requires { (old : StampedReport) × KeepsItsStamps self.now.reports (string_bytes name) old filed }
         ensures { IfOk result (λ v. version_in v ≡ record (version_in self.now) {
-          repository = with_report_at (repository_in self.now) name.now filed.report;
+          repository = with_report_at (repository_in self.now) (string_bytes name) filed.report;
         }) }
     {
-        let name = String::from_str(alloc, name)?;
         let reports = self.reports.with(alloc, name, filed)?;
         Ok(RepoVersion {
             number: self.number,
@@ -222,8 +295,9 @@ impl RepoVersion {
         let Some(filed) = self.reports.get(part.name()) else {
             return self.again(alloc);
         };
+        let name = String::from_str(alloc, part.name())?;
         let changed = filed.with_change(alloc, part.value(), self.number)?;
-        self.with_filed(alloc, part.name(), changed)
+        self.with_filed(alloc, name, changed)
     }
 
     /// The version with a change laid over it, but for reports that are not there. Its number and its stamps stay: it is what a session makes of the version of its opening, and no version that was accepted.
@@ -233,6 +307,20 @@ impl RepoVersion {
     {
         let version = self.again(alloc)?;
         version.into_with_change(alloc, change)
+    }
+
+    /// The version as `with_part` has it, in the place of this one, which is let go.
+    fn into_with_copied_part(
+        self,
+        alloc: Global,
+        part: &Named<ChangedReport>,
+    ) -> Result<RepoVersion, AllocError>
+        ensures { IfOk result (λ v. version_in v
+            ≡ record (version_in self) { repository = changed_at (repository_in self) part.now }) }
+    {
+        let next = self.with_part(alloc, part);
+        drop(self);
+        next
     }
 
     /// The version with the change of one report laid over it, in place where no other version holds what changes.
@@ -248,18 +336,18 @@ impl RepoVersion {
         let (reports, taken) = reports.take(alloc, part.name());
         let Some(named) = taken else {
             let same = RepoVersion { number, reports };
-            return same.with_part(alloc, part);
+            return same.into_with_copied_part(alloc, part);
         };
         match named.into_parts() {
             Ok((name, filed)) => {
-                let changed = filed.into_with_change(alloc, part.value())?;
-                let reports = reports.put_back(alloc, Named::new(alloc, name, changed)?)?;
+                let changed = changed_entry(alloc, name, filed, part.value());
+                let reports = with_entry(alloc, reports, changed)?;
                 Ok(RepoVersion { number, reports })
             }
             Err(named) => {
                 let reports = reports.put_back(alloc, named)?;
                 let same = RepoVersion { number, reports };
-                same.with_part(alloc, part)
+                same.into_with_copied_part(alloc, part)
             }
         }
     }

@@ -1,4 +1,4 @@
-use Rattle.std.proofs.Common.{◌≡◌, ◌∙◌, ap, sym}
+use Rattle.std.proofs.Common.{◌≡◌, ◌∙◌, ap}
 use Rattle.std.specs.Arc.{arc_value}
 use Rattle.filing_model.specs.Changes.{declaring_if, changed}
 use Rattle.filing_index.specs.Moves.{with_changes}

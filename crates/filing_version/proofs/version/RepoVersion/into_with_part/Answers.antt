@@ -1,8 +1,7 @@
 use Rattle.std.proofs.Common.{◌≡◌, ◌∙◌, ap, sym, subst, Some}
-use Rattle.std.specs.Prelude.{option_map, string_bytes, IfSome, IfOk}
+use Rattle.std.specs.Prelude.{option_map, string_bytes, IfSome, IfOk, Ok}
 use Rattle.filing_model.specs.Text.{Text}
 use Rattle.filing_model.specs.TextMap.{get, insert, remove}
-use Rattle.filing_model.specs.Repository.{with_report_at}
 use Rattle.filing_model.specs.Changes.{ReportChange, changed, changed_at}
 use Rattle.filing_pages.proofs.TakenEntries.{named_so, insert-remove, insert_back}
 use Rattle.filing_version.specs.Filed.{StampedReport, StampedReports, mapped, filed_of, version_of, version_in, repository_in, IsStampedUpTo}
@@ -20,18 +19,24 @@ invariant_of-result c =
     let so = named_so name c.in-Some.named (get inside.reports name) taken.0 in
     let held : get inside.reports part.0 ≡ Some c.in-Ok.filed =
     ap (get inside.reports) (sym c.name.ensures) ∙ sym (ap (λ (n : Text × StampedReport). Some n.1) c.in-Ok.ensures ∙ so.1) in
-    let made : filed_of c.in_ok-changed-in-Ok.changed ≡ record (filed_of c.in-Ok.filed) { report = changed part.1 c.in-Ok.filed.report } =
-    c.in_ok-changed-in-Ok.ensures
+    let entry = c.in_ok-reports-in-Ok.ensures.0 in
+    let is : c.changed_entry-changed.result ≡ Ok entry = c.in_ok-reports-in-Ok.ensures.1 in
+    let made : filed_of entry.1 ≡ record (filed_of c.in-Ok.filed) { report = changed part.1 c.in-Ok.filed.report } =
+    subst (λ r. IfOk r (λ n. filed_of n.1 ≡ record (filed_of c.in-Ok.filed) { report = changed c.value.result.now c.in-Ok.filed.report })) is
+    c.changed_entry-changed.ensures.report
     ∙ ap (λ (change : ReportChange). record (filed_of c.in-Ok.filed) { report = changed change c.in-Ok.filed.report }) c.value.ensures in
-    let put : c.in_ok-reports-in-Ok.reports ≡ insert inside.reports part.0 c.in_ok-changed-in-Ok.changed =
-    c.in_ok-reports-in-Ok.ensures
-    ∙ (λ i. insert ((c.reports.view_is ∙ taken.1) i) (c.in_ok-new-in-Ok.ensures i).0 (c.in_ok-new-in-Ok.ensures i).1)
-    ∙ ap (λ t. insert (remove inside.reports name) t c.in_ok-changed-in-Ok.changed) (ap (λ (n : Text × StampedReport). n.0) c.in-Ok.ensures ∙ so.0)
-    ∙ insert-remove inside.reports name c.in_ok-changed-in-Ok.changed
-    ∙ ap (λ t. insert inside.reports t c.in_ok-changed-in-Ok.changed) c.name.ensures in
-    let keeps = keeps_its_stamps inside.reports part.0 c.in-Ok.filed c.in_ok-changed-in-Ok.changed _ held made in
+    let under : entry.0 ≡ name =
+    subst (λ r. IfOk r (λ n. n.0 ≡ string_bytes c.in-Ok.name)) is c.changed_entry-changed.ensures.name
+    ∙ ap (λ (n : Text × StampedReport). n.0) c.in-Ok.ensures
+    ∙ so.0 in
+    let put : c.in_ok-reports-in-Ok.reports ≡ insert inside.reports part.0 entry.1 =
+    c.in_ok-reports-in-Ok.ensures.2
+    ∙ (λ i. insert (taken.1 i) (under i) entry.1)
+    ∙ insert-remove inside.reports name entry.1
+    ∙ ap (λ t. insert inside.reports t entry.1) c.name.ensures in
+    let keeps = keeps_its_stamps inside.reports part.0 c.in-Ok.filed entry.1 _ held made in
     subst (λ m. IsStampedUpTo inside.number (mapped filed_of m)) (sym put)
-    (another_up_to before part.0 c.in-Ok.filed c.in_ok-changed-in-Ok.changed keeps c.self.invariant)
+    (another_up_to before part.0 c.in-Ok.filed entry.1 keeps c.self.invariant)
 
 pub returns-in_ok-reports-in-Ok : goal.returns-in_ok-reports-in-Ok
 returns-in_ok-reports-in-Ok c =
@@ -44,19 +49,25 @@ returns-in_ok-reports-in-Ok c =
     let so = named_so name c.in-Some.named (get inside.reports name) taken.0 in
     let held : get inside.reports part.0 ≡ Some c.in-Ok.filed =
     ap (get inside.reports) (sym c.name.ensures) ∙ sym (ap (λ (n : Text × StampedReport). Some n.1) c.in-Ok.ensures ∙ so.1) in
-    let made : filed_of c.in_ok-changed-in-Ok.changed ≡ record (filed_of c.in-Ok.filed) { report = changed part.1 c.in-Ok.filed.report } =
-    c.in_ok-changed-in-Ok.ensures
+    let entry = c.in_ok-reports-in-Ok.ensures.0 in
+    let is : c.changed_entry-changed.result ≡ Ok entry = c.in_ok-reports-in-Ok.ensures.1 in
+    let made : filed_of entry.1 ≡ record (filed_of c.in-Ok.filed) { report = changed part.1 c.in-Ok.filed.report } =
+    subst (λ r. IfOk r (λ n. filed_of n.1 ≡ record (filed_of c.in-Ok.filed) { report = changed c.value.result.now c.in-Ok.filed.report })) is
+    c.changed_entry-changed.ensures.report
     ∙ ap (λ (change : ReportChange). record (filed_of c.in-Ok.filed) { report = changed change c.in-Ok.filed.report }) c.value.ensures in
-    let put : c.in_ok-reports-in-Ok.reports ≡ insert inside.reports part.0 c.in_ok-changed-in-Ok.changed =
-    c.in_ok-reports-in-Ok.ensures
-    ∙ (λ i. insert ((c.reports.view_is ∙ taken.1) i) (c.in_ok-new-in-Ok.ensures i).0 (c.in_ok-new-in-Ok.ensures i).1)
-    ∙ ap (λ t. insert (remove inside.reports name) t c.in_ok-changed-in-Ok.changed) (ap (λ (n : Text × StampedReport). n.0) c.in-Ok.ensures ∙ so.0)
-    ∙ insert-remove inside.reports name c.in_ok-changed-in-Ok.changed
-    ∙ ap (λ t. insert inside.reports t c.in_ok-changed-in-Ok.changed) c.name.ensures in
-    let keeps = keeps_its_stamps inside.reports part.0 c.in-Ok.filed c.in_ok-changed-in-Ok.changed _ held made in
+    let under : entry.0 ≡ name =
+    subst (λ r. IfOk r (λ n. n.0 ≡ string_bytes c.in-Ok.name)) is c.changed_entry-changed.ensures.name
+    ∙ ap (λ (n : Text × StampedReport). n.0) c.in-Ok.ensures
+    ∙ so.0 in
+    let put : c.in_ok-reports-in-Ok.reports ≡ insert inside.reports part.0 entry.1 =
+    c.in_ok-reports-in-Ok.ensures.2
+    ∙ (λ i. insert (taken.1 i) (under i) entry.1)
+    ∙ insert-remove inside.reports name entry.1
+    ∙ ap (λ t. insert inside.reports t entry.1) c.name.ensures in
+    let keeps = keeps_its_stamps inside.reports part.0 c.in-Ok.filed entry.1 _ held made in
     ap (λ m. version_of inside.number (mapped filed_of m)) put
-    ∙ another_report before part.0 c.in-Ok.filed c.in_ok-changed-in-Ok.changed keeps
-    ∙ ap (λ r. record (version_in before) { repository = r }) (changed_there before part.0 c.in-Ok.filed c.in_ok-changed-in-Ok.changed held part.1 made)
+    ∙ another_report before part.0 c.in-Ok.filed entry.1 keeps
+    ∙ ap (λ r. record (version_in before) { repository = r }) (changed_there before part.0 c.in-Ok.filed entry.1 held part.1 made)
     ∙ ap (λ (v : StampedReports). record (version_in v) { repository = changed_at (repository_in v) part }) c.self.view_is
 
 pub invariant_of-same-in-Err : goal.invariant_of-same-in-Err
@@ -88,5 +99,5 @@ returns-in_ok-reports-in-Err c =
     ∙ insert_back inside.reports name c.in-Some.named.1 so.1 in
     let whole : record { number = inside.number; reports = c.in_ok-reports-in-Err.reports } ≡ c.args.self =
     (λ i. record { number = inside.number; reports = same i }) ∙ c.self.view_is in
-    subst (λ (s : StampedReports). IfOk c.with_part-in-Err.result (λ (v : StampedReports). version_in v ≡ record (version_in s) { repository = changed_at (repository_in s) part }))
-    whole c.with_part-in-Err.ensures
+    subst (λ (s : StampedReports). IfOk c.into_with_copied_part-in-Err.result (λ (v : StampedReports). version_in v ≡ record (version_in s) { repository = changed_at (repository_in s) part }))
+    whole c.into_with_copied_part-in-Err.ensures

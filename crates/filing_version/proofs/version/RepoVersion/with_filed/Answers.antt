@@ -1,4 +1,5 @@
 use Rattle.std.proofs.Common.{◌≡◌, ◌∙◌, sym, subst}
+use Rattle.std.specs.Prelude.{string_bytes}
 use Rattle.filing_model.specs.TextMap.{insert}
 use Rattle.filing_version.specs.Filed.{StampedReports, mapped, filed_of, version_of, IsStampedUpTo}
 use Rattle.filing_version.proofs.StampedReports.{another_report, another_up_to}
@@ -7,17 +8,17 @@ use Rattle.filing_version.proofs.version.RepoVersion.with_filed.Goals as goal
 pub invariant_of-result : goal.invariant_of-result
 invariant_of-result c =
     let before = c.args.self.now in
-    let put : c.in_ok-reports.reports ≡ insert before.reports c.args.name.now c.args.filed =
-    c.in_ok-reports.ensures ∙ (λ i. insert (c.self.view_is i).reports (c.in_ok-name.ensures.ok i) c.args.filed) in
+    let put : c.in_ok-reports.reports ≡ insert before.reports (string_bytes c.args.name) c.args.filed =
+    c.in_ok-reports.ensures ∙ (λ i. insert (c.self.view_is i).reports (string_bytes c.args.name) c.args.filed) in
     subst (λ (v : StampedReports). IsStampedUpTo v.number (mapped filed_of c.in_ok-reports.reports)) (sym c.self.view_is)
     (subst (λ m. IsStampedUpTo before.number (mapped filed_of m)) (sym put)
-    (another_up_to before c.args.name.now c.requires.0 c.args.filed c.requires.1
+    (another_up_to before (string_bytes c.args.name) c.requires.0 c.args.filed c.requires.1
     (subst (λ (v : StampedReports). IsStampedUpTo v.number (mapped filed_of v.reports)) c.self.view_is c.self.invariant)))
 
 pub returns : goal.returns
 returns c =
     let before = c.args.self.now in
-    let put : c.in_ok-reports.reports ≡ insert before.reports c.args.name.now c.args.filed =
-    c.in_ok-reports.ensures ∙ (λ i. insert (c.self.view_is i).reports (c.in_ok-name.ensures.ok i) c.args.filed) in
+    let put : c.in_ok-reports.reports ≡ insert before.reports (string_bytes c.args.name) c.args.filed =
+    c.in_ok-reports.ensures ∙ (λ i. insert (c.self.view_is i).reports (string_bytes c.args.name) c.args.filed) in
     (λ i. version_of (c.self.view_is i).number (mapped filed_of (put i)))
-    ∙ another_report before c.args.name.now c.requires.0 c.args.filed c.requires.1
+    ∙ another_report before (string_bytes c.args.name) c.requires.0 c.args.filed c.requires.1

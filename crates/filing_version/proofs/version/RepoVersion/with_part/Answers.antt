@@ -1,4 +1,5 @@
 use Rattle.std.proofs.Common.{◌≡◌, ◌∙◌, ap, sym, Some}
+use Rattle.std.specs.Prelude.{string_bytes}
 use Rattle.std.proofs.lemmas.Result.{IfOk-weaker}
 use Rattle.filing_model.specs.TextMap.{get}
 use Rattle.filing_model.specs.Repository.{with_report_at}
@@ -13,9 +14,10 @@ with_change-requires c =
 
 pub with_filed-requires : goal.with_filed-requires
 with_filed-requires c =
-    let held : get c.args.self.now.reports c.name-2.result.now ≡ Some c.in-Some.filed.now =
-    (λ i. get (sym c.self.view_is i).reports ((c.name-2.ensures ∙ sym c.name.ensures) i)) ∙ sym c.in-Some.ensures in
-    (c.in-Some.filed.now, keeps_its_stamps c.args.self.now.reports c.name-2.result.now c.in-Some.filed.now c.in_ok-changed.changed _ held c.in_ok-changed.ensures)
+    let name = string_bytes c.in_ok-name.name in
+    let held : get c.args.self.now.reports name ≡ Some c.in-Some.filed.now =
+    (λ i. get (sym c.self.view_is i).reports ((c.in_ok-name.ensures.ok ∙ c.name-2.ensures ∙ sym c.name.ensures) i)) ∙ sym c.in-Some.ensures in
+    (c.in-Some.filed.now, keeps_its_stamps c.args.self.now.reports name c.in-Some.filed.now c.in_ok-changed.changed _ held c.in_ok-changed.ensures)
 
 pub returns : goal.returns
 returns c =
@@ -25,6 +27,6 @@ returns c =
     let held : get before.reports part.0 ≡ Some old = (λ i. get (sym c.self.view_is i).reports (sym c.name.ensures i)) ∙ sym c.in-Some.ensures in
     let made : filed_of c.in_ok-changed.changed ≡ record (filed_of old) { report = changed part.1 old.report } =
     c.in_ok-changed.ensures ∙ ap (λ (change : ReportChange). record (filed_of old) { report = changed change old.report }) c.value.ensures in
-    let there = ap (λ name. with_report_at (repository_in before) name c.in_ok-changed.changed.report) c.name-2.ensures
+    let there = ap (λ name. with_report_at (repository_in before) name c.in_ok-changed.changed.report) (c.in_ok-name.ensures.ok ∙ c.name-2.ensures)
     ∙ changed_there before part.0 old c.in_ok-changed.changed held part.1 made in
     IfOk-weaker c.with_filed.result _ _ (λ v is. is ∙ ap (λ r. record (version_in before) { repository = r }) there) c.with_filed.ensures

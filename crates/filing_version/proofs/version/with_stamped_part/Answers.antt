@@ -1,0 +1,36 @@
+use Rattle.std.proofs.Common.{◌≡◌, ◌∙◌, ap, sym, Some, None, option_map}
+use Rattle.std.specs.Option.{option_map_or}
+use Rattle.filing_model.specs.TextMap.{get, insert}
+use Rattle.filing_version.specs.Filed.{Filed, mapped, filed_of, changed_filed}
+use Rattle.filing_version.proofs.FiledReports.{get-mapped}
+use Rattle.filing_version.proofs.StampedReports.{parts_up_to, mapped-insert}
+use Rattle.filing_version.proofs.version.with_stamped_part.Goals as goal
+
+pub after-requires : goal.after-requires
+after-requires c =
+    parts_up_to c.args.number c.args.reports.now c.name.result.now c.in-Some.filed.now (sym c.in-Some.ensures) c.requires.up_to
+
+pub returns : goal.returns
+returns c =
+    let number = c.args.number in
+    let m = c.args.reports.now in
+    let part = c.args.part.now in
+    let filed = c.in-Some.filed.now in
+    let held : get (mapped filed_of m) part.0 ≡ Some (filed_of filed) =
+    get-mapped filed_of m part.0 ∙ ap (option_map filed_of) (ap (get m) (sym c.name.ensures) ∙ sym c.in-Some.ensures) in
+    let made : filed_of c.in_ok-next.next ≡ changed_filed number part.1 (filed_of filed) =
+    c.in_ok-next.ensures ∙ ap (λ change. changed_filed number change (filed_of filed)) c.value.ensures in
+    let put : c.in_ok-reports.reports ≡ insert m part.0 c.in_ok-next.next =
+    c.in_ok-reports.ensures ∙ ap (λ name. insert m name c.in_ok-next.next) (c.in_ok-name.ensures.ok ∙ c.name-2.ensures) in
+    ap (mapped filed_of) put
+    ∙ mapped-insert m part.0 c.in_ok-next.next
+    ∙ ap (insert (mapped filed_of m) part.0) made
+    ∙ sym (ap (λ o. option_map_or (λ (f : Filed). insert (mapped filed_of m) part.0 (changed_filed number part.1 f)) o (mapped filed_of m)) held)
+
+pub returns-in_default : goal.returns-in_default
+returns-in_default c =
+    let m = c.args.reports.now in
+    let part = c.args.part.now in
+    let none : get (mapped filed_of m) part.0 ≡ None =
+    get-mapped filed_of m part.0 ∙ ap (option_map filed_of) (ap (get m) (sym c.name.ensures) ∙ sym c.in_default.ensures) in
+    sym (ap (λ o. option_map_or (λ (f : Filed). insert (mapped filed_of m) part.0 (changed_filed c.args.number part.1 f)) o (mapped filed_of m)) none)
