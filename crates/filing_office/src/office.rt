@@ -51,11 +51,17 @@ impl<L: Ledger + Naming, M: Ledger> Office<L, M> {
         ensures reviewers { IfOk result (λ o. (vec_len o.reviewers ≡ reviewers)
             × All (λ r. r ≡ nothing ∷ []) o.reviewers.items) }
     {
-        let core = Core::new(alloc)?;
         let (steps, mut all_steps) = steps.open::<L>();
         let (receipts, mut all_receipts) = receipts.open::<M>();
         let seats = hand_out(alloc, desks, &mut all_steps, &mut all_receipts)?;
-        let (publisher, reviewers) = Publisher::open(rt, alloc, press, reviewers)?;
+        let core = Core::new(alloc)?;
+        let (publisher, reviewers) = match Publisher::open(rt, alloc, press, reviewers) {
+            Ok(opened) => opened,
+            Err(fault) => {
+                drop(core);
+                return Err(fault);
+            }
+        };
         let shared = Shared { core, publisher };
         let locked = Locked::new(shared, steps, receipts, all_steps, all_receipts);
         Ok(Opened {

@@ -33,12 +33,17 @@ impl<L: Ledger + Naming, M: Ledger> Job<L, M> {
     fn of(alloc: Global, place: usize, work: Work<L, M>) -> Result<Job<L, M>, AllocError>
         ensures { IfOk result (λ job. job.work ≡ work) }
     {
-        let outcomes = Vec::with_capacity(alloc, work.steps.len())?;
-        Ok(Job {
-            place,
-            work,
-            outcomes,
-        })
+        match Vec::with_capacity(alloc, work.steps.len()) {
+            Ok(outcomes) => Ok(Job {
+                place,
+                work,
+                outcomes,
+            }),
+            Err(error) => {
+                drop(work);
+                Err(error)
+            }
+        }
     }
 }
 

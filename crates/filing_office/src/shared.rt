@@ -113,7 +113,13 @@ impl<J: Naming> Shared<J> {
         ensures { ApplyAnswers self.old self.new session (step_of step) result }
     {
         let prepared = self.core.prepare(alloc, session, step)?;
-        let receipt = publish_next(rt, &mut self.publisher, &prepared)?;
+        let receipt = match publish_next(rt, &mut self.publisher, &prepared) {
+            Ok(receipt) => receipt,
+            Err(AllocError) => {
+                drop(prepared);
+                return Err(CoreFault::NoMemory);
+            }
+        };
         let reply = self.core.settle(prepared);
         Ok(Answer {
             session: self.last_session(),

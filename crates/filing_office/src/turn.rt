@@ -123,7 +123,14 @@ impl<L: Ledger + Naming, M: Ledger> Turn<L, M> {
         ensures tally { result.0 ≡ self.state.tally }
         ensures seen { result.1 ≡ self.state.seen }
     {
-        (self.desk, self.reviewer)
+        let Turn {
+            desk,
+            reviewer,
+            names,
+            ..
+        } = self;
+        drop(names);
+        (desk, reviewer)
     }
 
     /// Takes a load.
@@ -315,15 +322,20 @@ impl<L: Ledger + Naming, M: Ledger> Turn<L, M> {
         ensures learnt { self.new.learnt ≡ self.old.learnt }
     {
         match self.names.get(name) {
-            None => Ok(Outcome::NoSession),
+            None => {
+                drop(step);
+                Ok(Outcome::NoSession)
+            }
             Some(Place::Office(number)) => {
                 let number = *number;
                 self.step_at_office(access, name, number, step)
             }
             Some(Place::Review(review)) => {
                 access.leave();
-                let reply = reviewed(self.alloc, review, &step)?;
-                self.leave(name, ends(&step));
+                let (reply, is_end) = (reviewed(self.alloc, review, &step), ends(&step));
+                drop(step);
+                let reply = reply?;
+                self.leave(name, is_end);
                 Ok(of_review(reply))
             }
         }

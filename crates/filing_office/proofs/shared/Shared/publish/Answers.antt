@@ -21,7 +21,7 @@ invariant_of-self-2 g c =
     let new = c.settle-reply.new.self.history in
     let entered : new ≡ p.entry ∷ h = c.settle-reply.ensures.entered ∙ ap (λ (x : History). p.entry ∷ x) c.in_ok-prepared.ensures.same in
     publishes h new c.args.session (step_of c.args.step) p c.in_ok-prepared.ensures.answers entered c.self.inside.publisher c.publish_next.new.publisher c.self.invariant
-    c.in_ok-receipt.ensures.published
+    c.in-Ok.ensures.published
 
 pub returns : goal.returns
 returns g c =
@@ -30,8 +30,8 @@ returns g c =
     let new = c.settle-reply.new.self.history in
     let entered : new ≡ p.entry ∷ h = c.settle-reply.ensures.entered ∙ ap (λ (x : History). p.entry ∷ x) c.in_ok-prepared.ensures.same in
     let published = publishes h new c.args.session (step_of c.args.step) p c.in_ok-prepared.ensures.answers entered c.self.inside.publisher c.publish_next.new.publisher c.self.invariant
-    c.in_ok-receipt.ensures.published in
-    let a : Answer g.row.J.Denot = record { session = c.last_session.result; reply = c.settle-reply.result; receipt = c.in_ok-receipt.receipt } in
+    c.in-Ok.ensures.published in
+    let a : Answer g.row.J.Denot = record { session = c.last_session.result; reply = c.settle-reply.result; receipt = c.in-Ok.receipt } in
     subst (λ (old : History). IsTold old new c.args.session (step_of c.args.step) a) c.self.view_is
     (tells h new c.args.session (step_of c.args.step) p c.in_ok-prepared.ensures.answers entered a c.publish_next.new.publisher c.settle-reply.ensures.reply c.last_session.ensures
-    published c.in_ok-receipt.ensures.told)
+    published c.in-Ok.ensures.told)
