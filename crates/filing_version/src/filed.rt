@@ -1,5 +1,5 @@
 //! One report of a version, with the stamps of its parts.
-ghost use Rattle.std.specs.Prelude.{◌≡◌, ◌≤◌, ◌++◌, [], ◌∷◌, cond, is_some, map, option_map, IfOk, OnOk};
+ghost use Rattle.std.specs.Prelude.{◌≡◌, ◌≤◌, [], ◌∷◌, cond, is_some, map, option_map, IfOk};
 ghost use Rattle.std.specs.Arc.{arc_value};
 ghost use Rattle.std.specs.List.{filter_map};
 ghost use Rattle.filing_model.specs.DeclaredValue.{report_declaring};
@@ -44,51 +44,18 @@ impl Model for FiledReport {
     } };
 }
 
-/// A fact under its identifier as an index holds it.
-fn held_fact(
-    alloc: Global,
-    keyring: &mut Keyring,
-    id: &str,
-    fact: &Arc<Fact>,
-) -> Result<Named<Held>, AllocError>
-    ensures { IfOk result (λ n. n ≡ (id.now, arc_value fact.now)) }
-{
-    let id = String::from_str(alloc, id)?;
-    let fact = Held::among(alloc, keyring, Arc::try_clone(fact)?)?;
-    Named::new(alloc, id, fact)
-}
-
-/// Appends facts as an index holds them.
-fn push_held(
-    alloc: Global,
-    keyring: &mut Keyring,
-    held: &mut Vec<Named<Held>>,
-    facts: &[(String, Arc<Fact>)],
-) -> Result<(), AllocError>
-    ensures { OnOk result (held.new.items ≡ held.old.items ++ facts_view facts.now) }
-{
-    for (id, fact) in facts {
-        held.push(held_fact(alloc, keyring, id, fact)?)?;
-    }
-    Ok(())
-}
-
 /// The facts of a report as an index holds them. Facts are shared, identifiers are copied.
 fn held_facts(alloc: Global, report: &Report) -> Result<Vec<Named<Held>>, AllocError>
     ensures { IfOk result (λ v. v.items ≡ report.now.facts.entries) }
 {
     let facts = report.facts();
-    let mut held = Vec::with_capacity(alloc, facts.len())?;
     let mut keyring = Keyring::new(alloc);
-    let pushed = push_held(alloc, &mut keyring, &mut held, facts);
-    drop(keyring);
-    match pushed {
-        Ok(()) => Ok(held),
-        Err(error) => {
-            drop(held);
-            Err(error)
-        }
+    let mut held = Vec::with_capacity(alloc, facts.len())?;
+    for (id, fact) in facts {
+        let fact = Held::among(alloc, &mut keyring, Arc::try_clone(fact)?)?;
+        held.push(Named::new(alloc, id.clone()?, fact)?)?;
     }
+    Ok(held)
 }
 
 /// The indexes of the facts of a report.
