@@ -1,5 +1,5 @@
 -- Lists of values under names.
-use Rattle.std.proofs.Common.{◌≡◌, ◌∙◌, ap, sym, refl, List, [], ◌∷◌, ◌++◌, map, Option, Some, None, Bool, cond, true, false, string_bytes}
+use Rattle.std.proofs.Common.{◌≡◌, ◌∙◌, ap, sym, refl, List, [], ◌∷◌, map, Option, Some, None, Bool, cond, true, false, string_bytes}
 use Rattle.std.specs.Prelude.{String, option_map}
 use Rattle.std.specs.Arc.{arc_value}
 use Rattle.std.specs.Borrow.{Bor}
@@ -11,11 +11,6 @@ use Rattle.filing_model.specs.Text.{Text, text_cmp, text_eq}
 use Rattle.oim_fact.specs.declared.fact.Fact as code
 use Rattle.oim_report.specs.Parts.{facts_view}
 use Rattle.history_oracle.specs.Named.{named}
-
--- a front, and a rest into which one more entry goes
-abbrev pub put_into : {X : Type 0} → Option (String Global × X) → List (Text × X) → List (Text × X) → List (Text × X)
-put_into None front rest = front ++ rest
-put_into (Some one) front rest = front ++ put text_cmp (string_bytes one.0) one.1 rest
 
 -- the values under f
 abbrev pub under : {X Y : Type 0} → (X → Y) → List (Text × X) → List (Text × Y)

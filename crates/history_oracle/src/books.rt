@@ -70,6 +70,20 @@ fn with_fact(
     }))
 }
 
+/// A copy of a report with one fact put in.
+fn copy_with_fact(
+    alloc: Global,
+    report: &Report,
+    id: &str,
+    fact: Fact,
+) -> Result<Report, AllocError>
+    ensures { IfOk result (λ r. r ≡ with_fact report.now id.now (Some fact)) }
+{
+    let fact = Arc::new(alloc, fact)?;
+    let id = String::from_str(alloc, id)?;
+    with_fact(alloc, report.clone()?, id, fact)
+}
+
 /// The report with no fact under an identifier.
 fn without_fact(alloc: Global, report: Report, id: &str) -> Result<Report, AllocError>
     ensures { IfOk result (λ r. r ≡ with_fact report id.now None) }
@@ -206,11 +220,16 @@ impl Books {
         ensures { IfOk result (λ b. b ≡ with_fact_at self name.now id.now (Some fact)) }
     {
         let Some(report) = self.report(name) else {
+            drop(fact);
             return Ok(self);
         };
-        let id = String::from_str(alloc, id)?;
-        let report = with_fact(alloc, report.clone()?, id, Arc::new(alloc, fact)?)?;
-        self.with_report_at(alloc, name, report)
+        match copy_with_fact(alloc, report, id, fact) {
+            Ok(report) => self.with_report_at(alloc, name, report),
+            Err(error) => {
+                drop(self);
+                Err(error)
+            }
+        }
     }
 
     /// The repository with a fact removed from a report, where that is there.

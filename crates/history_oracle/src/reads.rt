@@ -1,10 +1,11 @@
 //! The things that a session reads by its calls, in order of first reading.
 
-ghost use Rattle.std.specs.Prelude.{◌≡◌, ◌∷◌, not, map, IfOk, option_map};
+ghost use Rattle.std.specs.Prelude.{◌≡◌, ◌∷◌, not, map, IfOk, option_map, string_bytes};
 ghost use Rattle.std.specs.List.{filter};
 ghost use Rattle.oim_fact.specs.Texts.{text_view};
 ghost use Rattle.filing_model.specs.Calls.{report_of_call};
 ghost use Rattle.filing_model.specs.Queries.{ids_for, first_cut};
+ghost use Rattle.filing_model.specs.Things as thing;
 ghost use Rattle.filing_model.specs.Things.{thing_eq};
 ghost use Rattle.filing_model.specs.Touches.{read_in, read_by, things_read};
 ghost use Rattle.filing_step.specs.Steps.{call_of, thing_of};
@@ -46,19 +47,40 @@ fn cut_of(
     }
 }
 
+/// The thing that an identifier of a report is.
+fn thing_at(name: &String, id: &String) -> Result<Thing, AllocError>
+    ensures { IfOk result (λ t. thing_of t ≡ thing.Id (string_bytes name.now) (string_bytes id.now)) }
+{
+    Ok(Thing::Id(name.clone()?, id.clone()?))
+}
+
+/// The thing that a page of a report looks at.
+fn range_of(
+    alloc: Global,
+    name: &String,
+    sought: &Sought,
+    limit: Limit,
+    report: &Report,
+) -> Result<Thing, AllocError>
+    ensures { IfOk result (λ t. thing_of t ≡ thing.Range (string_bytes name.now) sought.now
+        (first_cut limit.number (ids_for sought.now report.now.facts))) }
+{
+    let upto = cut_of(alloc, sought, limit, report)?;
+    let sought = Box::new(alloc, sought.clone()?)?;
+    Ok(Thing::Range(name.clone()?, sought, upto))
+}
+
 /// What a call looks at in its report.
 fn read_in(alloc: Global, call: &Call, report: &Report) -> Result<Option<Thing>, AllocError>
     ensures { IfOk result (λ o. option_map thing_of o ≡ read_in (call_of call.now) report.now) }
 {
     match call {
-        Call::Get(name, id) => Ok(Some(Thing::Id(name.clone()?, id.clone()?))),
-        Call::Remove(name, id) => Ok(Some(Thing::Id(name.clone()?, id.clone()?))),
-        Call::Add(name, id, _) => Ok(Some(Thing::Id(name.clone()?, id.clone()?))),
+        Call::Get(name, id) => Ok(Some(thing_at(name, id)?)),
+        Call::Remove(name, id) => Ok(Some(thing_at(name, id)?)),
+        Call::Add(name, id, _) => Ok(Some(thing_at(name, id)?)),
         Call::Cell(name, dims) => Ok(Some(Thing::Cell(name.clone()?, dims.clone()?))),
         Call::Page(name, sought, limit) => {
-            let upto = cut_of(alloc, sought, *limit, report)?;
-            let sought = Box::new(alloc, sought.clone()?)?;
-            Ok(Some(Thing::Range(name.clone()?, sought, upto)))
+            Ok(Some(range_of(alloc, name, sought, *limit, report)?))
         }
         Call::Declared(name) => Ok(Some(Thing::Policy(name.clone()?))),
         Call::Declare(_, _) => Ok(None),
