@@ -106,7 +106,11 @@ impl ScriptMachine {
             ≡ (string_bytes text, self.new)) }
     {
         match self.core.step(alloc, session, step) {
-            Ok(reply) => reply_text(alloc, &reply),
+            Ok(reply) => {
+                let text = reply_text(alloc, &reply);
+                drop(reply);
+                text
+            }
             Err(CoreFault::NoSession) => String::from_str(alloc, no_session_reply()),
             Err(CoreFault::NoMemory) => Err(AllocError),
         }
@@ -166,6 +170,7 @@ impl ScriptMachine {
             (judged_step self.old session.now (step_of step)) ≡ (string_bytes text, self.new)) }
     {
         let Some(number) = self.number_of(session) else {
+            drop(step);
             return String::from_str(alloc, no_session_reply());
         };
         self.take(alloc, Some(number), step)
@@ -191,6 +196,7 @@ impl ScriptMachine {
             (judged_end self.old session.now (step_of step)) ≡ (string_bytes text, self.new)) }
     {
         let Some(number) = self.number_of(session) else {
+            drop(step);
             return String::from_str(alloc, no_session_reply());
         };
         let text = self.take(alloc, Some(number), step)?;
@@ -212,22 +218,21 @@ impl ScriptMachine {
 
     /// Answers a line that is JSON. The report of a load, a fact and dimensions move out of it.
     #[tactic(auto, using(filing_text::proofs::ReportOfLoad::loaded_part))]
-    fn answer_value(&mut self, alloc: Global, value: Value) -> Result<String, AllocError>
-        ensures { IfOk result (λ text. value_answer self.old (Some (view value)) ≡ (string_bytes text, self.new)) }
+    fn answer_value(&mut self, alloc: Global, value: &mut Value) -> Result<String, AllocError>
+        ensures { IfOk result (λ text. value_answer self.old (Some (view value.old)) ≡ (string_bytes text, self.new)) }
     {
-        let mut value = value;
-        let Some(line) = line_of(&value) else {
+        let Some(line) = line_of(value) else {
             return String::from_str(alloc, bad_line_reply());
         };
         match line {
             Line::Load { name, .. } => {
                 let name = String::from_str(alloc, name)?;
-                self.load(alloc, name, taken_at(&mut value, 2))
+                self.load(alloc, name, taken_at(value, 2))
             }
             Line::Open { session, kind } => self.open(alloc, session, kind),
             Line::Ask { session, .. } => {
                 let session = String::from_str(alloc, session)?;
-                self.ask(alloc, &session, value)
+                self.ask(alloc, &session, value.take())
             }
             Line::Commit { session } => self.end(alloc, session, Step::Commit),
             Line::Close { session } => self.end(alloc, session, Step::Close),
@@ -249,7 +254,12 @@ impl Machine for ScriptMachine {
             };
         }
         match json_value(alloc, line)? {
-            Some(value) => self.answer_value(alloc, value),
+            Some(value) => {
+                let mut value = value;
+                let text = self.answer_value(alloc, &mut value);
+                drop(value);
+                text
+            }
             None => String::from_str(alloc, bad_line_reply()),
         }
     }
