@@ -107,7 +107,9 @@ fn try_script(
         Blank::new(3),
         Blank::new(1),
     )?;
-    histories.try_core(alloc, table, &mut draft, &core)?;
+    let tried = histories.try_core(alloc, table, &mut draft, &core);
+    drop(core);
+    tried?;
     Ok(departure)
 }
 

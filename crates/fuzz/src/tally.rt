@@ -94,7 +94,7 @@ impl Tally {
         }
     }
 
-    /// Counts a reply to the line of a JSON value.
+    /// Counts the JSON value of a reply to that of a line.
     fn count_reply(
         &mut self,
         alloc: Global,
@@ -111,11 +111,20 @@ impl Tally {
         self.count(words)
     }
 
+    /// Counts a reply to the line of a JSON value.
+    fn count_text(&mut self, alloc: Global, line: &Value, reply: &str) -> Result<(), AllocError> {
+        let reply = json_value(alloc, reply.as_bytes())?.unwrap_or(Value::Null);
+        let counted = self.count_reply(alloc, line, &reply);
+        drop(reply);
+        counted
+    }
+
     /// Counts a reply to a line.
     fn count_texts(&mut self, alloc: Global, line: &[u8], reply: &str) -> Result<(), AllocError> {
         let line = json_value(alloc, line)?.unwrap_or(Value::Null);
-        let reply = json_value(alloc, reply.as_bytes())?.unwrap_or(Value::Null);
-        self.count_reply(alloc, &line, &reply)
+        let counted = self.count_text(alloc, &line, reply);
+        drop(line);
+        counted
     }
 
     /// Counts the replies of an output to the lines of its script.

@@ -1,9 +1,10 @@
 //! Compares what the layers answer with what is written of them, and fast answers with slow ones.
 //!
-//! `sheets` has worked rows of scripts, steps, reports, facts and classes, `pages` lists and maps in pages, `versions` versions and their changes, and `examples` stored scripts, worked histories and failing devices. A word names the part that is wanted: `sheets`, `pages`, `versions`, which may be followed by a seed of what is drawn, `scripts`, `histories` or `devices`; without a word it is all of them. `costs` measures lists in pages.
+//! `sheets` has worked rows of scripts, steps, reports, facts and classes, `pages` lists and maps in pages, `versions` versions and their changes, and `examples` stored scripts, worked histories and failing devices; `lines` has what they need of lines. A word names the part that is wanted: `sheets`, `pages`, `versions`, which may be followed by a seed of what is drawn, `scripts`, `histories` or `devices`; without a word it is all of them. `costs` measures lists in pages.
 #![tactic(auto)]
 
 mod examples;
+mod lines;
 mod pages;
 mod sheets;
 mod versions;

@@ -26,13 +26,18 @@ const FEW: [u64; 2] = [1_000, 10_000];
 // So many have those that are measured.
 const MANY: [u64; 5] = [1_000, 10_000, 100_000, 1_000_000, 10_000_000];
 
-/// Compares all of them, which is a fault where something differs.
-pub(crate) fn compare_pages<R: Runtime + AllocGlobal>(rt: &R) -> Result<()> {
+/// Compares lists. How many differ.
+fn compare_lists<R: Print + AllocGlobal>(rt: &R) -> Result<u64> {
     let differing = compare_layouts(rt)?
         .saturating_add(compare_removals(rt)?)
         .saturating_add(compare_rounds(rt)?)
-        .saturating_add(compare_ranges(rt)?)
-        .saturating_add(compare_maps(rt)?);
+        .saturating_add(compare_ranges(rt)?);
+    Ok(differing)
+}
+
+/// Compares all of them, which is a fault where something differs.
+pub(crate) fn compare_pages<R: Runtime + AllocGlobal>(rt: &R) -> Result<()> {
+    let differing = compare_lists(rt)?.saturating_add(compare_maps(rt)?);
     measure_lists(rt, &FEW, false)?;
     if differing > 0 {
         return Err(anyhow!("{differing} differ"));

@@ -117,13 +117,20 @@ fn read_names<R: Files + AllocGlobal>(rt: &R) -> Result<Table> {
     })
 }
 
-/// Compares all files, and then fast answers with slow ones.
-pub(crate) fn compare_sheets<R: Files + Print + AllocGlobal>(rt: &R) -> Result<()> {
-    let table = read_names(rt)?;
+/// Compares all files by a table, and then fast answers with slow ones.
+fn compare_by<R: Files + Print + AllocGlobal>(rt: &R, table: &Table) -> Result<()> {
     for (name, kind) in FILES {
-        compare_file(rt, &table, name, kind)?;
+        compare_file(rt, table, name, kind)?;
     }
     println!(rt; "{}", drawn_classes(rt.alloc())?)?;
     println!(rt; "{}", drawn_loads(rt.alloc(), &table.numeric)?)?;
     Ok(())
+}
+
+/// Compares all files, and then fast answers with slow ones.
+pub(crate) fn compare_sheets<R: Files + Print + AllocGlobal>(rt: &R) -> Result<()> {
+    let table = read_names(rt)?;
+    let compared = compare_by(rt, &table);
+    drop(table);
+    compared
 }

@@ -26,13 +26,20 @@ use worked::compare_rows;
 /// The seed of the drawn scripts, where no other is given.
 pub(crate) const SEED: u64 = 20_261_123;
 
-fn compare<R: Print + AllocGlobal>(rt: &R, facts: &str, rows: &str, seed: u64) -> Result<()> {
-    let pool = Pool::read(rt.alloc(), facts)?;
+/// Compares by the facts of a pool.
+fn compare_by<R: Print + AllocGlobal>(rt: &R, pool: &Pool, rows: &str, seed: u64) -> Result<()> {
     if let Some(named) = pool.facts.first() {
         compare_changes(rt, &named.fact.dims)?;
     }
-    compare_rows(rt, &pool, "versions", rows)?;
-    compare_drawn(rt, &pool, seed)
+    compare_rows(rt, pool, "versions", rows)?;
+    compare_drawn(rt, pool, seed)
+}
+
+fn compare<R: Print + AllocGlobal>(rt: &R, facts: &str, rows: &str, seed: u64) -> Result<()> {
+    let pool = Pool::read(rt.alloc(), facts)?;
+    let compared = compare_by(rt, &pool, rows, seed);
+    drop(pool);
+    compared
 }
 
 /// Compares changes, worked rows, and scripts that are drawn from a seed.

@@ -59,15 +59,20 @@ fn compare<R: Print + AllocGlobal + Threads + Wait + Sync>(
     Ok(true)
 }
 
-/// Compares the worked sets of scripts.
-fn compare_worked<R: Print + AllocGlobal + Files + Threads + Wait + Sync>(
+/// The sheets of the file of this name.
+fn read_sheets<R: AllocGlobal + Files>(rt: &R, name: &str) -> Result<Vec<Sheet>> {
+    let file = fs::read(rt, name)?;
+    Ok(sheets_in(rt.alloc(), &file)?)
+}
+
+/// Compares worked sets of scripts.
+fn compare_sheets<R: Print + AllocGlobal + Threads + Wait + Sync>(
     rt: &R,
     table: &Arc<NumericTable>,
+    sheets: &[Sheet],
 ) -> Result<()> {
-    let file = fs::read(rt, "worked.rows")?;
     let mut differing = 0u64;
-    let sheets = sheets_in(rt.alloc(), &file)?;
-    for sheet in &sheets {
+    for sheet in sheets {
         if !compare(rt, table, sheet)? {
             differing = differing.saturating_add(1);
         }
@@ -77,18 +82,47 @@ fn compare_worked<R: Print + AllocGlobal + Files + Threads + Wait + Sync>(
     Ok(())
 }
 
-/// Tells of each sheet of replies whether some order explains them.
-fn judge_written<R: Print + AllocGlobal + Files>(rt: &R, table: &Arc<NumericTable>) -> Result<()> {
-    let file = fs::read(rt, "judged.rows")?;
-    for sheet in &sheets_in(rt.alloc(), &file)? {
-        let title = sheet.title.as_str();
-        match explanation(rt.alloc(), table, &sheet.scripts, &sheet.replies)? {
-            Finding::Explained(_) => println!(rt; "explained: {title}")?,
-            Finding::Unexplained => println!(rt; "not explained: {title}")?,
-            Finding::Undecided => println!(rt; "UNDECIDED: {title}")?,
-        }
+/// Compares the worked sets of scripts.
+fn compare_worked<R: Print + AllocGlobal + Files + Threads + Wait + Sync>(
+    rt: &R,
+    table: &Arc<NumericTable>,
+) -> Result<()> {
+    let sheets = read_sheets(rt, "worked.rows")?;
+    compare_sheets(rt, table, &sheets)
+}
+
+/// Tells of a sheet of replies whether some order explains them.
+fn judge_sheet<R: Print + AllocGlobal>(
+    rt: &R,
+    table: &Arc<NumericTable>,
+    sheet: &Sheet,
+) -> Result<()> {
+    let title = sheet.title.as_str();
+    let word = match explanation(rt.alloc(), table, &sheet.scripts, &sheet.replies)? {
+        Finding::Explained(_) => "explained",
+        Finding::Unexplained => "not explained",
+        Finding::Undecided => "UNDECIDED",
+    };
+    println!(rt; "{word}: {title}")?;
+    Ok(())
+}
+
+/// Tells the same of each sheet.
+fn judge_sheets<R: Print + AllocGlobal>(
+    rt: &R,
+    table: &Arc<NumericTable>,
+    sheets: &[Sheet],
+) -> Result<()> {
+    for sheet in sheets {
+        judge_sheet(rt, table, sheet)?;
     }
     Ok(())
+}
+
+/// Tells of each sheet of replies whether some order explains them.
+fn judge_written<R: Print + AllocGlobal + Files>(rt: &R, table: &Arc<NumericTable>) -> Result<()> {
+    let sheets = read_sheets(rt, "judged.rows")?;
+    judge_sheets(rt, table, &sheets)
 }
 
 /// Runs a drawn set, and judges what it is told.
@@ -154,6 +188,19 @@ fn read_numeric<R: Files + AllocGlobal>(rt: &R) -> Result<Arc<NumericTable>> {
     Ok(Arc::new(rt.alloc(), table)?)
 }
 
+/// Runs and judges scripts by a numeric table.
+fn compare_by<R: Print + AllocGlobal + Files + Threads + Wait + Sync>(
+    rt: &R,
+    table: &Arc<NumericTable>,
+    seed: u64,
+    sets: u64,
+) -> Result<()> {
+    compare_worked(rt, table)?;
+    judge_written(rt, table)?;
+    compare_long(rt, table)?;
+    try_sets(rt, table, seed, sets)
+}
+
 /// Runs and judges worked scripts, and so many sets that are drawn from a seed.
 pub(crate) fn compare_scripts<R: Print + AllocGlobal + Files + Threads + Wait + Sync>(
     rt: &R,
@@ -161,8 +208,7 @@ pub(crate) fn compare_scripts<R: Print + AllocGlobal + Files + Threads + Wait + 
     sets: u64,
 ) -> Result<()> {
     let table = read_numeric(rt)?;
-    compare_worked(rt, &table)?;
-    judge_written(rt, &table)?;
-    compare_long(rt, &table)?;
-    try_sets(rt, &table, seed, sets)
+    let compared = compare_by(rt, &table, seed, sets);
+    drop(table);
+    compared
 }

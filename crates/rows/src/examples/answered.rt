@@ -1,10 +1,10 @@
 //! What a sheet is answered: its script run, and its history judged.
 
-use crate::examples::changed::told_of_changes;
+use crate::examples::changed::push_changes;
 use crate::examples::histories::{left_by, lines_of, told_of, verdict_told};
 use crate::examples::sheet::Sheet;
 use anyhow::Result;
-use filing_core::check_run;
+use filing_core::{Core, check_run};
 use oim_fact::NumericTable;
 use std::alloc::Global;
 use std::sync::Arc;
@@ -18,18 +18,36 @@ pub(crate) struct Answered {
     told: Vec<u8>,
 }
 
+/// Appends the verdict on the entries of a core, as it is told.
+fn push_verdict(alloc: Global, core: &Core, told: &mut Vec<u8>) -> Result<()> {
+    let verdict = check_run(alloc, core.history())?;
+    told.extend_from_slice(&verdict_told(alloc, &verdict)?)?;
+    Ok(())
+}
+
 impl Answered {
     /// What a sheet is answered: of a script its history, and of a history the verdict on its lines, on its entries, and on those of which one is changed.
     pub(crate) fn of(alloc: Global, table: &Arc<NumericTable>, sheet: &Sheet) -> Result<Answered> {
         let core = left_by(alloc, table, &sheet.script)?;
-        let history = lines_of(alloc, &core)?;
+        let answered = Answered::of_core(alloc, table, sheet, &core);
+        drop(core);
+        answered
+    }
+
+    /// The same, where the script left this core.
+    fn of_core(
+        alloc: Global,
+        table: &Arc<NumericTable>,
+        sheet: &Sheet,
+        core: &Core,
+    ) -> Result<Answered> {
+        let history = lines_of(alloc, core)?;
         let mut told = told_of(alloc, table, &sheet.history)?;
         if sheet.is_written {
-            let verdict = check_run(alloc, core.history())?;
-            told.extend_from_slice(&verdict_told(alloc, &verdict)?)?;
+            push_verdict(alloc, core, &mut told)?;
         }
         if sheet.is_changed {
-            told.extend_from_slice(&told_of_changes(alloc, table, &sheet.history)?)?;
+            push_changes(alloc, table, &sheet.history, &mut told)?;
         }
         Ok(Answered { history, told })
     }

@@ -1,7 +1,7 @@
 //! Histories of which one reply is changed.
 
 use crate::examples::histories::told_of;
-use crate::examples::sheet::push_line;
+use crate::lines::{is_end, push_line};
 use anyhow::Result;
 use oim_fact::NumericTable;
 use oim_report::json_value;
@@ -9,12 +9,8 @@ use serde_json::Value;
 use std::alloc::{AllocError, Global};
 use std::sync::Arc;
 
-/// The line with `["taken"]` in place of its reply.
-fn changed_line(alloc: Global, line: &[u8]) -> Result<Vec<u8>> {
-    let mut changed = Vec::new(alloc);
-    let Some(value) = json_value(alloc, line)? else {
-        return Ok(changed);
-    };
+/// Appends an array of the first two parts of a line and `["taken"]`.
+fn push_changed(alloc: Global, changed: &mut Vec<u8>, value: &Value) -> Result<(), AllocError> {
     changed.extend_from_slice(b"[")?;
     for place in 0..2usize {
         if let Some(part) = value.get(place) {
@@ -22,7 +18,17 @@ fn changed_line(alloc: Global, line: &[u8]) -> Result<Vec<u8>> {
         }
         changed.extend_from_slice(b",")?;
     }
-    changed.extend_from_slice(b"[\"taken\"]]")?;
+    changed.extend_from_slice(b"[\"taken\"]]")
+}
+
+/// The line with `["taken"]` in place of its reply.
+fn changed_line(alloc: Global, line: &[u8]) -> Result<Vec<u8>> {
+    let mut changed = Vec::new(alloc);
+    if let Some(value) = json_value(alloc, line)? {
+        let pushed = push_changed(alloc, &mut changed, &value);
+        drop(value);
+        pushed?;
+    }
     Ok(changed)
 }
 
@@ -34,29 +40,38 @@ fn with_line(
     other: &[u8],
 ) -> Result<Vec<u8>, AllocError> {
     let mut all = Vec::new(alloc);
-    for (line, at) in lines.split(|byte| *byte == b'\n').zip(0usize..) {
-        if at == place {
-            push_line(&mut all, other)?;
-        } else {
-            push_line(&mut all, line)?;
-        }
+    for (line, at) in lines.split(is_end).zip(0usize..) {
+        let kept = if at == place { other } else { line };
+        push_line(&mut all, kept)?;
     }
     Ok(all)
 }
 
-/// What is told of a history of which each reply is changed in turn.
-pub(crate) fn told_of_changes(
+/// What is told of a history of which the reply at a place is changed.
+fn told_of_change(
     alloc: Global,
     table: &Arc<NumericTable>,
     lines: &[u8],
+    place: usize,
+    line: &[u8],
 ) -> Result<Vec<u8>> {
-    let mut told = Vec::new(alloc);
-    for (line, place) in lines.split(|byte| *byte == b'\n').zip(0usize..) {
+    let other = changed_line(alloc, line)?;
+    let changed = with_line(alloc, lines, place, &other)?;
+    told_of(alloc, table, &changed)
+}
+
+/// Appends what is told of a history of which each reply is changed in turn.
+pub(crate) fn push_changes(
+    alloc: Global,
+    table: &Arc<NumericTable>,
+    lines: &[u8],
+    told: &mut Vec<u8>,
+) -> Result<()> {
+    for (line, place) in lines.split(is_end).zip(0usize..) {
         if !line.is_empty() {
-            let other = changed_line(alloc, line)?;
-            let changed = with_line(alloc, lines, place, &other)?;
-            told.extend_from_slice(&told_of(alloc, table, &changed)?)?;
+            let changed = told_of_change(alloc, table, lines, place, line)?;
+            told.extend_from_slice(&changed)?;
         }
     }
-    Ok(told)
+    Ok(())
 }

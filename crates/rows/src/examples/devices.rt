@@ -92,7 +92,10 @@ pub(crate) struct Wanted<'a> {
 /// The fault of a work. Want of memory ends the program.
 fn fault_of<T: Drop>(ended: Result<T, ScriptFault>) -> Result<Option<ScriptFault>, AllocError> {
     match ended {
-        Ok(_) => Ok(None),
+        Ok(done) => {
+            drop(done);
+            Ok(None)
+        }
         Err(ScriptFault::NoMemory(_)) => Err(AllocError),
         Err(fault) => Ok(Some(fault)),
     }
@@ -116,12 +119,12 @@ fn ends_so<L: Ledger, K: Ledger>(
     requires sink_some { 0 < sink_blank.parts }
 {
     let table = &given.table;
-    let source: MemoryIn<'_, L> = MemoryIn::new(given.read_in(work), 1, source_blank);
-    let mut source = source.failing_at(trial.failing_read);
     let sink: MemoryOut<K> = MemoryOut::new(alloc, ROOM, 1, sink_blank)?;
     let mut sink = sink
         .failing_at(trial.failing_write)
         .idle_at(trial.idle_write);
+    let source: MemoryIn<'_, L> = MemoryIn::new(given.read_in(work), 1, source_blank);
+    let mut source = source.failing_at(trial.failing_read);
     let fault = match work {
         Work::Script => fault_of(run_script_within(
             alloc,
@@ -129,12 +132,15 @@ fn ends_so<L: Ledger, K: Ledger>(
             &mut sink,
             table,
             trial.reads,
-        ))?,
-        Work::History => fault_of(write_history(alloc, &mut sink, given.core.history()))?,
-        Work::Judging => fault_of(judge_history(alloc, &mut source, table))?,
-        Work::Verdict => fault_of(write_verdict(alloc, &mut sink, &Verdict::Lawful))?,
+        )),
+        Work::History => fault_of(write_history(alloc, &mut sink, given.core.history())),
+        Work::Judging => fault_of(judge_history(alloc, &mut source, table)),
+        Work::Verdict => fault_of(write_verdict(alloc, &mut sink, &Verdict::Lawful)),
     };
-    Ok(fault == wanted.fault && sink.written() == wanted.written)
+    let is_written = sink.written() == wanted.written;
+    drop(sink);
+    drop(source);
+    Ok(fault? == wanted.fault && is_written)
 }
 
 /// Whether a work ends so where a call goes wrong.

@@ -3,12 +3,12 @@
 ghost use Rattle.std.specs.Prelude.{◌≡◌, ◌≤◌, ◌<◌};
 
 use crate::examples::ROOM;
-use crate::examples::sheet::push_line;
+use crate::lines::push_line;
 use anyhow::Result;
 use filing_cli::{MemoryIn, MemoryOut, judge_history, run_script, write_history, write_verdict};
 use filing_core::{Core, Verdict};
 use oim_fact::NumericTable;
-use std::alloc::Global;
+use std::alloc::{AllocError, Global};
 use std::marker::Brand;
 use std::sync::Arc;
 use std::sync::ledger::{Blank, Ledger};
@@ -31,9 +31,12 @@ fn run_over<L: Ledger, K: Ledger>(
     requires sink_parts { sink_blank.parts ≡ K.parts }
     requires sink_some { 0 < sink_blank.parts }
 {
-    let mut source: MemoryIn<'_, L> = MemoryIn::new(script, PIECE, source_blank);
     let mut sink: MemoryOut<K> = MemoryOut::new(alloc, ROOM, ROOM, sink_blank)?;
-    Ok(run_script(alloc, &mut source, &mut sink, table)?)
+    let mut source: MemoryIn<'_, L> = MemoryIn::new(script, PIECE, source_blank);
+    let ended = run_script(alloc, &mut source, &mut sink, table);
+    drop(source);
+    drop(sink);
+    Ok(ended?)
 }
 
 /// The core that a script leaves.
@@ -48,13 +51,28 @@ fn written<K: Ledger>(alloc: Global, core: &Core, blank: Blank) -> Result<Vec<u8
     requires sink_some { 0 < blank.parts }
 {
     let mut sink: MemoryOut<K> = MemoryOut::new(alloc, ROOM, PIECE, blank)?;
-    write_history(alloc, &mut sink, core.history())?;
-    Ok(Vec::from_slice(alloc, sink.written())?)
+    let lines = match write_history(alloc, &mut sink, core.history()) {
+        Ok(()) => Vec::from_slice(alloc, sink.written()),
+        Err(fault) => {
+            drop(sink);
+            return Err(fault.into());
+        }
+    };
+    drop(sink);
+    Ok(lines?)
 }
 
 /// The lines of a core's history.
 pub(crate) fn lines_of(alloc: Global, core: &Core) -> Result<Vec<u8>> {
     written::<Brand>(alloc, core, Blank::new(1))
+}
+
+/// A line with a status behind it.
+fn with_status(alloc: Global, line: &[u8], status: u8) -> Result<Vec<u8>, AllocError> {
+    let mut told = Vec::from_slice(alloc, line)?;
+    told.pop();
+    push_line(&mut told, format!(in alloc; " {status}")?.as_bytes())?;
+    Ok(told)
 }
 
 /// The line of a verdict, with the status behind it.
@@ -64,11 +82,15 @@ fn line_of_verdict<K: Ledger>(alloc: Global, verdict: &Verdict, blank: Blank) ->
     requires sink_some { 0 < blank.parts }
 {
     let mut sink: MemoryOut<K> = MemoryOut::new(alloc, ROOM, PIECE, blank)?;
-    let status = write_verdict(alloc, &mut sink, verdict)?;
-    let mut told = Vec::from_slice(alloc, sink.written())?;
-    told.pop();
-    push_line(&mut told, format!(in alloc; " {status}")?.as_bytes())?;
-    Ok(told)
+    let told = match write_verdict(alloc, &mut sink, verdict) {
+        Ok(status) => with_status(alloc, sink.written(), status),
+        Err(fault) => {
+            drop(sink);
+            return Err(fault.into());
+        }
+    };
+    drop(sink);
+    Ok(told?)
 }
 
 /// The line of a verdict, with the status behind it.
@@ -90,7 +112,9 @@ fn judged<L: Ledger>(
     requires source_three { 3 ≤ blank.parts }
 {
     let mut source: MemoryIn<'_, L> = MemoryIn::new(lines, piece, blank);
-    Ok(judge_history(alloc, &mut source, table)?)
+    let verdict = judge_history(alloc, &mut source, table);
+    drop(source);
+    Ok(verdict?)
 }
 
 /// The verdict on the lines of a history, of which so many bytes are read at once.

@@ -1,5 +1,6 @@
 //! The lines of one sheet.
 
+use crate::lines::push_line;
 use std::alloc::{AllocError, Global};
 
 /// What stands under a title.
@@ -16,12 +17,6 @@ pub(crate) struct Sheet {
     pub(crate) is_written: bool,
     /// Whether each reply is changed in turn.
     pub(crate) is_changed: bool,
-}
-
-/// Appends a line with its end.
-pub(crate) fn push_line(lines: &mut Vec<u8>, line: &[u8]) -> Result<(), AllocError> {
-    lines.extend_from_slice(line)?;
-    lines.extend_from_slice(b"\n")
 }
 
 impl Sheet {

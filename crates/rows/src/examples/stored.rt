@@ -39,6 +39,27 @@ enum Ended {
     OtherReplies,
 }
 
+/// How a script ended that left a core.
+fn left(core: Core, is_as_written: bool) -> Ended {
+    if is_as_written {
+        Ended::AsWritten(core)
+    } else {
+        drop(core);
+        Ended::OtherReplies
+    }
+}
+
+/// How a script ended that a fault ended, where only want of memory is told.
+fn refused(fault: ScriptFault, written: &[u8], replies: &[u8]) -> Result<Ended, ScriptFault> {
+    match fault {
+        ScriptFault::NoMemory(line) if replies.starts_with(written) => {
+            Ok(Ended::NoMemory(line, written.len()))
+        }
+        ScriptFault::NoMemory(_) => Ok(Ended::OtherReplies),
+        fault => Err(fault),
+    }
+}
+
 /// Runs a script, and compares its replies with these.
 fn run_beside<L: Ledger, K: Ledger>(
     alloc: Global,
@@ -55,18 +76,53 @@ fn run_beside<L: Ledger, K: Ledger>(
     requires sink_parts { sink_blank.parts ≡ K.parts }
     requires sink_some { 0 < sink_blank.parts }
 {
-    let mut source: MemoryIn<'_, L> = MemoryIn::new(script, ROOM, source_blank);
     let mut sink: MemoryOut<K> = MemoryOut::new(alloc, ROOM, ROOM, sink_blank)?;
-    let ended = run_script(alloc, &mut source, &mut sink, table);
-    let written = sink.written();
-    match ended {
-        Ok(core) if written == replies => Ok(Ended::AsWritten(core)),
-        Err(ScriptFault::NoMemory(line)) if replies.starts_with(written) => {
-            Ok(Ended::NoMemory(line, written.len()))
-        }
-        Ok(_) | Err(ScriptFault::NoMemory(_)) => Ok(Ended::OtherReplies),
-        Err(fault) => Err(fault.into()),
+    let mut source: MemoryIn<'_, L> = MemoryIn::new(script, ROOM, source_blank);
+    let ended = match run_script(alloc, &mut source, &mut sink, table) {
+        Ok(core) => Ok(left(core, sink.written() == replies)),
+        Err(fault) => refused(fault, sink.written(), replies),
+    };
+    drop(source);
+    drop(sink);
+    Ok(ended?)
+}
+
+/// Tells how the history is that a script left.
+fn tell_left<R: Print + AllocGlobal>(
+    rt: &R,
+    table: &Arc<NumericTable>,
+    name: &str,
+    core: &Core,
+    history: &[u8],
+) -> Result<()> {
+    if is_as_written(rt.alloc(), table, core, history)? {
+        println!(rt; "{name}: as written")?;
+    } else {
+        println!(rt; "{name}: ANOTHER HISTORY")?;
     }
+    Ok(())
+}
+
+/// Tells how a script ended.
+fn tell_ended<R: Print + AllocGlobal>(
+    rt: &R,
+    table: &Arc<NumericTable>,
+    name: &str,
+    ended: Ended,
+    history: &[u8],
+) -> Result<()> {
+    match ended {
+        Ended::AsWritten(core) => {
+            let told = tell_left(rt, table, name, &core, history);
+            drop(core);
+            return told;
+        }
+        Ended::NoMemory(line, count) => {
+            println!(rt; "{name}: no memory at line {line}, after {count} bytes")?;
+        }
+        Ended::OtherReplies => println!(rt; "{name}: OTHER REPLIES")?,
+    }
+    Ok(())
 }
 
 /// Runs the script of this name, and tells how its replies and its history are.
@@ -87,20 +143,7 @@ fn try_example<R: Files + Print + AllocGlobal>(
         Blank::new(3),
         Blank::new(1),
     )?;
-    match ended {
-        Ended::AsWritten(core) => {
-            if is_as_written(alloc, table, &core, history.as_slice())? {
-                println!(rt; "{name}: as written")?
-            } else {
-                println!(rt; "{name}: ANOTHER HISTORY")?
-            }
-        }
-        Ended::NoMemory(line, count) => {
-            println!(rt; "{name}: no memory at line {line}, after {count} bytes")?
-        }
-        Ended::OtherReplies => println!(rt; "{name}: OTHER REPLIES")?,
-    }
-    Ok(())
+    tell_ended(rt, table, name, ended, history.as_slice())
 }
 
 /// Judges the history of `write_skew` in which the refused commit has the reply of one that passes.

@@ -3,8 +3,9 @@
 //! `devices` does one of these things over devices of which one call goes wrong, and `fronts` says what is to be written then.
 
 use crate::examples::devices::{Given, Trial, Wanted, Work, comes_to};
-use crate::examples::fronts::{first_lines, line_feeds_in};
+use crate::examples::fronts::first_lines;
 use crate::examples::histories::left_by;
+use crate::lines::ends_in;
 use anyhow::{Result, anyhow};
 use filing_cli::ScriptFault;
 use oim_report::read_table;
@@ -62,7 +63,7 @@ fn written_after<'a>(given: &'a Given, work: Work, count: usize) -> &'a [u8] {
     match work {
         Work::Script => {
             let read = given.read_in(work).get(..count).unwrap_or(&[]);
-            first_lines(&given.replies, line_feeds_in(read))
+            first_lines(&given.replies, ends_in(read))
         }
         _ => b"",
     }
@@ -212,7 +213,9 @@ fn is_told(alloc: Global, given: &Given, script: &[u8], replies: &[u8]) -> Resul
         fault: None,
         written: &given.replies,
     };
-    comes_to(alloc, &given, Work::Script, Trial::SOUND, sound)
+    let is_told = comes_to(alloc, &given, Work::Script, Trial::SOUND, sound);
+    drop(given);
+    is_told
 }
 
 /// Has each script of bad bytes answered.
@@ -232,28 +235,37 @@ fn try_bad(alloc: Global, given: &Given) -> Result<Seen> {
 fn read_given<R: Files + AllocGlobal>(rt: &R) -> Result<Given> {
     let table = Arc::new(rt.alloc(), read_table(rt.alloc(), "")?)?;
     let script = fs::read(rt, "run.jsonl")?;
+    let replies = fs::read(rt, "run.replies")?;
+    let history = fs::read(rt, "run.history")?;
     let core = left_by(rt.alloc(), &table, &script)?;
     Ok(Given {
         script,
-        replies: fs::read(rt, "run.replies")?,
-        history: fs::read(rt, "run.history")?,
+        replies,
+        history,
         table,
         core,
     })
 }
 
+/// Has each call of each work go wrong in turn. How many trials came to something else.
+fn try_all<R: Print + AllocGlobal>(rt: &R, given: &Given) -> Result<u64> {
+    let mut differing = 0u64;
+    for (title, work, wrong) in TRIALS {
+        let seen = try_each(rt.alloc(), given, work, wrong)?;
+        tell(rt, title, seen)?;
+        differing = differing.saturating_add(seen.differing);
+    }
+    let bad = try_bad(rt.alloc(), given)?;
+    tell(rt, "scripts of bad bytes", bad)?;
+    Ok(differing.saturating_add(bad.differing))
+}
+
 /// Has each call of each work go wrong in turn.
 pub(crate) fn try_devices<R: Files + Print + AllocGlobal>(rt: &R) -> Result<()> {
     let given = read_given(rt)?;
-    let mut all = Seen::NONE;
-    for (title, work, wrong) in TRIALS {
-        let seen = try_each(rt.alloc(), &given, work, wrong)?;
-        tell(rt, title, seen)?;
-        all.differing = all.differing.saturating_add(seen.differing);
-    }
-    let bad = try_bad(rt.alloc(), &given)?;
-    tell(rt, "scripts of bad bytes", bad)?;
-    if all.differing == 0 && bad.differing == 0 {
+    let differing = try_all(rt, &given);
+    drop(given);
+    if differing? == 0 {
         Ok(())
     } else {
         Err(anyhow!("some trials came to something else"))

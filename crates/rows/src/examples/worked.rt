@@ -4,17 +4,25 @@
 
 use crate::examples::answered::Answered;
 use crate::examples::sheet::Sheet;
+use crate::lines::is_end;
 use anyhow::Result;
 use oim_fact::NumericTable;
-use std::fs;
 use std::rt::Files;
 use std::sync::Arc;
+use std::{fs, mem};
 
 /// What was seen of a file so far.
 #[derive(Clone, Copy)]
 struct Seen {
     sheets: u64,
     differing: u64,
+}
+
+/// Tells what the sheet of a title is answered.
+fn tell_answered<R: Print + AllocGlobal>(rt: &R, title: &str, answered: &[u8]) -> Result<()> {
+    let told = String::from_utf8_lossy(rt.alloc(), answered)?;
+    println!(rt; "  {title}: {told}")?;
+    Ok(())
 }
 
 /// Tells what a sheet is answered where it is not what is written in it.
@@ -30,14 +38,29 @@ fn compare_sheet<R: Print + AllocGlobal>(
     let answered = Answered::of(rt.alloc(), table, sheet)?;
     let differs = !answered.is_as_written(sheet);
     if differs {
-        let title = sheet.title.as_str();
-        let told = String::from_utf8_lossy(rt.alloc(), answered.told())?;
-        println!(rt; "  {title}: {told}")?;
+        tell_answered(rt, sheet.title.as_str(), answered.told())?;
     }
     Ok(Seen {
         sheets: seen.sheets.saturating_add(1),
         differing: seen.differing.saturating_add(u64::from(differs)),
     })
+}
+
+/// Takes a line of a file. Where it is a title, the sheet is compared, and another one begun.
+fn take_line<R: Print + AllocGlobal>(
+    rt: &R,
+    table: &Arc<NumericTable>,
+    line: &[u8],
+    sheet: &mut Sheet,
+    seen: Seen,
+) -> Result<Seen> {
+    let Some(title) = line.strip_prefix(b"# ") else {
+        sheet.take(line)?;
+        return Ok(seen);
+    };
+    let seen = compare_sheet(rt, table, sheet, seen)?;
+    drop(mem::replace(sheet, Sheet::new(rt.alloc(), title)?));
+    Ok(seen)
 }
 
 /// Compares each sheet of a file.
@@ -51,13 +74,8 @@ fn compare_sheets<R: Print + AllocGlobal>(
         differing: 0,
     };
     let mut sheet = Sheet::new(rt.alloc(), b"")?;
-    for line in file.split(|byte| *byte == b'\n') {
-        if let Some(title) = line.strip_prefix(b"# ") {
-            seen = compare_sheet(rt, table, &sheet, seen)?;
-            sheet = Sheet::new(rt.alloc(), title)?;
-        } else {
-            sheet.take(line)?;
-        }
+    for line in file.split(is_end) {
+        seen = take_line(rt, table, line, &mut sheet, seen)?;
     }
     compare_sheet(rt, table, &sheet, seen)
 }

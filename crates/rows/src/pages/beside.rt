@@ -95,8 +95,8 @@ fn finds_all(list: &Paged<Item>, plain: &[Item]) -> bool {
 impl Both {
     /// Both of the keys up to a number.
     fn filled(alloc: Global, count: u64) -> Result<Both, AllocError> {
-        let list = filled(alloc, count)?;
         let plain = spaced(alloc, 0, 1, count)?;
+        let list = filled(alloc, count)?;
         Ok(Both { list, plain })
     }
 
@@ -133,8 +133,8 @@ impl Both {
     }
 }
 
-pub(crate) fn compare_rounds<R: Print + AllocGlobal>(rt: &R) -> Result<u64> {
-    let mut both = Both::filled(rt.alloc(), 0)?;
+/// Makes rounds of changes in both, and compares them after each.
+fn take_rounds<R: Print + AllocGlobal>(rt: &R, both: &mut Both) -> Result<u64> {
     let mut seen = Seen::new();
     for round in 0..ROUNDS {
         let is_same = both.take_round(rt.alloc(), round)?;
@@ -143,17 +143,33 @@ pub(crate) fn compare_rounds<R: Print + AllocGlobal>(rt: &R) -> Result<u64> {
     seen.tell(rt, "rounds of changes")
 }
 
+pub(crate) fn compare_rounds<R: Print + AllocGlobal>(rt: &R) -> Result<u64> {
+    let mut both = Both::filled(rt.alloc(), 0)?;
+    let differing = take_rounds(rt, &mut both);
+    drop(both);
+    differing
+}
+
 /// Whether a refused change leaves the list, and is made when it is asked for again.
 fn is_removed(alloc: Global) -> Result<bool, AllocError> {
     let mut both = Both::filled(alloc, 200)?;
-    both.remove(alloc, &[Edit::Remove(100, 180)])
+    let is_removed = both.remove(alloc, &[Edit::Remove(100, 180)]);
+    drop(both);
+    is_removed
+}
+
+/// Puts a new key in place of an old one. Whether the new one is found then, and the old one is not.
+fn move_key(alloc: Global, list: &mut Paged<Item>) -> Result<bool, AllocError> {
+    make_edits(alloc, list, &[Edit::Remove(0, 1), Edit::Put(1, 2)])?;
+    Ok(is_found(list, 1) && list.get(&Item::new(0)).is_none())
 }
 
 /// Whether a new key is found, and a removed one is not.
 fn is_moved(alloc: Global) -> Result<bool, AllocError> {
     let mut list = filled(alloc, 1)?;
-    make_edits(alloc, &mut list, &[Edit::Remove(0, 1), Edit::Put(1, 2)])?;
-    Ok(is_found(&list, 1) && list.get(&Item::new(0)).is_none())
+    let is_moved = move_key(alloc, &mut list);
+    drop(list);
+    is_moved
 }
 
 pub(crate) fn compare_removals<R: Print + AllocGlobal>(rt: &R) -> Result<u64> {

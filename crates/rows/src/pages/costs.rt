@@ -29,6 +29,7 @@ fn filled(alloc: Global, count: u64) -> Result<Paged<LongName>, AllocError> {
     if is_rising(&entries) {
         Paged::of_sorted(alloc, entries)
     } else {
+        drop(entries);
         Ok(Paged::new(alloc))
     }
 }
@@ -210,6 +211,12 @@ fn pages_of(alloc: Global, list: &Paged<LongName>) -> Result<usize, AllocError> 
     Ok(sizes.len())
 }
 
+/// Says how many pages a list has, and what was found in it.
+fn tell_list(rt: &impl Runtime, count: u64, pages: usize, found: u64, most: u64) -> Result<()> {
+    println!(rt; "{count} entries: {pages} pages, {found} found, greatest {most}")?;
+    Ok(())
+}
+
 /// All of it over a list.
 fn measure_list(
     rt: &(impl Runtime + AllocGlobal),
@@ -221,14 +228,15 @@ fn measure_list(
     let found = look_up(rt, count, list, is_timed)?;
     let most = greatest(rt, count, list, is_timed)?;
     let pages = pages_of(rt.alloc(), list)?;
-    println!(rt; "{count} entries: {pages} pages, {found} found, greatest {most}")?;
-    Ok(())
+    tell_list(rt, count, pages, found, most)
 }
 
 /// All of it over a list of one size.
 fn measure(rt: &(impl Runtime + AllocGlobal), count: u64, is_timed: bool) -> Result<()> {
     let mut list = filled(rt.alloc(), count)?;
-    measure_list(rt, count, &mut list, is_timed)
+    let measured = measure_list(rt, count, &mut list, is_timed);
+    drop(list);
+    measured
 }
 
 /// All of it over lists of some sizes.

@@ -91,26 +91,27 @@ const LAYOUTS: [Layout; 9] = [
     },
 ];
 
-/// The list of a layout.
-fn laid_out(alloc: Global, layout: &Layout) -> Result<Paged<Item>, AllocError> {
+/// The list of a layout, before it is edited.
+fn first_list(alloc: Global, layout: &Layout) -> Result<Paged<Item>, AllocError> {
     let entries = spaced(alloc, layout.first, layout.step, layout.count)?;
-    let mut list = built(alloc, entries)?;
-    for edits in layout.edits {
-        make_edits(alloc, &mut list, edits)?;
-    }
-    Ok(list)
+    built(alloc, entries)
 }
 
-/// Whether the pages of a list have these lengths.
-fn has_sizes(alloc: Global, list: &Paged<Item>, sizes: &[usize]) -> Result<bool, AllocError> {
+/// Edits the list of a layout. Whether its pages have the layout's lengths then.
+fn has_sizes(alloc: Global, list: &mut Paged<Item>, layout: &Layout) -> Result<bool, AllocError> {
+    for edits in layout.edits {
+        make_edits(alloc, list, edits)?;
+    }
     let found = list.page_sizes(alloc)?;
-    Ok(found.as_slice() == sizes)
+    Ok(found.as_slice() == layout.sizes)
 }
 
 /// Whether the pages of a layout's list have its lengths.
 fn is_as_said(alloc: Global, layout: &Layout) -> Result<bool, AllocError> {
-    let list = laid_out(alloc, layout)?;
-    has_sizes(alloc, &list, layout.sizes)
+    let mut list = first_list(alloc, layout)?;
+    let is_same = has_sizes(alloc, &mut list, layout);
+    drop(list);
+    is_same
 }
 
 pub(crate) fn compare_layouts<R: Print + AllocGlobal>(rt: &R) -> Result<u64> {

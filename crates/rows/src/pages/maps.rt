@@ -69,8 +69,14 @@ fn built(alloc: Global, entries: Vec<Named<u64>>) -> Result<TextPages<u64>, Allo
     if is_rising(&entries) {
         TextPages::of_sorted(alloc, entries)
     } else {
+        drop(entries);
         Ok(TextPages::new(alloc))
     }
+}
+
+/// The map of rows.
+fn map_of(alloc: Global, rows: &[(&str, u64)]) -> Result<TextPages<u64>, AllocError> {
+    built(alloc, entries_of(alloc, rows)?)
 }
 
 /// Puts a value under a name.
@@ -124,13 +130,6 @@ fn fill(alloc: Global, map: &mut TextPages<u64>, filled: &Filled) -> Result<(), 
     change(alloc, map, &changes)
 }
 
-/// The map of a row.
-fn map_of(alloc: Global, filled: &Filled) -> Result<TextPages<u64>, AllocError> {
-    let mut map = built(alloc, entries_of(alloc, filled.entries)?)?;
-    fill(alloc, &mut map, filled)?;
-    Ok(map)
-}
-
 /// The sum of the values, each times its place.
 fn placed_sum(map: &TextPages<u64>) -> u64 {
     let mut sum = 0u64;
@@ -145,48 +144,82 @@ fn placed_sum(map: &TextPages<u64>) -> u64 {
 /// The sum of the values of a copy that shares the map.
 fn shared_sum(alloc: Global, map: &TextPages<u64>) -> Result<u64, AllocError> {
     let shared = map.share(alloc)?;
-    Ok(placed_sum(&shared))
+    let sum = placed_sum(&shared);
+    drop(shared);
+    Ok(sum)
+}
+
+/// Gives a map what a row says. Whether it has the sum of the row then, and a copy that shares it too.
+fn has_sum(alloc: Global, map: &mut TextPages<u64>, filled: &Filled) -> Result<bool, AllocError> {
+    fill(alloc, map, filled)?;
+    Ok(shared_sum(alloc, map)? == filled.sum && placed_sum(map) == filled.sum)
 }
 
 /// Whether the map of a row has its sum, and a copy that shares it too.
 fn is_as_said(alloc: Global, filled: &Filled) -> Result<bool, AllocError> {
-    let map = map_of(alloc, filled)?;
-    Ok(shared_sum(alloc, &map)? == filled.sum && placed_sum(&map) == filled.sum)
+    let mut map = map_of(alloc, filled.entries)?;
+    let is_same = has_sum(alloc, &mut map, filled);
+    drop(map);
+    is_same
 }
 
 /// The sum of the values of a copy with one of them changed.
 fn changed_sum(alloc: Global, map: &TextPages<u64>) -> Result<u64, AllocError> {
     let next = map.with(alloc, String::from_str(alloc, "b")?, 7)?;
-    Ok(placed_sum(&next))
+    let sum = placed_sum(&next);
+    drop(next);
+    Ok(sum)
+}
+
+/// Whether each name of the three is found with its value, and no other.
+fn has_names(map: &TextPages<u64>) -> bool {
+    map.get("ba").copied() == Some(3)
+        && map.get("aa").is_none()
+        && map.get_named("b").map(|entry| entry.name()) == Some("b")
+}
+
+/// Gives a map three names. Whether a changed copy leaves it as it was, and the names are found.
+fn keeps_names(alloc: Global, map: &mut TextPages<u64>) -> Result<bool, AllocError> {
+    fill(alloc, map, &THREE)?;
+    Ok(changed_sum(alloc, map)? == 371 && placed_sum(map) == 321 && has_names(map))
 }
 
 /// Whether a changed copy leaves the map as it was, and names are found with their values.
 fn finds_names(alloc: Global) -> Result<bool, AllocError> {
-    let map = map_of(alloc, &THREE)?;
-    Ok(
-        changed_sum(alloc, &map)? == 371
-            && placed_sum(&map) == 321
-            && map.get("ba").copied() == Some(3)
-            && map.get("aa").is_none()
-            && map.get_named("b").map(|entry| entry.name()) == Some("b"),
-    )
+    let mut map = map_of(alloc, THREE.entries)?;
+    let is_found = keeps_names(alloc, &mut map);
+    drop(map);
+    is_found
 }
 
 /// Whether the empty name is found.
 fn finds_empty(alloc: Global) -> Result<bool, AllocError> {
-    let map = built(alloc, entries_of(alloc, &[("", 4), ("a", 5)])?)?;
-    Ok(map.get("").copied() == Some(4))
+    let map = map_of(alloc, &[("", 4), ("a", 5)])?;
+    let is_found = map.get("").copied() == Some(4);
+    drop(map);
+    Ok(is_found)
 }
 
-pub(crate) fn compare_maps<R: Print + AllocGlobal>(rt: &R) -> Result<u64> {
-    let mut seen = Seen::new();
+/// Compares the map of each row.
+fn compare_filled<R: Print + AllocGlobal>(rt: &R, seen: &mut Seen) -> Result<()> {
     for filled in &FILLED {
         let is_same = is_as_said(rt.alloc(), filled)?;
         seen.note(rt, filled.name, is_same)?;
     }
+    Ok(())
+}
+
+/// Compares what is found in maps.
+fn compare_found<R: Print + AllocGlobal>(rt: &R, seen: &mut Seen) -> Result<()> {
     let is_found = finds_names(rt.alloc())?;
     seen.note(rt, "names are found", is_found)?;
     let is_found = finds_empty(rt.alloc())?;
-    seen.note(rt, "the empty name is found", is_found)?;
+    seen.note(rt, "the empty name is found", is_found)
+}
+
+pub(crate) fn compare_maps<R: Print + AllocGlobal>(rt: &R) -> Result<u64> {
+    let mut seen = Seen::new();
+    compare_filled(rt, &mut seen)?;
+    compare_found(rt, &mut seen)?;
     seen.tell(rt, "maps")
 }

@@ -36,13 +36,6 @@ const RANGES: [Ranges; 3] = [
     },
 ];
 
-/// The list of these ranges.
-fn list_of(alloc: Global, ranges: &Ranges) -> Result<Paged<Item>, AllocError> {
-    let mut list = filled(alloc, ranges.count)?;
-    make_edits(alloc, &mut list, ranges.edits)?;
-    Ok(list)
-}
-
 /// The number after the keys of a range, where these rise by one from a number on.
 fn next_key(list: &Paged<Item>, span: &Between<'_, Item>, from: u64) -> Option<u64> {
     let mut next = from;
@@ -66,13 +59,26 @@ fn has_keys(list: &Paged<Item>, from: u64, until: u64) -> bool {
         && list.first_in(&span).copied() == Some(Item::new(from))
 }
 
-/// Compares the ranges of one list.
-fn compare_list<R: Print + AllocGlobal>(rt: &R, ranges: &Ranges, seen: &mut Seen) -> Result<()> {
-    let list = list_of(rt.alloc(), ranges)?;
+/// Edits a list, and compares its ranges.
+fn compare_edited<R: Print + AllocGlobal>(
+    rt: &R,
+    list: &mut Paged<Item>,
+    ranges: &Ranges,
+    seen: &mut Seen,
+) -> Result<()> {
+    make_edits(rt.alloc(), list, ranges.edits)?;
     for (from, until) in ranges.ends {
-        seen.note(rt, ranges.name, has_keys(&list, *from, *until))?;
+        seen.note(rt, ranges.name, has_keys(list, *from, *until))?;
     }
     Ok(())
+}
+
+/// Compares the ranges of one list.
+fn compare_list<R: Print + AllocGlobal>(rt: &R, ranges: &Ranges, seen: &mut Seen) -> Result<()> {
+    let mut list = filled(rt.alloc(), ranges.count)?;
+    let compared = compare_edited(rt, &mut list, ranges, seen);
+    drop(list);
+    compared
 }
 
 pub(crate) fn compare_ranges<R: Print + AllocGlobal>(rt: &R) -> Result<u64> {

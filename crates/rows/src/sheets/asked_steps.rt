@@ -11,9 +11,10 @@ use std::alloc::{AllocError, Global};
 use std::sync::Arc;
 
 fn load(alloc: Global, table: &Arc<NumericTable>, question: &Value) -> Result<Step> {
+    let name = owned_at(alloc, question, 2)?;
     let report = question.get(3usize).unwrap_or(question);
     let report = Arc::new(alloc, report_of(alloc, report, table)?)?;
-    Ok(Step::Load(owned_at(alloc, question, 2)?, report))
+    Ok(Step::Load(name, report))
 }
 
 /// A session is opened to amend where the question does not say that it is a review.
@@ -32,11 +33,9 @@ fn get(alloc: Global, question: &Value) -> Result<Step> {
 }
 
 fn cell(alloc: Global, question: &Value) -> Result<Step> {
+    let report = owned_at(alloc, question, 2)?;
     let dims = dimensions(alloc, question.get(3usize).unwrap_or(question))?;
-    Ok(Step::Cell {
-        report: owned_at(alloc, question, 2)?,
-        dims,
-    })
+    Ok(Step::Cell { report, dims })
 }
 
 /// Any period for true, none for null.
@@ -78,12 +77,10 @@ fn page(alloc: Global, question: &Value) -> Result<Option<Step>> {
 }
 
 fn addition(alloc: Global, question: &Value) -> Result<Step> {
+    let report = owned_at(alloc, question, 2)?;
+    let id = owned_at(alloc, question, 3)?;
     let fact = raw_fact(alloc, question.get(4usize).unwrap_or(question))?;
-    Ok(Step::Add {
-        report: owned_at(alloc, question, 2)?,
-        id: owned_at(alloc, question, 3)?,
-        fact,
-    })
+    Ok(Step::Add { report, id, fact })
 }
 
 fn removal(alloc: Global, question: &Value) -> Result<Step> {

@@ -2,6 +2,7 @@
 
 ghost use Rattle.std.specs.Prelude.{◌<◌};
 
+use crate::lines::{is_end, push_line};
 use crate::sheets::classes::{allowed_answer, class_answer, least_answer, pair_answer};
 use crate::sheets::dimensions::{dims_answer, names_answer, order_answer};
 use crate::sheets::facts::{fact_answer, raw_answer};
@@ -9,7 +10,7 @@ use crate::sheets::infos::info_answer;
 use crate::sheets::numbers::{interval_answer, number_answer, numeral_answer};
 use crate::sheets::reports::{fronts_answer, parts_answer, report_answer, written_answer};
 use crate::sheets::scripts::run_lines;
-use crate::sheets::sheet::{Sheet, push_line};
+use crate::sheets::sheet::Sheet;
 use crate::sheets::steps::steps_answers;
 use crate::sheets::tables::table_answer;
 use crate::sheets::{Asked, Kind};
@@ -18,9 +19,9 @@ use oim_fact::NumericTable;
 use oim_report::{Report, json_value};
 use serde_json::Value;
 use std::alloc::{AllocError, Global};
-use std::fs;
 use std::rt::Files;
 use std::sync::Arc;
+use std::{fs, mem};
 
 /// What was seen of a file so far.
 #[derive(Clone, Copy)]
@@ -66,7 +67,11 @@ fn line_answer(alloc: Global, table: &Table, kind: Asked, line: &[u8]) -> Result
         Asked::Report => Ok(report_answer(alloc, line, &table.numeric)?),
         Asked::Fronts => Ok(fronts_answer(alloc, line, &table.numeric)?),
         _ => match json_value(alloc, line)? {
-            Some(value) => value_answer(alloc, table, kind, &value),
+            Some(value) => {
+                let answer = value_answer(alloc, table, kind, &value);
+                drop(value);
+                answer
+            }
             None => Ok(String::from_str(alloc, "no JSON")?),
         },
     }
@@ -75,7 +80,7 @@ fn line_answer(alloc: Global, table: &Table, kind: Asked, line: &[u8]) -> Result
 /// The answers to each line that is not empty.
 fn line_answers(alloc: Global, table: &Table, kind: Asked, lines: &[u8]) -> Result<Vec<u8>> {
     let mut told = Vec::new(alloc);
-    for line in lines.split(|byte| *byte == b'\n') {
+    for line in lines.split(is_end) {
         if !line.is_empty() {
             push_line(&mut told, line_answer(alloc, table, kind, line)?.as_bytes())?;
         }
@@ -101,7 +106,7 @@ fn same_lines(told: &[u8], expected: &[u8]) -> usize {
         if byte != wanted {
             return lines;
         }
-        if *byte == b'\n' {
+        if is_end(byte) {
             lines = lines.saturating_add(1);
         }
     }
@@ -110,7 +115,7 @@ fn same_lines(told: &[u8], expected: &[u8]) -> usize {
 
 /// The line at a place, as far as it is text.
 fn line_at(alloc: Global, lines: &[u8], place: usize) -> Result<String, AllocError> {
-    match lines.split(|byte| *byte == b'\n').nth(place) {
+    match lines.split(is_end).nth(place) {
         Some(line) if !line.is_empty() => String::from_utf8_lossy(alloc, line),
         _ => String::from_str(alloc, "nothing"),
     }
@@ -149,6 +154,23 @@ fn compare_sheet<R: Print + AllocGlobal>(
     })
 }
 
+/// Takes a line of a file. Where it is a title, the sheet is compared, and another one begun.
+fn take_line<R: Print + AllocGlobal>(
+    rt: &R,
+    told_by: (&Table, Kind),
+    line: &[u8],
+    sheet: &mut Sheet,
+    seen: Seen,
+) -> Result<Seen> {
+    let Some(title) = line.strip_prefix(b"# ") else {
+        sheet.take(line)?;
+        return Ok(seen);
+    };
+    let seen = compare_sheet(rt, told_by.0, told_by.1, sheet, seen)?;
+    drop(mem::replace(sheet, Sheet::new(rt.alloc(), title)?));
+    Ok(seen)
+}
+
 /// Compares each script of a file.
 fn compare_scripts<R: Print + AllocGlobal>(
     rt: &R,
@@ -162,13 +184,8 @@ fn compare_scripts<R: Print + AllocGlobal>(
         differing: 0,
     };
     let mut sheet = Sheet::new(rt.alloc(), b"")?;
-    for line in file.split(|byte| *byte == b'\n') {
-        if let Some(title) = line.strip_prefix(b"# ") {
-            seen = compare_sheet(rt, table, kind, &sheet, seen)?;
-            sheet = Sheet::new(rt.alloc(), title)?;
-        } else {
-            sheet.take(line)?;
-        }
+    for line in file.split(is_end) {
+        seen = take_line(rt, (table, kind), line, &mut sheet, seen)?;
     }
     compare_sheet(rt, table, kind, &sheet, seen)
 }

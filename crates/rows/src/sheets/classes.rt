@@ -83,20 +83,38 @@ fn fact(alloc: Global, written: &Value) -> Result<Fact> {
         [concept, ..] => concept.as_str().unwrap_or(""),
         [] => "",
     };
-    Ok(Fact {
-        dims: dims(alloc, concept)?,
-        value: value(alloc, written)?,
-        links: None,
-    })
+    let dims = dims(alloc, concept)?;
+    match value(alloc, written) {
+        Ok(value) => Ok(Fact {
+            dims,
+            value,
+            links: None,
+        }),
+        Err(error) => {
+            drop(dims);
+            Err(error)
+        }
+    }
+}
+
+/// Appends the facts of a list.
+fn push_facts(alloc: Global, all: &mut Vec<Fact>, listed: &[Value]) -> Result<()> {
+    for written in listed {
+        all.push(fact(alloc, written)?)?;
+    }
+    Ok(())
 }
 
 /// The facts of a list.
 pub(crate) fn facts(alloc: Global, listed: &[Value]) -> Result<Vec<Fact>> {
     let mut all = Vec::new(alloc);
-    for written in listed {
-        all.push(fact(alloc, written)?)?;
+    match push_facts(alloc, &mut all, listed) {
+        Ok(()) => Ok(all),
+        Err(error) => {
+            drop(all);
+            Err(error)
+        }
     }
-    Ok(all)
 }
 
 /// The same facts, to be shared.
@@ -109,14 +127,21 @@ pub(crate) fn shared(alloc: Global, facts: Vec<Fact>) -> Result<Vec<Arc<Fact>>> 
 }
 
 /// What two facts are to one another, one way and the other.
-pub(crate) fn pair_answer(alloc: Global, question: &Value) -> Result<String> {
-    let facts = facts(alloc, parts(question))?;
-    let [one, other] = facts.as_slice() else {
+fn pair_told(alloc: Global, facts: &[Fact]) -> Result<String> {
+    let [one, other] = facts else {
         return Ok(String::from_str(alloc, "no two facts")?);
     };
     let pair = pair_word(compare(one, other));
     let again = pair_word(compare(other, one));
     Ok(format!(in alloc; "{pair} {again}")?)
+}
+
+/// The same of the facts of a question.
+pub(crate) fn pair_answer(alloc: Global, question: &Value) -> Result<String> {
+    let facts = facts(alloc, parts(question))?;
+    let told = pair_told(alloc, &facts);
+    drop(facts);
+    told
 }
 
 /// The class of a cell: of the list, from its end, and by all pairs.
@@ -131,7 +156,10 @@ fn ways(alloc: Global, cell: &[Arc<Fact>], by_pairs: Class) -> Result<String> {
 pub(crate) fn class_answer(alloc: Global, question: &Value) -> Result<String> {
     let facts = facts(alloc, parts(question))?;
     let by_pairs = class_by_pairs(&facts);
-    ways(alloc, &shared(alloc, facts)?, by_pairs)
+    let cell = shared(alloc, facts)?;
+    let told = ways(alloc, &cell, by_pairs);
+    drop(cell);
+    told
 }
 
 /// What a word says to be allowed.
@@ -171,5 +199,6 @@ pub(crate) fn least_answer(alloc: Global, question: &Value) -> Result<String> {
     };
     let facts = facts(alloc, listed)?;
     let place = least_disallowed_by_pairs(allowed(word.as_str().unwrap_or("")), &facts);
+    drop(facts);
     Ok(format!(in alloc; "{place:?}")?)
 }

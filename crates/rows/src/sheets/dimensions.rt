@@ -20,10 +20,22 @@ fn told(alloc: Global, dims: &DimSet) -> Result<String, AllocError> {
     Ok(told)
 }
 
+/// The same of the clone of a dimension set.
+fn told_of_clone(alloc: Global, dims: &DimSet) -> Result<String, AllocError> {
+    let again = dims.clone()?;
+    let told = told(alloc, &again);
+    drop(again);
+    told
+}
+
 /// What is written of the clone of a dimension set, or the reply that refuses it.
 pub(crate) fn dims_answer(alloc: Global, question: &Value) -> Result<String> {
     match DimSet::of(named(alloc, question)?) {
-        Ok(dims) => Ok(told(alloc, &dims.clone()?)?),
+        Ok(dims) => {
+            let told = told_of_clone(alloc, &dims);
+            drop(dims);
+            Ok(told?)
+        }
         Err(fault) => Ok(bad_fact_reply(alloc, Trouble::Dims(fault))?),
     }
 }
@@ -49,26 +61,35 @@ fn sign(one: &DimSet, other: &DimSet) -> &'static str {
     }
 }
 
-/// The dimension sets of some lists.
-fn all_dims(alloc: Global, lists: &[Value]) -> Result<Vec<DimSet>> {
-    let mut all = Vec::new(alloc);
+/// Appends the dimension sets of some lists.
+fn push_all(alloc: Global, all: &mut Vec<DimSet>, lists: &[Value]) -> Result<()> {
     for listed in lists {
         all.push(DimSet::of(named(alloc, listed)?)?)?;
     }
-    Ok(all)
+    Ok(())
 }
 
 /// How each of some dimension sets stands to each.
-pub(crate) fn order_answer(alloc: Global, question: &Value) -> Result<String> {
-    let all = all_dims(alloc, parts(question))?;
+fn signs(alloc: Global, all: &[DimSet]) -> Result<String> {
     let mut told = String::new(alloc);
-    for one in &all {
-        for other in &all {
+    for one in all {
+        for other in all {
             told.push_str(sign(one, other))?;
         }
         told.push_str(" ")?;
     }
     Ok(told)
+}
+
+/// The same of the dimension sets of some lists.
+pub(crate) fn order_answer(alloc: Global, question: &Value) -> Result<String> {
+    let mut all = Vec::new(alloc);
+    let told = match push_all(alloc, &mut all, parts(question)) {
+        Ok(()) => signs(alloc, &all),
+        Err(error) => Err(error),
+    };
+    drop(all);
+    told
 }
 
 /// The prefixes with their URIs of a list of pairs.
@@ -104,15 +125,27 @@ pub(crate) fn names_answer(
         return Ok(String::from_str(alloc, "no prefixes")?);
     };
     match Names::of(prefixes(alloc, listed)?, table.clone()?) {
-        Ok(names) => names_and_clone(alloc, &names, sought),
+        Ok(names) => {
+            let told = names_and_clone(alloc, &names, sought);
+            drop(names);
+            told
+        }
         Err(fault) => Ok(fault.to_string(alloc)?),
     }
+}
+
+/// What the clone of names finds.
+fn lookups_of_clone(alloc: Global, names: &Names, sought: &[Value]) -> Result<String, AllocError> {
+    let again = names.clone()?;
+    let found = lookups(alloc, &again, sought);
+    drop(again);
+    found
 }
 
 /// What names find, where their clone finds the same.
 fn names_and_clone(alloc: Global, names: &Names, sought: &[Value]) -> Result<String> {
     let found = lookups(alloc, names, sought)?;
-    let again = lookups(alloc, &names.clone()?, sought)?;
+    let again = lookups_of_clone(alloc, names, sought)?;
     if found.as_str() == again.as_str() {
         Ok(found)
     } else {

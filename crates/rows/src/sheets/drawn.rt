@@ -46,7 +46,9 @@ const VALUES: &str =
 /// The facts of those values.
 fn values(alloc: Global) -> Result<Vec<Arc<Fact>>> {
     let listed = json_value(alloc, VALUES.as_bytes())?.unwrap_or(Value::Null);
-    shared(alloc, facts(alloc, parts(&listed))?)
+    let facts = facts(alloc, parts(&listed));
+    drop(listed);
+    shared(alloc, facts?)
 }
 
 /// A cell twice over, for the fast body and for the slow one.
@@ -90,19 +92,34 @@ impl Cell {
     }
 }
 
-/// How many of some drawn cells have another class by all pairs, and which classes came, in a word each.
-pub(crate) fn drawn_classes(alloc: Global) -> Result<String> {
-    let values = values(alloc)?;
-    let mut cell = Cell::new(alloc)?;
+/// How many of 4,000 drawn cells have another class by all pairs, and which classes came.
+fn draw_all(values: &[Arc<Fact>], cell: &mut Cell) -> Result<(u64, [bool; 6]), AllocError> {
     let mut seed = 20_240_229;
     let mut differing = 0u64;
     let mut seen = [false; 6];
     for _ in 0..4_000 {
         seed = next(seed);
-        cell.draw(&values, seed)?;
+        cell.draw(values, seed)?;
         let class = class_by_pairs(&cell.held);
         differing = differing.saturating_add(u64::from(class_of(&cell.shared) != class));
         seen[class as usize] = true;
     }
+    Ok((differing, seen))
+}
+
+/// The same of cells of these values.
+fn drawn_of(alloc: Global, values: &[Arc<Fact>]) -> Result<(u64, [bool; 6]), AllocError> {
+    let mut cell = Cell::new(alloc)?;
+    let drawn = draw_all(values, &mut cell);
+    drop(cell);
+    drawn
+}
+
+/// The same, in a word each.
+pub(crate) fn drawn_classes(alloc: Global) -> Result<String> {
+    let values = values(alloc)?;
+    let drawn = drawn_of(alloc, &values);
+    drop(values);
+    let (differing, seen) = drawn?;
     Ok(format!(in alloc; "4000 drawn cells, {differing} differ, each class: {seen:?}")?)
 }

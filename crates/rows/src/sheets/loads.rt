@@ -93,7 +93,10 @@ fn class_in(
     dims: &DimSet,
     facts: &[(String, Arc<Fact>)],
 ) -> Result<Class, AllocError> {
-    Ok(class_by_pairs(&held_in(alloc, dims, facts)?))
+    let cell = held_in(alloc, dims, facts)?;
+    let class = class_by_pairs(&cell);
+    drop(cell);
+    Ok(class)
 }
 
 /// Their identifiers.
@@ -125,7 +128,9 @@ fn refusal(
 /// The place of the first fact of the least cell that a report does not allow, by all pairs.
 fn least_place(alloc: Global, report: &Report) -> Result<Option<usize>, AllocError> {
     let held = all_held(alloc, report.facts())?;
-    Ok(least_disallowed_by_pairs(report.allowed(), &held))
+    let place = least_disallowed_by_pairs(report.allowed(), &held);
+    drop(held);
+    Ok(place)
 }
 
 /// The reply to a first load of a report, by all pairs of its facts.
@@ -139,12 +144,32 @@ fn reply_by_pairs(alloc: Global, report: &Report) -> Result<Reply, AllocError> {
     }
 }
 
+/// The load of a report.
+fn load_of(alloc: Global, report: Report) -> Result<Step, AllocError> {
+    let report = Arc::new(alloc, report)?;
+    match String::from_str(alloc, "r1") {
+        Ok(name) => Ok(Step::Load(name, report)),
+        Err(error) => {
+            drop(report);
+            Err(error)
+        }
+    }
+}
+
 /// The reply of a new core to a load.
 fn load(alloc: Global, report: Report) -> Result<Reply, CoreFault> {
-    let mut core = Core::new(alloc)?;
-    let name = String::from_str(alloc, "r1")?;
-    let report = Arc::new(alloc, report)?;
-    core.step(alloc, None, Step::Load(name, report))
+    let step = load_of(alloc, report)?;
+    match Core::new(alloc) {
+        Ok(mut core) => {
+            let reply = core.step(alloc, None, step);
+            drop(core);
+            reply
+        }
+        Err(error) => {
+            drop(step);
+            Err(error.into())
+        }
+    }
 }
 
 fn is_same_line(alloc: Global, one: &Reply, other: &Reply) -> Result<bool, AllocError> {
@@ -160,21 +185,39 @@ enum Seen {
     Differing,
 }
 
+/// What is seen of the reply to a load, where this is the one by all pairs.
+fn seen_in(alloc: Global, reply: &Reply, expected: &Reply) -> Result<Seen, AllocError> {
+    if !is_same_line(alloc, expected, reply)? {
+        return Ok(Seen::Differing);
+    }
+    Ok(match reply {
+        Reply::Loaded(_) => Seen::Loaded,
+        _ => Seen::Refused,
+    })
+}
+
 /// What is seen of the load of a report, where this is the reply by all pairs.
 fn seen_of(alloc: Global, report: Report, expected: &Reply) -> Result<Seen> {
     let reply = load(alloc, report)?;
-    Ok(match (is_same_line(alloc, expected, &reply)?, reply) {
-        (false, _) => Seen::Differing,
-        (true, Reply::Loaded(_)) => Seen::Loaded,
-        (true, _) => Seen::Refused,
-    })
+    let seen = seen_in(alloc, &reply, expected);
+    drop(reply);
+    Ok(seen?)
 }
 
 /// What is seen of the load of the report of a text.
 fn seen_of_text(alloc: Global, table: &Arc<NumericTable>, text: &str) -> Result<Seen> {
     let report = read_report(alloc, text.as_bytes(), table)?;
-    let expected = reply_by_pairs(alloc, &report)?;
-    seen_of(alloc, report, &expected)
+    match reply_by_pairs(alloc, &report) {
+        Ok(expected) => {
+            let seen = seen_of(alloc, report, &expected);
+            drop(expected);
+            seen
+        }
+        Err(error) => {
+            drop(report);
+            Err(error.into())
+        }
+    }
 }
 
 /// What is seen of the load of a drawn report that declares a word.

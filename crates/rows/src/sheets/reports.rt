@@ -29,20 +29,41 @@ pub(crate) fn told(
     answer: Result<Report, ReportFault>,
 ) -> Result<String, AllocError> {
     match answer {
-        Ok(_) => String::from_str(alloc, "read"),
-        Err(fault) => bad_report_reply(alloc, &fault),
+        Ok(report) => {
+            drop(report);
+            String::from_str(alloc, "read")
+        }
+        Err(fault) => {
+            let told = bad_report_reply(alloc, &fault);
+            drop(fault);
+            told
+        }
     }
 }
 
-/// The same of the value of a text, looked at and taken apart. Nothing is told where both are as they were of the text.
+/// The same of a value, looked at and taken apart.
+pub(crate) fn both_told(
+    alloc: Global,
+    value: Value,
+    table: &Arc<NumericTable>,
+) -> Result<(String, String), AllocError> {
+    match told(alloc, report_of(alloc, &value, table)) {
+        Ok(looked_at) => Ok((looked_at, told(alloc, report_from(alloc, value, table))?)),
+        Err(error) => {
+            drop(value);
+            Err(error)
+        }
+    }
+}
+
+/// The same of the value of a text. Nothing is told where both are as they were of the text.
 fn told_by_value(
     alloc: Global,
     value: Value,
     table: &Arc<NumericTable>,
     by_text: &str,
 ) -> Result<String, AllocError> {
-    let looked_at = told(alloc, report_of(alloc, &value, table))?;
-    let taken_apart = told(alloc, report_from(alloc, value, table))?;
+    let (looked_at, taken_apart) = both_told(alloc, value, table)?;
     if looked_at.as_str() == by_text && taken_apart.as_str() == by_text {
         return Ok(String::new(alloc));
     }
@@ -65,18 +86,25 @@ pub(crate) fn report_answer(
     line: &[u8],
     table: &Arc<NumericTable>,
 ) -> Result<String, AllocError> {
-    match json_value(alloc, line)? {
+    let value = json_value(alloc, line)?;
+    let told = match &value {
         Some(Value::String(text)) => reading(alloc, text.as_bytes(), table),
         _ => reading(alloc, line, table),
-    }
+    };
+    drop(value);
+    told
 }
 
 /// Whether a text is no JSON.
 fn is_no_json(alloc: Global, text: &[u8], table: &Arc<NumericTable>) -> Result<bool, AllocError> {
-    match read_report(alloc, text, table) {
+    let answer = read_report(alloc, text, table);
+    let is_no_json = match &answer {
         Err(ReportFault::NoMemory) => Err(AllocError),
-        answer => Ok(matches!(answer, Err(ReportFault::NotJson))),
-    }
+        Err(ReportFault::NotJson) => Ok(true),
+        _ => Ok(false),
+    };
+    drop(answer);
+    is_no_json
 }
 
 /// How many proper fronts a text has, and how many of them are anything but no JSON.
@@ -97,10 +125,13 @@ pub(crate) fn fronts_answer(
     line: &[u8],
     table: &Arc<NumericTable>,
 ) -> Result<String, AllocError> {
-    match json_value(alloc, line)? {
+    let value = json_value(alloc, line)?;
+    let told = match &value {
         Some(Value::String(text)) => fronts(alloc, text.as_bytes(), table),
         _ => fronts(alloc, line, table),
-    }
+    };
+    drop(value);
+    told
 }
 
 /// The report of a text.
@@ -108,56 +139,76 @@ fn read(alloc: Global, text: &str, table: &Arc<NumericTable>) -> Result<Report> 
     Ok(read_report(alloc, text.as_bytes(), table)?)
 }
 
-/// Whether a text is written of the parts of a report too, and of the report that its own value is.
-fn is_written_again(
-    alloc: Global,
-    text: &str,
-    report: &Report,
-    table: &Arc<NumericTable>,
-) -> Result<bool> {
-    Ok(is_written_so(alloc, text, report)? && is_read_so(alloc, text, table)?)
+/// Whether a text is what is written of a report, which is let go.
+fn is_written_as(alloc: Global, report: Report, text: &str) -> Result<bool, AllocError> {
+    let written = write_report(alloc, &report);
+    drop(report);
+    Ok(written?.as_str() == text)
 }
 
-/// What is written of the report of a text, where the same is written again.
+/// Whether a text is written of the report that is made of the parts of a clone.
+fn is_written_so(alloc: Global, text: &str, report: &Report) -> Result<bool, AllocError> {
+    let again = Report::of(report.clone()?.into_parts());
+    is_written_as(alloc, again, text)
+}
+
+/// Whether a text is what is written of the report that a value is.
+fn is_of_value(
+    alloc: Global,
+    text: &str,
+    value: &Value,
+    table: &Arc<NumericTable>,
+) -> Result<bool> {
+    let report = report_of(alloc, value, table)?;
+    Ok(is_written_as(alloc, report, text)?)
+}
+
+/// The same, where the value is taken apart too.
+fn is_from_value(
+    alloc: Global,
+    text: &str,
+    value: Value,
+    table: &Arc<NumericTable>,
+) -> Result<bool> {
+    match is_of_value(alloc, text, &value, table) {
+        Ok(true) => {
+            let report = report_from(alloc, value, table)?;
+            Ok(is_written_as(alloc, report, text)?)
+        }
+        other => {
+            drop(value);
+            other
+        }
+    }
+}
+
+/// Whether a text is what is written of the report that its value is.
+fn is_read_so(alloc: Global, text: &str, table: &Arc<NumericTable>) -> Result<bool> {
+    match json_value(alloc, text.as_bytes())? {
+        Some(value) => is_from_value(alloc, text, value, table),
+        None => Ok(false),
+    }
+}
+
+/// What is written of a report, where the same is written of its parts, and of the report that its own value is.
+fn written_again(alloc: Global, report: &Report, table: &Arc<NumericTable>) -> Result<String> {
+    let text = write_report(alloc, report)?;
+    if is_written_so(alloc, &text, report)? && is_read_so(alloc, &text, table)? {
+        return Ok(text);
+    }
+    Ok(String::from_str(alloc, "another text the second time")?)
+}
+
+/// The same of the report of a text.
 pub(crate) fn written_answer(
     alloc: Global,
     question: &Value,
     table: &Arc<NumericTable>,
 ) -> Result<String> {
     let report = read(alloc, question.as_str().unwrap_or(""), table)?;
-    let text = write_report(alloc, &report)?;
-    if is_written_again(alloc, &text, &report, table)? {
-        return Ok(text);
-    }
-    Ok(String::from_str(alloc, "another text the second time")?)
-}
-
-/// Whether a report that is made of the parts of a clone is written as this text.
-fn is_written_so(alloc: Global, text: &str, report: &Report) -> Result<bool, AllocError> {
-    let again = Report::of(report.clone()?.into_parts());
-    let written = write_report(alloc, &again)?;
-    Ok(written.as_str() == text)
-}
-
-/// What is written of the report that a value is.
-fn written_of(alloc: Global, value: &Value, table: &Arc<NumericTable>) -> Result<String> {
-    Ok(write_report(alloc, &report_of(alloc, value, table)?)?)
-}
-
-/// The same, where the value is taken apart.
-fn written_from(alloc: Global, value: Value, table: &Arc<NumericTable>) -> Result<String> {
-    Ok(write_report(alloc, &report_from(alloc, value, table)?)?)
-}
-
-/// Whether a text is what is written of the report that its value is.
-fn is_read_so(alloc: Global, text: &str, table: &Arc<NumericTable>) -> Result<bool> {
-    let Some(value) = json_value(alloc, text.as_bytes())? else {
-        return Ok(false);
-    };
-    if written_of(alloc, &value, table)?.as_str() != text {
-        return Ok(false);
-    }
-    Ok(written_from(alloc, value, table)?.as_str() == text)
+    let written = written_again(alloc, &report, table);
+    drop(report);
+    written
 }
 
 /// Appends what a report allows, and its identifiers with their values.
@@ -174,6 +225,13 @@ fn push_values(told: &mut String, report: &Report) -> Result<(), AllocError> {
 }
 
 /// What a report holds beside its text: what it allows, the URIs of some prefixes, and the values of its facts.
+fn parts_told(alloc: Global, report: &Report, prefixes: &[Value]) -> Result<String, AllocError> {
+    let mut told = lookups(alloc, report.names(), prefixes)?;
+    push_values(&mut told, report)?;
+    Ok(told)
+}
+
+/// The same of the report of a text.
 pub(crate) fn parts_answer(
     alloc: Global,
     question: &Value,
@@ -181,7 +239,7 @@ pub(crate) fn parts_answer(
 ) -> Result<String> {
     let report = read(alloc, text_at(question, 0), table)?;
     let prefixes = parts(question).get(1..).unwrap_or(&[]);
-    let mut told = lookups(alloc, report.names(), prefixes)?;
-    push_values(&mut told, &report)?;
-    Ok(told)
+    let told = parts_told(alloc, &report, prefixes);
+    drop(report);
+    Ok(told?)
 }

@@ -2,7 +2,8 @@
 
 ghost use Rattle.std.specs.Prelude.{◌≡◌, ◌≤◌, ◌<◌};
 
-use crate::sheets::sheet::{Sheet, push_line};
+use crate::lines::{ends_in, is_end, push_line};
+use crate::sheets::sheet::Sheet;
 use anyhow::Result;
 use filing_cli::{MemoryIn, MemoryOut, ScriptFault, is_blank, run_script};
 use filing_core::Core;
@@ -18,7 +19,7 @@ const ROOM: usize = 65536;
 /// How many lines before the one of this number, from 1, have a reply.
 fn replies_before(lines: &[u8], number: u128) -> usize {
     let mut count = 0usize;
-    for (line, at) in lines.split(|byte| *byte == b'\n').zip(1u128..) {
+    for (line, at) in lines.split(is_end).zip(1u128..) {
         if at < number && !is_blank(line) {
             count = count.saturating_add(1);
         }
@@ -28,8 +29,7 @@ fn replies_before(lines: &[u8], number: u128) -> usize {
 
 /// Whether exactly the replies to the lines before the one of this number are written.
 fn is_answered_before(sheet: &Sheet, written: &[u8], number: u128) -> bool {
-    let ends = written.iter().filter(|byte| **byte == b'\n').count();
-    sheet.replies.starts_with(written) && ends == replies_before(&sheet.lines, number)
+    sheet.replies.starts_with(written) && ends_in(written) == replies_before(&sheet.lines, number)
 }
 
 /// What is written, with the number of steps where the sheet has it.
@@ -58,7 +58,11 @@ fn told(
     written: &[u8],
 ) -> Result<Vec<u8>> {
     match ended {
-        Ok(core) => with_steps(alloc, sheet, &core, written),
+        Ok(core) => {
+            let told = with_steps(alloc, sheet, &core, written);
+            drop(core);
+            told
+        }
         Err(ScriptFault::NoMemory(number)) if is_answered_before(sheet, written, number) => {
             Err(AllocError.into())
         }
@@ -81,10 +85,13 @@ fn run_over<L: Ledger, K: Ledger>(
     requires sink_parts { sink_blank.parts ≡ K.parts }
     requires sink_some { 0 < sink_blank.parts }
 {
-    let mut source: MemoryIn<'_, L> = MemoryIn::new(&sheet.lines, piece.max(1), source_blank);
     let mut sink: MemoryOut<K> = MemoryOut::new(alloc, ROOM, piece.max(1), sink_blank)?;
+    let mut source: MemoryIn<'_, L> = MemoryIn::new(&sheet.lines, piece.max(1), source_blank);
     let ended = run_script(alloc, &mut source, &mut sink, table);
-    told(alloc, sheet, ended, sink.written())
+    drop(source);
+    let told = told(alloc, sheet, ended, sink.written());
+    drop(sink);
+    told
 }
 
 /// What is written for the lines of a sheet, of which so many bytes are read at once.

@@ -1,5 +1,6 @@
 //! The rows of one script.
 
+use crate::lines::push_line;
 use std::alloc::{AllocError, Global};
 
 /// The lines of a script under its title, with the replies that are written beside them.
@@ -12,12 +13,6 @@ pub(crate) struct Sheet {
     pub(crate) count: u64,
     /// Whether the number of its steps is written, behind the replies.
     pub(crate) counts_steps: bool,
-}
-
-/// Appends a line with its end.
-pub(crate) fn push_line(lines: &mut Vec<u8>, line: &[u8]) -> Result<(), AllocError> {
-    lines.extend_from_slice(line)?;
-    lines.extend_from_slice(b"\n")
 }
 
 impl Sheet {

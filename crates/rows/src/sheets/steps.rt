@@ -4,6 +4,7 @@ ghost use Rattle.std.specs.Prelude.{◌≡◌, ◌<◌, true};
 ghost use Rattle.filing_step.specs.Steps.{step_of};
 ghost use Rattle.filing_core.specs.Prepared.{is_load_or_commit};
 
+use crate::lines::is_end;
 use crate::sheets::asked_steps::{step_of, step_word};
 use crate::sheets::question::text_at;
 use anyhow::Result;
@@ -63,6 +64,7 @@ fn take_parts(
     if is_as_told(core, made, &reply) {
         Ok(reply)
     } else {
+        drop(reply);
         Ok(Reply::Absent)
     }
 }
@@ -109,17 +111,26 @@ fn let_go(
 ) -> Result<()> {
     if let Some(step) = step_of(alloc, table, question)? {
         if is_load_or_commit(&step) {
-            let _ = core.prepare(alloc, session_of(question), step);
+            drop(core.prepare(alloc, session_of(question), step));
+        } else {
+            drop(step);
         }
     }
     Ok(())
+}
+
+/// The line of a reply, which is let go.
+fn reply_line(alloc: Global, reply: Reply) -> Result<String, AllocError> {
+    let line = reply_text(alloc, &reply);
+    drop(reply);
+    line
 }
 
 /// The line of a reply, or why a step was not taken. Want of memory is passed on.
 fn told(alloc: Global, answer: Answer) -> Result<String> {
     match answer {
         None => Ok(String::from_str(alloc, "no step")?),
-        Some(Ok(reply)) => Ok(reply_text(alloc, &reply)?),
+        Some(Ok(reply)) => Ok(reply_line(alloc, reply)?),
         Some(Err(CoreFault::NoMemory)) => Err(AllocError.into()),
         Some(Err(fault)) => Ok(fault.to_string(alloc)?),
     }
@@ -136,14 +147,14 @@ fn answer_once_more(
     let before = state(core);
     let answer = once(alloc, core, table, taking, question)?;
     if !matches!(answer, Some(Ok(_))) && state(core) != before {
+        drop(answer);
         return Ok(String::from_str(alloc, "changed where nothing was to change")?);
     }
-    match answer {
-        Some(Err(CoreFault::NoMemory)) => {
-            told(alloc, once(alloc, core, table, taking, question)?)
-        }
-        answer => told(alloc, answer),
+    if matches!(answer, Some(Err(CoreFault::NoMemory))) {
+        drop(answer);
+        return told(alloc, once(alloc, core, table, taking, question)?);
     }
+    told(alloc, answer)
 }
 
 /// The answer to a step. What is made ready and let go is to change nothing.
@@ -201,28 +212,58 @@ fn look(alloc: Global, core: &Core, question: &Value) -> Result<String> {
 
 /// The line of a reply with this number.
 fn numbered(alloc: Global, number: u64) -> Result<String> {
-    let committed = reply_text(alloc, &Reply::Committed(number))?;
-    let loaded = reply_text(alloc, &Reply::Loaded(number))?;
+    let committed = reply_line(alloc, Reply::Committed(number))?;
+    let loaded = reply_line(alloc, Reply::Loaded(number))?;
     Ok(format!(in alloc; "{committed} {loaded}")?)
 }
 
-/// Appends the answer to a question, which is a step, a word by which the core is looked at, or a number of a version.
-fn push_answer(
+/// The answer to a question, which is a step, a word by which the core is looked at, or a number of a version.
+fn answer_to(
     alloc: Global,
     core: &mut Core,
     table: &Arc<NumericTable>,
     taking: Taking,
     question: &Value,
-    told: &mut String,
-) -> Result<()> {
-    let answer = match (question.as_u64(), question.get(0usize)) {
-        (Some(number), _) => numbered(alloc, number)?,
-        (None, Some(Value::String(_))) => look(alloc, core, question)?,
-        _ => step_answer(alloc, core, table, taking, question)?,
+) -> Result<String> {
+    match (question.as_u64(), question.get(0usize)) {
+        (Some(number), _) => numbered(alloc, number),
+        (None, Some(Value::String(_))) => look(alloc, core, question),
+        _ => step_answer(alloc, core, table, taking, question),
+    }
+}
+
+/// The answer to the question of a line, where it is one.
+fn line_answer(
+    alloc: Global,
+    core: &mut Core,
+    table: &Arc<NumericTable>,
+    taking: Taking,
+    line: &[u8],
+) -> Result<Option<String>> {
+    let Some(question) = json_value(alloc, line)? else {
+        return Ok(None);
     };
-    told.push_str(&answer)?;
-    told.push_str("\n")?;
-    Ok(())
+    let answer = answer_to(alloc, core, table, taking, &question);
+    drop(question);
+    Ok(Some(answer?))
+}
+
+/// The answers of a core to questions.
+fn answers_of(
+    alloc: Global,
+    core: &mut Core,
+    table: &Arc<NumericTable>,
+    taking: Taking,
+    lines: &[u8],
+) -> Result<String> {
+    let mut told = String::new(alloc);
+    for line in lines.split(is_end) {
+        if let Some(answer) = line_answer(alloc, core, table, taking, line)? {
+            told.push_str(&answer)?;
+            told.push_str("\n")?;
+        }
+    }
+    Ok(told)
 }
 
 /// The answers of a new core to questions.
@@ -233,11 +274,7 @@ pub(crate) fn steps_answers(
     lines: &[u8],
 ) -> Result<String> {
     let mut core = Core::new(alloc)?;
-    let mut told = String::new(alloc);
-    for line in lines.split(|byte| *byte == b'\n') {
-        if let Some(question) = json_value(alloc, line)? {
-            push_answer(alloc, &mut core, table, taking, &question, &mut told)?;
-        }
-    }
-    Ok(told)
+    let told = answers_of(alloc, &mut core, table, taking, lines);
+    drop(core);
+    told
 }

@@ -24,7 +24,11 @@ fn lookups(alloc: Global, table: &NumericTable, pairs: &[Value]) -> Result<Strin
 pub(crate) fn table_answer(alloc: Global, question: &Value) -> Result<String> {
     let pairs = parts(question).get(1..).unwrap_or(&[]);
     match read_table(alloc, text_at(question, 0)) {
-        Ok(table) => Ok(lookups(alloc, &table, pairs)?),
+        Ok(table) => {
+            let told = lookups(alloc, &table, pairs);
+            drop(table);
+            Ok(told?)
+        }
         Err(TableFault::NoMemory) => Err(AllocError.into()),
         Err(fault) => Ok(fault.to_string(alloc)?),
     }

@@ -96,9 +96,9 @@ const NUMBERS: u64 = 300;
 
 /// A fact of these dimensions with a text.
 fn make_fact(alloc: Global, dims: &DimSet, text: &str) -> Result<Arc<Fact>, AllocError> {
-    let value = FactValue::Text(String::from_str(alloc, text)?);
+    let text = String::from_str(alloc, text)?;
     let dims = dims.clone()?;
-    let links = None;
+    let (value, links) = (FactValue::Text(text), None);
     Ok(Arc::new(alloc, Fact { dims, value, links })?)
 }
 
@@ -111,8 +111,9 @@ fn put(
     id: &str,
     text: &str,
 ) -> Result<(), AllocError> {
+    let id = String::from_str(alloc, id)?;
     let fact = make_fact(alloc, dims, text)?;
-    change.put(report, String::from_str(alloc, id)?, Some(fact))
+    change.put(report, id, Some(fact))
 }
 
 /// Makes edits in turn.
@@ -179,26 +180,44 @@ fn has_both(
     Ok(change.declared("r3") == declared && has_puts(alloc, change, puts)?)
 }
 
-/// Whether the change stays until a removal and a declaration that are ready are taken, and is then as it was to be.
-fn takes_both(
+/// Whether the change stays until a removal that is ready is taken, and is then as it was to be.
+fn takes_removal(
     alloc: Global,
     change: &mut Change,
     removal: ReadyPut,
-    declaration: ReadyDeclare,
 ) -> Result<bool, AllocError> {
-    let is_left = has_both(alloc, change, SOME_PUTS, None)?;
+    let is_left = has_both(alloc, change, SOME_PUTS, None);
     change.take(removal);
-    let is_removed = has_both(alloc, change, "r1/a=- r1/b=two r3/a=- ", None)?;
-    change.take_declare(declaration);
-    let is_declared = has_both(alloc, change, SOME_PUTS, Some(Allowed::All))?;
-    Ok(is_left && is_removed && is_declared)
+    let is_removed = has_both(alloc, change, "r1/a=- r1/b=two r3/a=- ", None);
+    Ok(is_left? && is_removed?)
 }
 
-/// The same of both made ready for one report.
+/// Whether the change is as it was to be once a declaration that is ready is taken.
+fn takes_declaration(
+    alloc: Global,
+    change: &mut Change,
+    declaration: ReadyDeclare,
+) -> Result<bool, AllocError> {
+    change.take_declare(declaration);
+    has_both(alloc, change, SOME_PUTS, Some(Allowed::All))
+}
+
+/// Whether a removal is made ready, and taken as it was to be.
+fn is_removed(alloc: Global, change: &mut Change) -> Result<bool, AllocError> {
+    let removal = change.ready("r3", String::from_str(alloc, "a")?, None)?;
+    takes_removal(alloc, change, removal)
+}
+
+/// Whether a removal and a declaration, made ready for one report, are taken as they were to be.
 fn is_taken(alloc: Global, change: &mut Change) -> Result<bool, AllocError> {
     let declaration = change.ready_declare("r3", Allowed::All)?;
-    let removal = change.ready("r3", String::from_str(alloc, "a")?, None)?;
-    takes_both(alloc, change, removal, declaration)
+    match is_removed(alloc, change) {
+        Ok(is_removed) => Ok(takes_declaration(alloc, change, declaration)? && is_removed),
+        Err(error) => {
+            drop(declaration);
+            Err(error)
+        }
+    }
 }
 
 /// Puts a fact, once more where want of memory refused it. Whether that left the change.
@@ -264,12 +283,24 @@ fn is_as_wanted(
     }
 }
 
+/// Makes the edits of a row. Whether the change is as it is to be then.
+fn makes_row(
+    alloc: Global,
+    dims: &DimSet,
+    change: &mut Change,
+    row: &Row,
+) -> Result<bool, AllocError> {
+    make_all(alloc, dims, change, &SOME)?;
+    make_all(alloc, dims, change, row.1)?;
+    is_as_wanted(alloc, dims, change, row.2)
+}
+
 /// Whether the change of a row is as it is to be.
 fn is_as_written(alloc: Global, dims: &DimSet, row: &Row) -> Result<bool, AllocError> {
     let mut change = Change::new(alloc);
-    make_all(alloc, dims, &mut change, &SOME)?;
-    make_all(alloc, dims, &mut change, row.1)?;
-    is_as_wanted(alloc, dims, &mut change, row.2)
+    let is_same = makes_row(alloc, dims, &mut change, row);
+    drop(change);
+    is_same
 }
 
 /// How many answers were looked at, and how many of them differ.

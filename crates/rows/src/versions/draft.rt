@@ -44,6 +44,9 @@ impl<'a> Draft<'a> {
     ) -> Result<(), AllocError> {
         if self.base.allowed(report).is_some() {
             self.change.put(report, id, fact)?;
+        } else {
+            drop(id);
+            drop(fact);
         }
         Ok(())
     }

@@ -286,7 +286,27 @@ impl Tally {
     }
 }
 
-/// Takes the lines of a script, and compares each answer.
+/// Takes the lines of a script of a number, and compares each answer.
+fn take_script<'a, R: Print + AllocGlobal>(
+    rt: &R,
+    pool: &'a Pool,
+    numbered: (u64, &'a str),
+    session: &mut Session<'a>,
+    tally: &mut Tally,
+) -> Result<()> {
+    let (number, script) = numbered;
+    for line in script.lines() {
+        session.take(rt.alloc(), pool, line)?;
+        tally.take(kind_of(line), session);
+        if !session.agrees() {
+            println!(rt; "script {number}")?;
+            session.tell(rt, "drawn", line)?;
+        }
+    }
+    Ok(())
+}
+
+/// The same by a session of its own.
 fn compare_script<'a, R: Print + AllocGlobal>(
     rt: &R,
     pool: &'a Pool,
@@ -295,15 +315,9 @@ fn compare_script<'a, R: Print + AllocGlobal>(
     tally: &mut Tally,
 ) -> Result<()> {
     let mut session = Session::new(rt.alloc())?;
-    for line in script.lines() {
-        session.take(rt.alloc(), pool, line)?;
-        tally.take(kind_of(line), &session);
-        if !session.agrees() {
-            println!(rt; "script {number}")?;
-            session.tell(rt, "drawn", line)?;
-        }
-    }
-    Ok(())
+    let taken = take_script(rt, pool, (number, script), &mut session, tally);
+    drop(session);
+    taken
 }
 
 /// Draws scripts, and compares each answer.

@@ -1,7 +1,7 @@
 //! The facts of which rows and drawn lines speak, by their names.
 
 use anyhow::Result;
-use oim_fact::{Fact, Names, NumericTable, fit};
+use oim_fact::{Fact, Names, NumericTable, RawFact, fit};
 use oim_report::{json_value, raw_fact, read_report, read_table};
 use serde_json::Value;
 use std::alloc::Global;
@@ -29,10 +29,17 @@ pub(crate) struct Pool {
     pub(crate) table: Arc<NumericTable>,
 }
 
+/// The raw fact of a text.
+fn read_raw(alloc: Global, text: &str) -> Result<RawFact> {
+    let value = json_value(alloc, text.as_bytes())?.unwrap_or(Value::Null);
+    let raw = raw_fact(alloc, &value);
+    drop(value);
+    Ok(raw?)
+}
+
 /// The fact of a text.
 fn read_fact(alloc: Global, names: &Names, text: &str) -> Result<Arc<Fact>> {
-    let value = json_value(alloc, text.as_bytes())?.unwrap_or(Value::Null);
-    let raw = raw_fact(alloc, &value)?;
+    let raw = read_raw(alloc, text)?;
     Ok(Arc::new(alloc, fit(names, raw)?)?)
 }
 
@@ -56,12 +63,19 @@ fn read_facts(alloc: Global, names: &Names, text: &str) -> Result<Vec<Named>> {
     Ok(facts)
 }
 
+/// The same, fitted to the prefixes of a report.
+fn read_fitted(alloc: Global, table: &Arc<NumericTable>, text: &str) -> Result<Vec<Named>> {
+    let report = read_report(alloc, FITTED.as_bytes(), table)?;
+    let facts = read_facts(alloc, report.names(), text);
+    drop(report);
+    facts
+}
+
 impl Pool {
     /// The facts of a text, each on a line with its name before it.
     pub(crate) fn read(alloc: Global, text: &str) -> Result<Pool> {
         let table = Arc::new(alloc, read_table(alloc, NUMERIC)?)?;
-        let report = read_report(alloc, FITTED.as_bytes(), &table)?;
-        let facts = read_facts(alloc, report.names(), text)?;
+        let facts = read_fitted(alloc, &table, text)?;
         Ok(Pool { facts, table })
     }
 

@@ -198,6 +198,17 @@ impl<'a> State<'a> {
         Ok(())
     }
 
+    /// Puts the facts that wait for a report.
+    fn put_waiting(&mut self, report: &'a str, edits: &[Edit<'a>]) -> Result<(), AllocError> {
+        for edit in edits {
+            if let Some((id, named)) = edit.loaded(report) {
+                let fact = &named.fact;
+                self.put(Entry { report, id, fact })?;
+            }
+        }
+        Ok(())
+    }
+
     /// Adds a report with the facts that wait for it.
     pub(crate) fn load(
         &mut self,
@@ -207,13 +218,7 @@ impl<'a> State<'a> {
     ) -> Result<(), AllocError> {
         self.touches.push(Touch::Load(report))?;
         self.declare(report, allowed)?;
-        for edit in edits {
-            if let Some((id, named)) = edit.loaded(report) {
-                let fact = &named.fact;
-                self.put(Entry { report, id, fact })?;
-            }
-        }
-        Ok(())
+        self.put_waiting(report, edits)
     }
 
     /// Makes an edit, where its report is there.

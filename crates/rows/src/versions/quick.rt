@@ -64,36 +64,39 @@ fn with_report(
     report: Report,
 ) -> Result<RepoVersion> {
     if base.allowed(name).is_some() || base.number() == u64::MAX {
+        drop(report);
         return Err(anyhow!("the name {name} is taken"));
     }
-    Ok(base.with_report(alloc, String::from_str(alloc, name)?, report)?)
-}
-
-/// A change of a version by edits.
-fn draft<'a>(
-    alloc: Global,
-    base: &'a RepoVersion,
-    edits: &[Edit<'_>],
-) -> Result<Draft<'a>, AllocError> {
-    let mut draft = Draft::new(alloc, base);
-    for edit in edits {
-        make(alloc, &mut draft, *edit)?;
+    match String::from_str(alloc, name) {
+        Ok(name) => Ok(base.with_report(alloc, name, report)?),
+        Err(error) => {
+            drop(report);
+            Err(error.into())
+        }
     }
-    Ok(draft)
 }
 
 /// Makes one edit.
 fn make(alloc: Global, draft: &mut Draft<'_>, edit: Edit<'_>) -> Result<(), AllocError> {
     match edit {
         Edit::Put { report, id, fact } => {
+            let id = String::from_str(alloc, id)?;
             let fact = match fact {
                 Some(named) => Some(named.fact.clone()?),
                 None => None,
             };
-            draft.put(report, String::from_str(alloc, id)?, fact)
+            draft.put(report, id, fact)
         }
         Edit::Declare { report, allowed } => draft.declare(report, allowed),
     }
+}
+
+/// Makes edits in turn.
+fn make_all(alloc: Global, draft: &mut Draft<'_>, edits: &[Edit<'_>]) -> Result<(), AllocError> {
+    for edit in edits {
+        make(alloc, draft, *edit)?;
+    }
+    Ok(())
 }
 
 /// Appends identifiers, each behind a space.
@@ -164,7 +167,11 @@ fn push_report(
     report: &str,
 ) -> Result<(), AllocError> {
     match version.report(alloc, report)? {
-        Some(report) => push_facts(told, &report),
+        Some(report) => {
+            let pushed = push_facts(told, &report);
+            drop(report);
+            pushed
+        }
         None => told.push_str(NO_REPORT),
     }
 }
@@ -207,28 +214,46 @@ fn push_answer(
     }
 }
 
-/// The version after edits. The first cell of it that is not allowed is told.
+/// The version after a draft. The first cell of it that is not allowed is told.
+fn after_draft(alloc: Global, draft: &Draft<'_>, told: &mut String) -> Result<RepoVersion> {
+    let Some(next) = draft.next(alloc)? else {
+        return Err(anyhow!("no number is left"));
+    };
+    match push_cell_or_none(told, next.first_disallowed(draft.change())) {
+        Ok(()) => Ok(next),
+        Err(error) => {
+            drop(next);
+            Err(error.into())
+        }
+    }
+}
+
+/// The version after edits, told as of a draft.
 fn after(
     alloc: Global,
     base: &RepoVersion,
     edits: &[Edit<'_>],
     told: &mut String,
 ) -> Result<RepoVersion> {
-    let draft = draft(alloc, base, edits)?;
-    match draft.next(alloc)? {
-        Some(next) => {
-            push_cell_or_none(told, next.first_disallowed(draft.change()))?;
-            Ok(next)
-        }
-        None => Err(anyhow!("no number is left")),
-    }
+    let mut draft = Draft::new(alloc, base);
+    let next = match make_all(alloc, &mut draft, edits) {
+        Ok(()) => after_draft(alloc, &draft, told),
+        Err(error) => Err(error.into()),
+    };
+    drop(draft);
+    next
 }
 
 impl Versions {
     pub(crate) fn new(alloc: Global) -> Result<Versions, AllocError> {
         let mut all = Vec::new(alloc);
-        all.push(RepoVersion::empty(alloc))?;
-        Ok(Versions { all })
+        match all.push(RepoVersion::empty(alloc)) {
+            Ok(()) => Ok(Versions { all }),
+            Err(error) => {
+                drop(all);
+                Err(error.into())
+            }
+        }
     }
 
     /// Loads a report of the facts that wait for it.
@@ -242,10 +267,12 @@ impl Versions {
     ) -> Result<()> {
         let text = report_text(alloc, name, allowed, edits)?;
         let report = read_report(alloc, text.as_bytes(), table)?;
-        if let Some(base) = self.all.last() {
-            let next = with_report(alloc, base, name, report)?;
-            self.all.push(next)?;
-        }
+        let Some(base) = self.all.last() else {
+            drop(report);
+            return Ok(());
+        };
+        let next = with_report(alloc, base, name, report)?;
+        self.all.push(next)?;
         Ok(())
     }
 

@@ -23,9 +23,10 @@ pub(crate) struct Session<'a> {
 
 impl<'a> Session<'a> {
     pub(crate) fn new(alloc: Global) -> Result<Session<'a>, AllocError> {
+        let slow = Slow::new(alloc)?;
         Ok(Session {
             versions: Versions::new(alloc)?,
-            slow: Slow::new(alloc)?,
+            slow,
             waiting: Vec::new(alloc),
             at: 0,
             told: String::new(alloc),

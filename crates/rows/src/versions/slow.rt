@@ -102,6 +102,21 @@ fn push_of_state(
     }
 }
 
+/// Makes edits, and notes what they touched of the state before.
+fn make_all<'a>(
+    before: &State<'a>,
+    next: &mut State<'a>,
+    edits: &[Edit<'a>],
+) -> Result<(), AllocError> {
+    for edit in edits {
+        next.make(*edit)?;
+    }
+    for edit in edits {
+        next.note(before, *edit)?;
+    }
+    Ok(())
+}
+
 /// The state after edits.
 fn after<'a>(
     alloc: Global,
@@ -109,13 +124,13 @@ fn after<'a>(
     edits: &[Edit<'a>],
 ) -> Result<State<'a>, AllocError> {
     let mut next = before.copy(alloc)?;
-    for edit in edits {
-        next.make(*edit)?;
+    match make_all(before, &mut next, edits) {
+        Ok(()) => Ok(next),
+        Err(error) => {
+            drop(next);
+            Err(error)
+        }
     }
-    for edit in edits {
-        next.note(before, *edit)?;
-    }
-    Ok(next)
 }
 
 /// Whether a walk over all cells finds what was found of a commit, where there was none that is not allowed before.
@@ -192,7 +207,7 @@ impl<'a> Slow<'a> {
 
     /// Takes the last state back.
     pub(crate) fn take_back(&mut self) {
-        self.states.pop();
+        drop(self.states.pop());
     }
 
     /// The number of the last state up to one whose step touched this.

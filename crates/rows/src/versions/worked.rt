@@ -38,6 +38,23 @@ fn take<'a, R: Print + AllocGlobal>(
     Ok(())
 }
 
+/// Takes the lines behind a title in turn.
+fn take_all<'a, R: Print + AllocGlobal>(
+    rt: &R,
+    pool: &'a Pool,
+    titled: (&str, &'a str),
+    session: &mut Session<'a>,
+    seen: &mut Seen,
+) -> Result<()> {
+    let (title, lines) = titled;
+    for line in lines.lines() {
+        if !line.is_empty() {
+            take(rt, pool, title, line, session, seen)?;
+        }
+    }
+    Ok(())
+}
+
 /// Compares a sheet: a title, and lines.
 fn compare_sheet<'a, R: Print + AllocGlobal>(
     rt: &R,
@@ -45,17 +62,14 @@ fn compare_sheet<'a, R: Print + AllocGlobal>(
     sheet: &'a str,
     seen: &mut Seen,
 ) -> Result<()> {
-    let Some((title, lines)) = sheet.split_once('\n') else {
+    let Some(titled) = sheet.split_once('\n') else {
         return Ok(());
     };
     seen.titles = seen.titles.wrapping_add(1);
     let mut session = Session::new(rt.alloc())?;
-    for line in lines.lines() {
-        if !line.is_empty() {
-            take(rt, pool, title, line, &mut session, seen)?;
-        }
-    }
-    Ok(())
+    let taken = take_all(rt, pool, titled, &mut session, seen);
+    drop(session);
+    taken
 }
 
 /// Compares sheets, of which each begins with `# `.

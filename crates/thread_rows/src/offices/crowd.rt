@@ -1,11 +1,12 @@
 //! Four desks that each take 25 rounds of steps in threads of their own, and whether the finished history has just these.
 
+use crate::offices::places::made_of_each;
 use crate::offices::steps::{ROUND, round_step};
 use anyhow::{Result, anyhow};
 use filing_office::{Answer, Desk, DeskStep, Gate, Naming, Office, Outcome, Ran, Work, run_desks};
 use filing_step::{Entry, Reply};
 use history_text::entry_text;
-use std::alloc::Global;
+use std::alloc::{AllocError, Global};
 use std::marker::{Send, Sync};
 use std::sync::Wait;
 use std::sync::ledger::Ledger;
@@ -44,12 +45,13 @@ fn busy_desks<L: Ledger + Naming, M: Ledger>(
     alloc: Global,
     desks: Vec<Desk<L, M>>,
 ) -> Result<Vec<Busy<L, M>>> {
-    let mut all = Vec::with_capacity(alloc, desks.len())?;
-    for (place, desk) in desks.into_iter().enumerate() {
-        let told = Vec::new(alloc);
-        all.push(Busy { place, desk, told })?;
-    }
-    Ok(all)
+    made_of_each(alloc, desks, |place, desk| {
+        Ok(Busy {
+            place,
+            desk,
+            told: Vec::new(alloc),
+        })
+    })
 }
 
 /// Takes a step, and gives the session of its entry.
@@ -65,7 +67,12 @@ fn take_one<L: Ledger + Naming, M: Ledger, R: Wait + AllocGlobal>(
     let Ok(answer) = busy.desk.step(rt, office, rt.alloc(), session, step) else {
         return Err(anyhow!("a step is refused"));
     };
-    let Answer { session, reply, .. } = answer;
+    let Answer {
+        session,
+        reply,
+        receipt,
+    } = answer;
+    drop(receipt);
     busy.told.push(Told { session, reply })?;
     Ok(session)
 }
@@ -120,40 +127,55 @@ fn steps_of(alloc: Global, place: usize) -> Result<Vec<DeskStep>> {
     let mut steps = Vec::with_capacity(alloc, ROUNDS * ROUND)?;
     for round in 0..ROUNDS {
         for turn in 0..ROUND {
-            let step = round_step(alloc, place, round, turn)?;
             let name = String::from_str(alloc, "s")?;
+            let step = round_step(alloc, place, round, turn)?;
             steps.push(DeskStep { name, step })?;
         }
     }
     Ok(steps)
 }
 
+/// A desk with the steps of all its rounds.
+fn work_of<L: Ledger + Naming, M: Ledger>(
+    alloc: Global,
+    place: usize,
+    desk: Desk<L, M>,
+) -> Result<Work<L, M>> {
+    let steps = steps_of(alloc, place)?;
+    Ok(Work {
+        desk,
+        reviewer: None,
+        steps,
+    })
+}
+
 fn works_of<L: Ledger + Naming, M: Ledger>(
     alloc: Global,
     desks: Vec<Desk<L, M>>,
 ) -> Result<Vec<Work<L, M>>> {
-    let mut works = Vec::with_capacity(alloc, desks.len())?;
-    for (place, desk) in desks.into_iter().enumerate() {
-        works.push(Work {
-            desk,
-            reviewer: None,
-            steps: steps_of(alloc, place)?,
-        })?;
-    }
-    Ok(works)
+    made_of_each(alloc, desks, |place, desk| work_of(alloc, place, desk))
+}
+
+/// What a desk was told by an outcome, where it is an answer.
+fn told_of<J: Naming>(outcome: Outcome<J>) -> Option<Told> {
+    let Outcome::Answered(answer) = outcome else {
+        return None;
+    };
+    let Answer {
+        session,
+        reply,
+        receipt,
+    } = answer;
+    drop(receipt);
+    Some(Told { session, reply })
 }
 
 /// What a desk was told by outcomes, up to the first that is no answer.
-fn told_by<J: Naming>(alloc: Global, outcomes: Vec<Outcome<J>>) -> Result<Vec<Told>> {
-    let mut told = Vec::with_capacity(alloc, outcomes.len())?;
-    for outcome in outcomes {
-        let Outcome::Answered(answer) = outcome else {
-            break;
-        };
-        let Answer { session, reply, .. } = answer;
-        told.push(Told { session, reply })?;
-    }
-    Ok(told)
+fn told_by<J: Naming>(alloc: Global, outcomes: Vec<Outcome<J>>) -> Result<Vec<Told>, AllocError> {
+    outcomes
+        .into_iter()
+        .map_while(|outcome| told_of(outcome))
+        .collect(alloc)
 }
 
 /// A desk after its list of steps.
@@ -162,7 +184,8 @@ fn busy_after<L: Ledger + Naming, M: Ledger>(
     place: usize,
     ran: Ran<L, M>,
 ) -> Result<Busy<L, M>> {
-    let (desk, _, outcomes) = ran;
+    let (desk, left, outcomes) = ran;
+    drop(left);
     let told = told_by(alloc, outcomes)?;
     Ok(Busy { place, desk, told })
 }
@@ -175,12 +198,8 @@ fn by_lists<
 >(rt: &R, office: &Office<L, M>, desks: Vec<Desk<L, M>>) -> Result<Vec<Busy<L, M>>> {
     let alloc = rt.alloc();
     let works = works_of(alloc, desks)?;
-    let ran: Vec<Ran<L, M>> = run_desks(rt, office, alloc, works, &NoGate)?;
-    let mut all = Vec::with_capacity(alloc, ran.len())?;
-    for (place, one) in ran.into_iter().enumerate() {
-        all.push(busy_after(alloc, place, one)?)?;
-    }
-    Ok(all)
+    let ran = run_desks(rt, office, alloc, works, &NoGate)?;
+    made_of_each(alloc, ran, |place, one| busy_after(alloc, place, one))
 }
 
 /// The line of the entry that an answer of a desk speaks of.
@@ -205,11 +224,9 @@ fn line_told(alloc: Global, place: usize, turn: usize, told: Told) -> Result<Str
 
 /// The lines of the entries that a desk's answers speak of: each has the step that was handed in.
 fn lines_told(alloc: Global, place: usize, told: Vec<Told>) -> Result<Vec<String>> {
-    let mut lines = Vec::with_capacity(alloc, told.len())?;
-    for (turn, told) in told.into_iter().enumerate() {
-        lines.push(line_told(alloc, place, turn, told)?)?;
-    }
-    Ok(lines)
+    made_of_each(alloc, told, |turn, told| {
+        line_told(alloc, place, turn, told)
+    })
 }
 
 /// The lines of the entries of sessions that a desk was told.
@@ -241,14 +258,8 @@ pub(crate) fn parted<L: Ledger + Naming, M: Ledger>(
     alloc: Global,
     busy: Vec<Busy<L, M>>,
 ) -> Result<(Vec<Desk<L, M>>, Vec<Vec<Told>>)> {
-    let mut desks = Vec::with_capacity(alloc, busy.len())?;
-    let mut all_told = Vec::with_capacity(alloc, busy.len())?;
-    for one in busy {
-        let Busy { desk, told, .. } = one;
-        desks.push(desk)?;
-        all_told.push(told)?;
-    }
-    Ok((desks, all_told))
+    let parts = busy.into_iter().map(|one| (one.desk, one.told));
+    Ok(parts.unzip(alloc)?)
 }
 
 /// Writes of a desk how many answers it got, and whether the entries of its sessions are those, in order.

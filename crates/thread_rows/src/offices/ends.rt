@@ -2,7 +2,7 @@
 
 ghost use Rattle.std.specs.Prelude.{◌≡◌, ◌<◌, ◌^◌};
 
-use crate::offices::crowd::{Busy, Way, compare_all, parted, run_rounds};
+use crate::offices::crowd::{Busy, Told, Way, compare_all, parted, run_rounds};
 use crate::offices::meeting::{run_both, tell_all};
 use crate::offices::rounds::{add_one, before_and_after, load_first, look, review};
 use anyhow::{Error, Result, anyhow};
@@ -36,12 +36,14 @@ fn end<L: Ledger + Naming, M: Ledger, R: Wait + Print>(
     desks: Vec<Desk<L, M>>,
 ) -> Result<()> {
     match office.finish(rt, desks) {
-        Ok(core) => tell_end(rt, &core),
+        Ok(core) => {
+            let told = tell_end(rt, &core);
+            drop(core);
+            told
+        }
         Err(fault) => {
-            let FinishFault {
-                office,
-                desks: _desks,
-            } = fault;
+            let FinishFault { office, desks } = fault;
+            drop(desks);
             office.give_up(rt);
             println!(rt; "a desk is missing")?;
             Ok(())
@@ -49,51 +51,55 @@ fn end<L: Ledger + Naming, M: Ledger, R: Wait + Print>(
     }
 }
 
-/// What is left of one desk and two reviewers, with the review of before the commit.
-#[derive(Drop)]
-struct Left<L: Ledger + Naming, M: Ledger> {
-    old: Review,
-    desks: Vec<Desk<L, M>>,
-    reviewers: Vec<Reviewer<L>>,
-}
-
-/// The rounds of one desk and two reviewers.
+/// The rounds of one desk and two reviewers. The review of before the commit is handed back.
 fn with_one_desk<L: Ledger + Naming, M: Ledger, R: Wait + Print + AllocGlobal>(
     rt: &R,
     office: &Office<L, M>,
-    desks: Vec<Desk<L, M>>,
-    reviewers: Vec<Reviewer<L>>,
-) -> Result<Left<L, M>> {
-    let (mut desks, mut reviewers) = (desks, reviewers);
-    let (Some(mut desk), Some(mut other), Some(mut one)) = (
-        desks.pop(),
-        reviewers.pop(),
-        reviewers.pop(),
-    ) else {
-        return Err(anyhow!("one desk and two reviewers are wanted"));
+    desks: &mut Vec<Desk<L, M>>,
+    reviewers: &mut Vec<Reviewer<L>>,
+) -> Result<Review> {
+    let Some(desk) = desks.last_mut() else {
+        return Err(anyhow!("a desk is wanted"));
     };
-    let old = before_and_after(rt, office, &mut desk, &mut one, &mut other)?;
-    desks.push(desk)?;
-    reviewers.push(one)?;
-    reviewers.push(other)?;
-    Ok(Left {
-        old,
-        desks,
-        reviewers,
-    })
+    let Some(mut other) = reviewers.pop() else {
+        return Err(anyhow!("a reviewer is wanted"));
+    };
+    let seen = match reviewers.last_mut() {
+        Some(one) => before_and_after(rt, office, desk, one, &mut other),
+        None => Err(anyhow!("a second reviewer is wanted")),
+    };
+    match reviewers.push(other) {
+        Ok(()) => seen,
+        Err(error) => {
+            drop(seen);
+            Err(error.into())
+        }
+    }
 }
 
 /// A review and its reviewers go on after their office has ended.
 fn after_the_end<J: Naming, R: Print + AllocGlobal>(
     rt: &R,
     old: &Review,
-    reviewers: Vec<Reviewer<J>>,
+    reviewers: &mut [Reviewer<J>],
 ) -> Result<()> {
     look(rt, "the old review", old, "f")?;
-    for mut reviewer in reviewers {
-        review(rt, "afterwards", &mut reviewer, "f")?;
+    for reviewer in reviewers {
+        drop(review(rt, "afterwards", reviewer, "f")?);
     }
     Ok(())
+}
+
+/// Ends the office of one desk, and looks at what goes on.
+fn end_and_look<L: Ledger + Naming, M: Ledger, R: Wait + Print + AllocGlobal>(
+    rt: &R,
+    office: Office<L, M>,
+    desks: Vec<Desk<L, M>>,
+    reviewers: &mut [Reviewer<L>],
+    old: &Review,
+) -> Result<()> {
+    end(rt, office, desks)?;
+    after_the_end(rt, old, reviewers)
 }
 
 /// One desk and two reviewers, of which one learns.
@@ -110,38 +116,64 @@ pub(crate) fn one_desk<L: Ledger + Naming, M: Ledger, R: Wait + Print + AllocGlo
     let opened = Office::<L, M>::open(rt, rt.alloc(), press, 1, 2, steps, receipts)?;
     let Opened {
         office,
-        desks,
-        reviewers,
+        mut desks,
+        mut reviewers,
     } = opened;
-    match with_one_desk(rt, &office, desks, reviewers) {
-        Ok(left) => {
-            let Left {
-                old,
-                desks,
-                reviewers,
-            } = left;
-            end(rt, office, desks)?;
-            after_the_end(rt, &old, reviewers)
+    let ended = match with_one_desk(rt, &office, &mut desks, &mut reviewers) {
+        Ok(old) => {
+            let ended = end_and_look(rt, office, desks, &mut reviewers, &old);
+            drop(old);
+            ended
         }
-        Err(error) => abandon(rt, office, error),
+        Err(error) => {
+            drop(desks);
+            abandon(rt, office, error)
+        }
+    };
+    drop(reviewers);
+    ended
+}
+
+/// The first steps, at a desk that has to be there.
+fn load_at<L: Ledger + Naming, M: Ledger, R: Wait + Print + AllocGlobal>(
+    rt: &R,
+    office: &Office<L, M>,
+    desk: Option<&mut Desk<L, M>>,
+) -> Result<()> {
+    match desk {
+        Some(desk) => {
+            drop(load_first(rt, office, desk)?);
+            Ok(())
+        }
+        None => Err(anyhow!("a desk is wanted")),
     }
 }
 
-/// Each of two desks takes steps. The second is gone afterwards.
+/// A session that adds a fact, at a desk that has to be there.
+fn add_at<L: Ledger + Naming, M: Ledger, R: Wait + Print + AllocGlobal>(
+    rt: &R,
+    office: &Office<L, M>,
+    desk: Option<&mut Desk<L, M>>,
+    id: &str,
+) -> Result<()> {
+    match desk {
+        Some(desk) => {
+            drop(add_one(rt, office, desk, id)?);
+            Ok(())
+        }
+        None => Err(anyhow!("a desk is wanted")),
+    }
+}
+
+/// Each of two desks takes steps.
 fn at_both<L: Ledger + Naming, M: Ledger, R: Wait + Print + AllocGlobal>(
     rt: &R,
     office: &Office<L, M>,
-    desks: Vec<Desk<L, M>>,
-) -> Result<Vec<Desk<L, M>>> {
-    let mut desks = desks;
-    let (Some(mut second), Some(mut first)) = (desks.pop(), desks.pop()) else {
-        return Err(anyhow!("two desks are wanted"));
-    };
-    load_first(rt, office, &mut first)?;
-    add_one(rt, office, &mut second, "f")?;
-    add_one(rt, office, &mut first, "g")?;
-    desks.push(first)?;
-    Ok(desks)
+    desks: &mut Vec<Desk<L, M>>,
+) -> Result<()> {
+    load_at(rt, office, desks.first_mut())?;
+    add_at(rt, office, desks.last_mut(), "f")?;
+    add_at(rt, office, desks.first_mut(), "g")
 }
 
 /// Two desks, of which one is missing at the end.
@@ -158,13 +190,20 @@ pub(crate) fn two_desks<L: Ledger + Naming, M: Ledger, R: Wait + Print + AllocGl
     let opened = Office::<L, M>::open(rt, rt.alloc(), press, 2, 1, steps, receipts)?;
     let Opened {
         office,
-        desks,
-        reviewers: _reviewers,
+        mut desks,
+        reviewers,
     } = opened;
-    match at_both(rt, &office, desks) {
-        Ok(desks) => end(rt, office, desks),
-        Err(error) => abandon(rt, office, error),
-    }
+    let taken = at_both(rt, &office, &mut desks);
+    drop(desks.pop());
+    let ended = match taken {
+        Ok(()) => end(rt, office, desks),
+        Err(error) => {
+            drop(desks);
+            abandon(rt, office, error)
+        }
+    };
+    drop(reviewers);
+    ended
 }
 
 /// Two desks run at once, and a reviewer learns what they did.
@@ -176,19 +215,20 @@ fn meet<
     rt: &R,
     office: &Office<L, M>,
     desks: Vec<Desk<L, M>>,
-    reviewers: Vec<Reviewer<L>>,
+    reviewers: &mut Vec<Reviewer<L>>,
 ) -> Result<Vec<Desk<L, M>>> {
-    let (mut desks, mut reviewers) = (desks, reviewers);
-    let (Some(second), Some(mut first), Some(mut reviewer)) = (
-        desks.pop(),
-        desks.pop(),
-        reviewers.pop(),
-    ) else {
-        return Err(anyhow!("two desks and a reviewer are wanted"));
+    let mut desks = desks;
+    let Some(reviewer) = reviewers.last_mut() else {
+        drop(desks);
+        return Err(anyhow!("a reviewer is wanted"));
     };
-    load_first(rt, office, &mut first)?;
-    let ran = run_both(rt, office, first, second)?;
-    tell_all(rt, &mut reviewer, ran)
+    match load_at(rt, office, desks.first_mut()) {
+        Ok(()) => tell_all(rt, reviewer, run_both(rt, office, desks)?),
+        Err(error) => {
+            drop(desks);
+            Err(error)
+        }
+    }
 }
 
 /// Two desks that wait for one another while each has a session open.
@@ -205,9 +245,11 @@ pub(crate) fn two_at_once<
     let Opened {
         office,
         desks,
-        reviewers,
+        mut reviewers,
     } = opened;
-    match meet(rt, &office, desks, reviewers) {
+    let met = meet(rt, &office, desks, &mut reviewers);
+    drop(reviewers);
+    match met {
         Ok(desks) => end(rt, office, desks),
         Err(error) => abandon(rt, office, error),
     }
@@ -220,12 +262,13 @@ fn at_all<
     R: Threads + Wait + Sync + Print + AllocGlobal,
 >(rt: &R, office: &Office<L, M>, desks: Vec<Desk<L, M>>, way: Way) -> Result<Vec<Busy<L, M>>> {
     let mut desks = desks;
-    let Some(mut last) = desks.pop() else {
-        return Err(anyhow!("desks are wanted"));
-    };
-    load_first(rt, office, &mut last)?;
-    desks.push(last)?;
-    run_rounds(rt, office, desks, way)
+    match load_at(rt, office, desks.last_mut()) {
+        Ok(()) => run_rounds(rt, office, desks, way),
+        Err(error) => {
+            drop(desks);
+            Err(error)
+        }
+    }
 }
 
 /// Ends an office without its last desk, which is refused, and then with all of them.
@@ -237,15 +280,23 @@ fn end_at_last<L: Ledger + Naming, M: Ledger, R: Wait + Print>(
     let mut desks = desks;
     let last = desks.pop();
     match office.finish(rt, desks) {
-        Ok(_core) => Err(anyhow!("an office ended without one of its desks")),
+        Ok(core) => {
+            drop(core);
+            Err(anyhow!("an office ended without one of its desks"))
+        }
         Err(fault) => {
             let FinishFault { office, mut desks } = fault;
             let told = println!(rt; "a desk is missing, {} came back", desks.len());
             let _ = desks.extend(last);
             let ended = office.finish(rt, desks);
             let core = all_came(rt, ended)?;
-            told?;
-            Ok(core)
+            match told {
+                Ok(()) => Ok(core),
+                Err(error) => {
+                    drop(core);
+                    Err(error.into())
+                }
+            }
         }
     }
 }
@@ -258,10 +309,8 @@ fn all_came<L: Ledger + Naming, M: Ledger, R: Wait>(
     match ended {
         Ok(core) => Ok(core),
         Err(fault) => {
-            let FinishFault {
-                office,
-                desks: _desks,
-            } = fault;
+            let FinishFault { office, desks } = fault;
+            drop(desks);
             office.give_up(rt);
             Err(anyhow!("an office did not end"))
         }
@@ -282,12 +331,20 @@ pub(crate) fn four_desks<
     let Opened {
         office,
         desks,
-        reviewers: _reviewers,
+        reviewers,
     } = opened;
-    match at_all(rt, &office, desks, way) {
+    let ended = match at_all(rt, &office, desks, way) {
         Ok(busy) => end_crowd(rt, office, busy),
         Err(error) => abandon(rt, office, error),
-    }
+    };
+    drop(reviewers);
+    ended
+}
+
+/// Compares what desks were told with the history of their office, and writes what it made.
+fn compare_end<R: Print + AllocGlobal>(rt: &R, core: &Core, told: Vec<Vec<Told>>) -> Result<()> {
+    compare_all(rt, core.history(), told)?;
+    tell_end(rt, core)
 }
 
 /// Ends the office of desks that took their rounds, and compares what they were told with the history.
@@ -297,11 +354,17 @@ fn end_crowd<L: Ledger + Naming, M: Ledger, R: Wait + Print + AllocGlobal>(
     busy: Vec<Busy<L, M>>,
 ) -> Result<()> {
     match parted(rt.alloc(), busy) {
-        Ok((desks, told)) => {
-            let core = end_at_last(rt, office, desks)?;
-            compare_all(rt, core.history(), told)?;
-            tell_end(rt, &core)
-        }
+        Ok((desks, told)) => match end_at_last(rt, office, desks) {
+            Ok(core) => {
+                let compared = compare_end(rt, &core, told);
+                drop(core);
+                compared
+            }
+            Err(error) => {
+                drop(told);
+                Err(error)
+            }
+        },
         Err(error) => abandon(rt, office, error),
     }
 }

@@ -1,5 +1,6 @@
 //! Two desks that wait for one another while each has a session open.
 
+use crate::offices::places::made_of_each;
 use crate::offices::rounds::{learn, review, tell};
 use crate::offices::steps::addition;
 use anyhow::{Result, anyhow};
@@ -36,6 +37,13 @@ impl Meeting {
         }
     }
 
+    /// Writes whether one waited for the other in vain.
+    fn tell<R: Print>(&self, rt: &R) -> Result<()> {
+        let missed = self.missed.load(SeqCst);
+        println!(rt; "a desk waited in vain: {missed}")?;
+        Ok(())
+    }
+
     fn wait_for(&self, other: &AtomicBool) {
         for _ in 0..TURNS {
             if other.load(SeqCst) {
@@ -65,10 +73,31 @@ impl Gate for Meeting {
 }
 
 fn named(alloc: Global, step: Step) -> Result<DeskStep> {
-    Ok(DeskStep {
-        name: String::from_str(alloc, "s")?,
-        step,
-    })
+    match String::from_str(alloc, "s") {
+        Ok(name) => Ok(DeskStep { name, step }),
+        Err(error) => {
+            drop(step);
+            Err(error.into())
+        }
+    }
+}
+
+/// The step at a turn of a session that adds a fact to the report `r1`.
+fn step_at(alloc: Global, turn: usize, id: &str) -> Result<Step> {
+    match turn {
+        0 => Ok(Step::Open(Kind::Amend)),
+        1 => addition(alloc, id),
+        _ => Ok(Step::Commit),
+    }
+}
+
+/// The steps of a session that adds a fact to the report `r1`.
+fn steps_of(alloc: Global, id: &str) -> Result<Vec<DeskStep>> {
+    let mut steps = Vec::with_capacity(alloc, 3)?;
+    for turn in 0..3 {
+        steps.push(named(alloc, step_at(alloc, turn, id)?)?)?;
+    }
+    Ok(steps)
 }
 
 /// A desk that adds a fact to the report `r1` in a session of its own.
@@ -77,14 +106,22 @@ fn work<L: Ledger + Naming, M: Ledger>(
     desk: Desk<L, M>,
     id: &str,
 ) -> Result<Work<L, M>> {
-    let mut steps = Vec::with_capacity(alloc, 3)?;
-    steps.push(named(alloc, Step::Open(Kind::Amend))?)?;
-    steps.push(named(alloc, addition(alloc, id)?)?)?;
-    steps.push(named(alloc, Step::Commit)?)?;
+    let steps = steps_of(alloc, id)?;
     Ok(Work {
         desk,
         reviewer: None,
         steps,
+    })
+}
+
+/// What two desks do at once.
+fn works_of<L: Ledger + Naming, M: Ledger>(
+    alloc: Global,
+    desks: Vec<Desk<L, M>>,
+) -> Result<Vec<Work<L, M>>> {
+    made_of_each(alloc, desks, |place, desk| {
+        let id = if place == 0 { "a" } else { "b" };
+        work(alloc, desk, id)
     })
 }
 
@@ -93,16 +130,18 @@ pub(crate) fn run_both<
     L: Ledger + Naming + Send + Sync,
     M: Ledger + Send + Sync,
     R: Threads + Wait + Sync + Print + AllocGlobal,
->(rt: &R, office: &Office<L, M>, first: Desk<L, M>, second: Desk<L, M>) -> Result<Vec<Ran<L, M>>> {
+>(rt: &R, office: &Office<L, M>, desks: Vec<Desk<L, M>>) -> Result<Vec<Ran<L, M>>> {
     let alloc = rt.alloc();
-    let mut works = Vec::with_capacity(alloc, 2)?;
-    works.push(work(alloc, first, "a")?)?;
-    works.push(work(alloc, second, "b")?)?;
+    let works = works_of(alloc, desks)?;
     let meeting = Meeting::new();
     let ran = run_desks(rt, office, alloc, works, &meeting)?;
-    let missed = meeting.missed.load(SeqCst);
-    println!(rt; "a desk waited in vain: {missed}")?;
-    Ok(ran)
+    match meeting.tell(rt) {
+        Ok(()) => Ok(ran),
+        Err(error) => {
+            drop(ran);
+            Err(error)
+        }
+    }
 }
 
 /// Writes a reply of one of two desks. Which of them commits first is not told.

@@ -29,13 +29,33 @@ pub(crate) fn take<L: Ledger + Naming, M: Ledger, R: Wait + Print + AllocGlobal>
     let Ok(answer) = desk.step(rt, office, rt.alloc(), session, step) else {
         return Err(anyhow!("a step is refused"));
     };
-    tell(rt, "desk", &answer.reply)?;
-    Ok(answer)
+    match tell(rt, "desk", &answer.reply) {
+        Ok(()) => Ok(answer),
+        Err(error) => {
+            drop(answer);
+            Err(error)
+        }
+    }
+}
+
+/// Takes a step and writes its reply. Gives the session of its entry.
+fn take_in<L: Ledger + Naming, M: Ledger, R: Wait + Print + AllocGlobal>(
+    rt: &R,
+    office: &Office<L, M>,
+    desk: &mut Desk<L, M>,
+    session: Option<u64>,
+    step: Step,
+) -> Result<Option<u64>> {
+    let answer = take(rt, office, desk, session, step)?;
+    let session = answer.session;
+    drop(answer);
+    Ok(session)
 }
 
 /// The receipt of an answer.
 fn received<J: Naming>(answer: Answer<J>) -> Result<Receipt<J>> {
-    let Answer { receipt, .. } = answer;
+    let Answer { reply, receipt, .. } = answer;
+    drop(reply);
     match receipt {
         Some(receipt) => Ok(receipt),
         None => Err(anyhow!("a receipt is missing")),
@@ -59,8 +79,8 @@ pub(crate) fn add_one<L: Ledger + Naming, M: Ledger, R: Wait + Print + AllocGlob
     desk: &mut Desk<L, M>,
     id: &str,
 ) -> Result<Receipt<L>> {
-    let session = take(rt, office, desk, None, Step::Open(Kind::Amend))?.session;
-    take(rt, office, desk, session, addition(rt.alloc(), id)?)?;
+    let session = take_in(rt, office, desk, None, Step::Open(Kind::Amend))?;
+    take_in(rt, office, desk, session, addition(rt.alloc(), id)?)?;
     received(take(rt, office, desk, session, Step::Commit)?)
 }
 
@@ -143,6 +163,18 @@ pub(crate) fn learn<J: Naming, R: Print>(
     tell_seen(rt, who, reviewer)
 }
 
+/// Looks at a review of a reviewer, and writes the number that the reviewer has seen.
+fn look_first<J: Naming, R: Print + AllocGlobal>(
+    rt: &R,
+    who: &str,
+    reviewer: &Reviewer<J>,
+    review: &Review,
+    id: &str,
+) -> Result<()> {
+    look(rt, who, review, id)?;
+    tell_seen(rt, who, reviewer)
+}
+
 /// A reviewer opens a review, which is looked at.
 pub(crate) fn review<J: Naming, R: Print + AllocGlobal>(
     rt: &R,
@@ -151,9 +183,13 @@ pub(crate) fn review<J: Naming, R: Print + AllocGlobal>(
     id: &str,
 ) -> Result<Review> {
     let review = reviewer.open()?;
-    look(rt, who, &review, id)?;
-    tell_seen(rt, who, reviewer)?;
-    Ok(review)
+    match look_first(rt, who, reviewer, &review, id) {
+        Ok(()) => Ok(review),
+        Err(error) => {
+            drop(review);
+            Err(error)
+        }
+    }
 }
 
 /// One desk loads, and a reviewer learns it and begins a review.

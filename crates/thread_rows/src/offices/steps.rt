@@ -3,20 +3,29 @@
 use anyhow::{Result, anyhow};
 use filing_step::{Kind, Step};
 use oim_fact::{DimSet, NumericTable, RawFact};
-use oim_report::read_report;
+use oim_report::{Report, read_report};
 use std::alloc::{AllocError, Global};
 use std::sync::Arc;
 
 const REPORT: &str =
     r#"{"documentInfo":{"documentType":"https://xbrl.org/2021/xbrl-json","namespaces":{"ex":"http://e.org/t"}}}"#;
 
+/// A report without facts.
+fn bare_report(alloc: Global) -> Result<Report> {
+    let table = Arc::new(alloc, NumericTable::of(Vec::new(alloc))?)?;
+    let read = read_report(alloc, REPORT.as_bytes(), &table);
+    drop(table);
+    match read {
+        Ok(report) => Ok(report),
+        Err(_) => Err(anyhow!("the report is refused")),
+    }
+}
+
 /// A load of a report without facts.
 pub(crate) fn load(alloc: Global, name: &str) -> Result<Step> {
-    let table = Arc::new(alloc, NumericTable::of(Vec::new(alloc))?)?;
-    let Ok(report) = read_report(alloc, REPORT.as_bytes(), &table) else {
-        return Err(anyhow!("the report is refused"));
-    };
-    Ok(Step::Load(String::from_str(alloc, name)?, Arc::new(alloc, report)?))
+    let name = String::from_str(alloc, name)?;
+    let report = bare_report(alloc)?;
+    Ok(Step::Load(name, Arc::new(alloc, report)?))
 }
 
 /// The dimensions of the concept `ex:Name`.
@@ -35,17 +44,16 @@ pub(crate) fn names(alloc: Global) -> Result<DimSet> {
 
 /// The addition of a name `x` to the report `r1`.
 pub(crate) fn addition(alloc: Global, id: &str) -> Result<Step> {
+    let report = first_report(alloc)?;
+    let id = String::from_str(alloc, id)?;
+    let value = String::from_str(alloc, "x")?;
     let fact = RawFact {
         dims: names(alloc)?,
-        value: Some(String::from_str(alloc, "x")?),
+        value: Some(value),
         decimals: None,
         links: None,
     };
-    Ok(Step::Add {
-        report: first_report(alloc)?,
-        id: String::from_str(alloc, id)?,
-        fact,
-    })
+    Ok(Step::Add { report, id, fact })
 }
 
 pub(crate) fn first_report(alloc: Global) -> Result<String, AllocError> {

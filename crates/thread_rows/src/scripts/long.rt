@@ -38,11 +38,39 @@ fn long_script(alloc: Global) -> Result<Vec<u8>, AllocError> {
     Ok(script)
 }
 
-/// The bytes twice.
-fn twice(alloc: Global, bytes: &[u8]) -> Result<Vec<u8>, AllocError> {
-    let mut both = Vec::from_slice(alloc, bytes)?;
-    both.extend_from_slice(bytes)?;
-    Ok(both)
+/// What a script is told that runs twice at once.
+fn told_at_once<R: AllocGlobal + Threads + Wait + Sync>(
+    rt: &R,
+    table: &Arc<NumericTable>,
+    script: Vec<u8>,
+) -> Result<Vec<u8>> {
+    let mut scripts = Vec::with_capacity(rt.alloc(), 2)?;
+    scripts.push(Vec::from_slice(rt.alloc(), &script)?)?;
+    scripts.push(script)?;
+    replies_in_threads(rt, table, &scripts)
+}
+
+/// Whether these bytes are others twice.
+fn is_twice(bytes: &[u8], others: &[u8]) -> bool {
+    match bytes.strip_prefix(others) {
+        Some(rest) => rest == others,
+        None => false,
+    }
+}
+
+/// How many lines there are.
+fn count_lines(bytes: &[u8]) -> usize {
+    bytes.iter().filter(|byte| **byte == b'\n').count()
+}
+
+/// Tells of so many replies whether they are those of one script after the other.
+fn tell<R: Print>(rt: &R, lines: usize, is_same: bool) -> Result<()> {
+    if is_same {
+        println!(rt; "two long scripts with {lines} replies, as one after the other")?;
+    } else {
+        println!(rt; "TWO LONG SCRIPTS DIFFER from one after the other")?;
+    }
+    Ok(())
 }
 
 /// Runs a long script twice at once, and tells whether each is told what one alone is told.
@@ -52,15 +80,6 @@ pub(crate) fn compare_long<R: Print + AllocGlobal + Threads + Wait + Sync>(
 ) -> Result<()> {
     let script = long_script(rt.alloc())?;
     let alone = replies_alone(rt.alloc(), table, &script)?;
-    let mut scripts = Vec::with_capacity(rt.alloc(), 2)?;
-    scripts.push(Vec::from_slice(rt.alloc(), &script)?)?;
-    scripts.push(script)?;
-    let told = replies_in_threads(rt, table, &scripts)?;
-    let lines = told.iter().filter(|byte| **byte == b'\n').count();
-    if told == twice(rt.alloc(), &alone)? {
-        println!(rt; "two long scripts with {lines} replies, as one after the other")?;
-    } else {
-        println!(rt; "TWO LONG SCRIPTS DIFFER from one after the other")?;
-    }
-    Ok(())
+    let told = told_at_once(rt, table, script)?;
+    tell(rt, count_lines(&told), is_twice(&told, &alone))
 }
