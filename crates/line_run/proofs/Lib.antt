@@ -6,3 +6,5 @@ pub mod TakenLines
 pub mod RunByReads
 -- ---- machines whose replies are a function
 pub mod AnsweringMachines
+-- ---- lines of small texts
+pub mod Examples

@@ -16,8 +16,6 @@ mod progress;
 mod runs;
 mod sink;
 mod source;
-#[cfg(test)]
-mod tests;
 
 pub use adapters::{FromReader, ToWriter};
 pub use fault::{Failed, ScriptFault};

@@ -64,9 +64,10 @@ impl Given {
     }
 }
 
-/// The bound of reads, and the numbers, from 1, of the calls that go wrong; 0 for none.
+/// How many bytes a call of a device moves at most, the bound of reads, and the numbers, from 1, of the calls that go wrong; 0 for none.
 #[derive(Clone, Copy)]
 pub(crate) struct Trial {
+    pub(crate) piece: usize,
     pub(crate) reads: u64,
     pub(crate) failing_read: u64,
     pub(crate) failing_write: u64,
@@ -75,6 +76,7 @@ pub(crate) struct Trial {
 
 impl Trial {
     pub(crate) const SOUND: Trial = Trial {
+        piece: 1,
         reads: 1 << 32,
         failing_read: 0,
         failing_write: 0,
@@ -119,11 +121,12 @@ fn ends_so<L: Ledger, K: Ledger>(
     requires sink_some { 0 < sink_blank.parts }
 {
     let table = &given.table;
-    let sink: MemoryOut<K> = MemoryOut::new(alloc, ROOM, 1, sink_blank)?;
+    let piece = trial.piece.max(1);
+    let sink: MemoryOut<K> = MemoryOut::new(alloc, ROOM, piece, sink_blank)?;
     let mut sink = sink
         .failing_at(trial.failing_write)
         .idle_at(trial.idle_write);
-    let source: MemoryIn<'_, L> = MemoryIn::new(given.read_in(work), 1, source_blank);
+    let source: MemoryIn<'_, L> = MemoryIn::new(given.read_in(work), piece, source_blank);
     let mut source = source.failing_at(trial.failing_read);
     let fault = match work {
         Work::Script => fault_of(run_script_within(

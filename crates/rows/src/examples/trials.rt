@@ -1,4 +1,4 @@
-//! Runs a script, writes its history, judges that, and writes the verdict, over devices of memory that give and take one byte at a time, of which each call fails in turn; and answers lines of bad bytes.
+//! Runs a script, writes its history, judges that, and writes the verdict, over devices of memory that give and take one byte at a time, of which each call fails in turn; runs the script over devices that move more bytes at a time; and answers lines of bad bytes.
 //!
 //! `devices` does one of these things over devices of which one call goes wrong, and `fronts` says what is to be written then.
 
@@ -178,14 +178,33 @@ const TRIALS: [(&str, Work, Wrong); 9] = [
     ),
 ];
 
-// Lines of bad bytes, with what they are told: what is no text, white space, a line that is cut at the end of the script, and what a byte order mark begins.
-const BAD: [(&[u8], &[u8]); 5] = [
+// Lines of bad bytes, with what they are told: none, what is no text, white space, a form feed, which is none, a line that is cut at the end of the script, and what a byte order mark begins.
+const BAD: [(&[u8], &[u8]); 7] = [
+    (b"", b""),
     (b"\xff\n", b"[\"bad-line\"]\n"),
     (b"\xff", b"[\"bad-line\"]\n"),
     (b" \t\r\n", b""),
+    (b"\x0c\n", b"[\"bad-line\"]\n"),
     (b"[\"get\"", b"[\"bad-line\"]\n"),
     (b"\xef\xbb\xbf[\"close\",\"s1\"]\n", b"[\"bad-line\"]\n"),
 ];
+
+/// Runs the script over devices that move more than a byte at a time, and less than a reply or more.
+fn try_pieces(alloc: Global, given: &Given) -> Result<Seen> {
+    let sound = Wanted {
+        fault: None,
+        written: given.written_in(Work::Script),
+    };
+    let mut seen = Seen::NONE;
+    for piece in [2, 3, 4, 5, 7, 16, 33, 100, 1000, 100_000] {
+        let trial = Trial {
+            piece,
+            ..Trial::SOUND
+        };
+        seen = seen.with(comes_to(alloc, given, Work::Script, trial, sound)?);
+    }
+    Ok(seen)
+}
 
 /// A line that nests so many deep.
 fn nested(alloc: Global, depth: usize) -> Result<Vec<u8>, AllocError> {
@@ -255,9 +274,15 @@ fn try_all<R: Print + AllocGlobal>(rt: &R, given: &Given) -> Result<u64> {
         tell(rt, title, seen)?;
         differing = differing.saturating_add(seen.differing);
     }
+    let pieces = try_pieces(rt.alloc(), given)?;
+    tell(rt, "a script, in larger pieces", pieces)?;
     let bad = try_bad(rt.alloc(), given)?;
     tell(rt, "scripts of bad bytes", bad)?;
-    Ok(differing.saturating_add(bad.differing))
+    Ok(
+        differing
+            .saturating_add(pieces.differing)
+            .saturating_add(bad.differing),
+    )
 }
 
 /// Has each call of each work go wrong in turn.
