@@ -1,5 +1,5 @@
-ghost use Rattle.std.specs.Prelude.{◌≡◌, ◌⊎◌, false, IfOk, map, string_bytes};
-ghost use Rattle.clap.specs.Words.{app_of, kind_of, rule_of, subcommand_rows_of};
+ghost use Rattle.std.specs.Prelude.{◌≡◌, ◌⊎◌, false, IfOk, IsOkAnd, map, string_bytes};
+ghost use Rattle.clap.specs.Words.{AddsSubcommand, app_of, kind_of, new_app, rule_of, subcommand_rows_of, with_rule};
 ghost use Rattle.filing.specs.Words.{Asks, IsOrdered, numeric, history, judged, scripts, run, check, threads, program};
 ghost use Rattle.filing.specs.declared.words.Order.TheVariants.{Shown};
 
@@ -84,50 +84,82 @@ fn scripts_argument<'a>(alloc: Global) -> Arg<'a>
         .required(true)
 }
 
+/// A command that takes a numeric table, and another argument after it.
+fn command_of<'a>(
+    alloc: Global,
+    name: &'a str,
+    about: &'a str,
+    help: &'a str,
+    argument: Arg<'a>,
+) -> Result<Command<'a>, AllocError>
+    requires local { argument.global ≡ false }
+    ensures { IfOk result (λ c. app_of c
+        ≡ with_rule (with_rule (new_app name.entry.now) numeric) (rule_of argument.entry)) }
+{
+    let started = Command::new(alloc, name)
+        .about(about)
+        .after_help(help)
+        .arg(numeric_option(alloc));
+    match started {
+        Ok(command) => command.arg(argument),
+        Err(error) => {
+            drop(argument);
+            Err(error)
+        }
+    }
+}
+
 /// The command that runs a script.
 fn run_command<'a>(alloc: Global) -> Result<Command<'a>, AllocError>
     ensures { IfOk result (λ c. app_of c ≡ run) }
 {
-    Command::new(alloc, "run")
-        .about("Runs a script of JSON lines from standard input")
-        .after_help(LINES)
-        .arg(numeric_option(alloc))?
-        .arg(history_option(alloc))
+    let about = "Runs a script of JSON lines from standard input";
+    command_of(alloc, "run", about, LINES, history_option(alloc))
 }
 
 /// The command that judges a history.
 fn check_command<'a>(alloc: Global) -> Result<Command<'a>, AllocError>
     ensures { IfOk result (λ c. app_of c ≡ check) }
 {
-    Command::new(alloc, "check")
-        .about("Judges a history: whether each of its replies is the one that there may be")
-        .after_help(VERDICTS)
-        .arg(numeric_option(alloc))?
-        .arg(judged_argument(alloc))
+    let about = "Judges a history: whether each of its replies is the one that there may be";
+    command_of(alloc, "check", about, VERDICTS, judged_argument(alloc))
 }
 
 /// The command that runs scripts in threads.
 fn threads_command<'a>(alloc: Global) -> Result<Command<'a>, AllocError>
     ensures { IfOk result (λ c. app_of c ≡ threads) }
 {
-    Command::new(alloc, "threads")
-        .about("Runs scripts of JSON lines from files, each in a thread of its own")
-        .after_help(THREADS)
-        .arg(numeric_option(alloc))?
-        .arg(scripts_argument(alloc))
+    let about = "Runs scripts of JSON lines from files, each in a thread of its own";
+    command_of(alloc, "threads", about, THREADS, scripts_argument(alloc))
+}
+
+/// A command with another below it, where that could be made.
+fn with_below<'a>(
+    command: Command<'a>,
+    below: Result<Command<'a>, AllocError>,
+) -> Result<Command<'a>, AllocError>
+    ensures { IfOk result (λ r. IsOkAnd below.entry (λ b. AddsSubcommand command.entry b r)) }
+{
+    match below {
+        Ok(below) => command.subcommand(below),
+        Err(error) => {
+            drop(command);
+            Err(error)
+        }
+    }
 }
 
 /// The commands that are there.
 fn command<'a>(alloc: Global) -> Result<Command<'a>, AllocError>
     ensures { IfOk result (λ c. app_of c ≡ program) }
 {
-    Command::new(alloc, "filing")
+    let bare = Command::new(alloc, "filing")
         .about("A repository of company filing reports in xBRL-JSON")
         .subcommand_required(true)
-        .arg_required_else_help(false)
-        .subcommand(run_command(alloc)?)?
-        .subcommand(threads_command(alloc)?)?
-        .subcommand(check_command(alloc)?)
+        .arg_required_else_help(false);
+    let with_run = with_below(bare, run_command(alloc))?;
+    let with_threads = with_below(with_run, threads_command(alloc))?;
+    with_below(with_threads, check_command(alloc))
 }
 
 /// What the words that `clap` has taken ask for. It takes none without a command, no `check` without its file, and no `threads` without a script.
@@ -185,8 +217,18 @@ pub(crate) fn read_words<'a, R: Print + Eprint + AllocGlobal>(
 {
     let mut command: Command<'a> = command(rt.alloc())?;
     match command.try_get_matches_from_mut(words) {
-        Ok(matches) => ordered(rt.alloc(), &matches),
-        Err(error) => shown(rt, &error),
+        Ok(matches) => {
+            let order = ordered(rt.alloc(), &matches);
+            drop(matches);
+            drop(command);
+            order
+        }
+        Err(error) => {
+            let order = shown(rt, &error);
+            drop(error);
+            drop(command);
+            order
+        }
     }
 }
 
