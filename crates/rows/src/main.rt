@@ -1,60 +1,93 @@
 //! Compares what the layers answer with what is written of them, and fast answers with slow ones.
 //!
-//! `sheets` has worked rows of scripts, steps, reports, facts and classes, `pages` lists and maps in pages, `versions` versions and their changes, and `examples` stored scripts, worked histories and failing devices; `lines` has what they need of lines. A word names the part that is wanted: `sheets`, `pages`, `versions`, which may be followed by a seed of what is drawn, `scripts`, `histories` or `devices`; without a word it is all of them. `costs` measures lists in pages.
+//! `sheets` has worked rows of scripts, steps, reports, facts and classes, `pages` lists and maps in pages, `versions` versions and their changes, and `examples` stored scripts, worked histories and failing devices; `offices` takes steps at desks and opens reviews beside them, `threads` runs scripts in threads, and `drawn` draws scripts, which the oracle answers too; `lines` has what they need of lines.
+//!
+//! A word names the part that is wanted: `sheets`, `pages`, `versions`, `scripts`, `histories`, `devices`, `offices`, `threads` or `drawn`; without a word it is all of them. A seed of what is drawn may follow `versions`, `threads` and `drawn`, and then a number of sets or of scripts the last two. `costs` measures lists in pages.
 #![tactic(auto)]
 
+mod drawn;
 mod examples;
 mod lines;
+mod offices;
 mod pages;
 mod sheets;
+mod threads;
 mod versions;
 
 use anyhow::{Result, anyhow};
+use drawn::compare_drawn;
 use examples::{compare_devices, compare_histories, compare_scripts};
+use offices::show_offices;
 use pages::{compare_pages, measure_pages};
 use sheets::compare_sheets;
 use std::env;
+use std::marker::Sync;
+use std::rt::Files;
+use std::sync::Wait;
+use std::thread::Threads;
+use threads::compare_threads;
 use versions::{SEED, compare_versions};
 
-/// The seed that follows a part.
-fn seed_of(word: Option<String>) -> Result<u64> {
+// So many sets of scripts are drawn for threads, and so many scripts for the oracle, where no number is named.
+const SETS: u64 = 12;
+
+const SCRIPTS: u64 = 10_000;
+
+// The seed of both.
+const FIRST: u64 = 1;
+
+/// The number that a word is, where there is one.
+fn number_of(word: Option<String>) -> Result<Option<u64>> {
     match word {
-        None => Ok(SEED),
-        Some(word) => Ok(word.parse::<u64>()?),
+        None => Ok(None),
+        Some(word) => Ok(Some(word.parse::<u64>()?)),
     }
 }
 
-/// Compares the part of this name, if there is one.
-fn compare(rt: &HostRuntime, part: &str, seed: u64) -> Result<()> {
+/// Compares the part of this name, if there is one. Threads are started by a handle of their own, which only `main` has.
+fn compare<T: Threads + Wait + Sync + Print + Files + AllocGlobal>(
+    rt: &HostRuntime,
+    handle: &T,
+    part: &str,
+    seed: Option<u64>,
+    count: Option<u64>,
+) -> Result<()> {
     match part {
         "sheets" => compare_sheets(rt),
         "pages" => compare_pages(rt),
-        "versions" => compare_versions(rt, seed),
+        "versions" => compare_versions(rt, seed.unwrap_or(SEED)),
         "scripts" => compare_scripts(rt),
         "histories" => compare_histories(rt),
         "devices" => compare_devices(rt),
+        "offices" => show_offices(handle),
+        "threads" => compare_threads(handle, seed.unwrap_or(FIRST), count.unwrap_or(SETS)),
+        "drawn" => compare_drawn(rt, seed.unwrap_or(FIRST), count.unwrap_or(SCRIPTS)),
         "costs" => measure_pages(rt),
         _ => Err(anyhow!("there is no part {part}")),
     }
 }
 
 // What is compared where no part is named.
-const PARTS: [&str; 6] = [
+const PARTS: [&str; 9] = [
     "sheets",
     "pages",
     "versions",
     "scripts",
     "histories",
     "devices",
+    "offices",
+    "threads",
+    "drawn",
 ];
 
 fn main(rt: HostRuntime) -> Result<()> {
     let mut words = env::args(&rt)?.skip(1);
     if let Some(part) = words.next() {
-        return compare(&rt, part.as_str(), seed_of(words.next())?);
+        let (seed, count) = (number_of(words.next())?, number_of(words.next())?);
+        return compare(&rt, &rt, part.as_str(), seed, count);
     }
     for part in PARTS {
-        compare(&rt, part, SEED)?;
+        compare(&rt, &rt, part, None, None)?;
     }
     Ok(())
 }
