@@ -3,6 +3,7 @@
 ghost use Rattle.std.specs.Prelude.{◌≡◌, ◌+◌, ◌<◌, ◌^◌, Some, None, option_map, string_bytes, IfOk};
 ghost use Rattle.std.specs.Arc.{arc_value};
 ghost use Rattle.filing_model.specs.Repository.{nothing, report_at, fact_in, fact_at, with_fact, with_fact_at, with_report, with_report_at, declaring_at};
+ghost use Rattle.filing_model.specs.DeclaredValue.{report_declaring};
 ghost use Rattle.filing_model.specs.Sessions.{refusal_of, commit_reply, commit_result};
 ghost use Rattle.filing_step.specs.Steps.{reply_of};
 ghost use Rattle.history_oracle.specs.Named.{named};
@@ -61,13 +62,19 @@ fn with_fact(
         allowed,
         facts,
     } = report.into_parts();
-    let facts = put(alloc, facts, id, fact)?;
-    Ok(Report::of(ReportParts {
-        info,
-        names,
-        allowed,
-        facts,
-    }))
+    match put(alloc, facts, id, fact) {
+        Ok(facts) => Ok(Report::of(ReportParts {
+            info,
+            names,
+            allowed,
+            facts,
+        })),
+        Err(error) => {
+            drop(info);
+            drop(names);
+            Err(error)
+        }
+    }
 }
 
 /// A copy of a report with one fact put in.
@@ -94,13 +101,33 @@ fn without_fact(alloc: Global, report: Report, id: &str) -> Result<Report, Alloc
         allowed,
         facts,
     } = report.into_parts();
-    let facts = without(alloc, facts, id)?;
-    Ok(Report::of(ReportParts {
-        info,
-        names,
-        allowed,
-        facts,
-    }))
+    match without(alloc, facts, id) {
+        Ok(facts) => Ok(Report::of(ReportParts {
+            info,
+            names,
+            allowed,
+            facts,
+        })),
+        Err(error) => {
+            drop(info);
+            drop(names);
+            Err(error)
+        }
+    }
+}
+
+/// A copy of a report with no fact under an identifier.
+fn copy_without_fact(alloc: Global, report: &Report, id: &str) -> Result<Report, AllocError>
+    ensures { IfOk result (λ r. r ≡ with_fact report.now id.now None) }
+{
+    without_fact(alloc, report.clone()?, id)
+}
+
+/// A copy of a report that declares a value.
+fn copy_declaring(alloc: Global, report: &Report, allowed: Allowed) -> Result<Report, AllocError>
+    ensures { IfOk result (λ r. r ≡ report_declaring report.now allowed) }
+{
+    report.clone()?.with_allowed(alloc, allowed)
 }
 
 /// The reports once more.
@@ -183,8 +210,13 @@ impl Books {
         requires { self.count + 1 < 2 ^ 64 }
         ensures { IfOk result (λ b. b ≡ with_report self name.now report.now) }
     {
-        let books = self.with_report_at(alloc, name, report.clone()?)?;
-        Ok(books.counted())
+        match report.clone() {
+            Ok(report) => Ok(self.with_report_at(alloc, name, report)?.counted()),
+            Err(error) => {
+                drop(self);
+                Err(error)
+            }
+        }
     }
 
     /// The same reports, counted once more.
@@ -202,11 +234,17 @@ impl Books {
     fn with_report_at(self, alloc: Global, name: &str, report: Report) -> Result<Books, AllocError>
         ensures { IfOk result (λ b. b ≡ with_report_at self name.now report) }
     {
-        let name = String::from_str(alloc, name)?;
-        Ok(Books {
-            count: self.count,
-            reports: put(alloc, self.reports, name, report)?,
-        })
+        match String::from_str(alloc, name) {
+            Ok(name) => Ok(Books {
+                count: self.count,
+                reports: put(alloc, self.reports, name, report)?,
+            }),
+            Err(error) => {
+                drop(self);
+                drop(report);
+                Err(error)
+            }
+        }
     }
 
     /// The repository with one fact put into a report, where that is there.
@@ -244,8 +282,13 @@ impl Books {
         let Some(report) = self.report(name) else {
             return Ok(self);
         };
-        let report = without_fact(alloc, report.clone()?, id)?;
-        self.with_report_at(alloc, name, report)
+        match copy_without_fact(alloc, report, id) {
+            Ok(report) => self.with_report_at(alloc, name, report),
+            Err(error) => {
+                drop(self);
+                Err(error)
+            }
+        }
     }
 
     /// The repository in whose report this value is declared, where that is there.
@@ -260,8 +303,13 @@ impl Books {
         let Some(report) = self.report(name) else {
             return Ok(self);
         };
-        let report = report.clone()?.with_allowed(alloc, allowed)?;
-        self.with_report_at(alloc, name, report)
+        match copy_declaring(alloc, report, allowed) {
+            Ok(report) => self.with_report_at(alloc, name, report),
+            Err(error) => {
+                drop(self);
+                Err(error)
+            }
+        }
     }
 
     /// What refuses the repository: the least cell of its least report that disobeys.
@@ -287,12 +335,25 @@ impl Books {
         requires { self.count + 1 < 2 ^ 64 }
         ensures { IfOk result (λ b. b ≡ commit_result self copy) }
     {
-        match copy.refusal(alloc)? {
-            Some(_) => Ok(self),
-            None => Ok(Books {
-                count: self.count + 1,
-                reports: copy.reports,
-            }),
+        match copy.refusal(alloc) {
+            Ok(Some(reply)) => {
+                drop(reply);
+                drop(copy);
+                Ok(self)
+            }
+            Ok(None) => {
+                let count = self.count + 1;
+                drop(self);
+                Ok(Books {
+                    count,
+                    reports: copy.reports,
+                })
+            }
+            Err(error) => {
+                drop(self);
+                drop(copy);
+                Err(error)
+            }
         }
     }
 }

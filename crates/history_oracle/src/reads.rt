@@ -5,6 +5,7 @@ ghost use Rattle.std.specs.List.{filter};
 ghost use Rattle.oim_fact.specs.Texts.{text_view};
 ghost use Rattle.filing_model.specs.Calls.{report_of_call};
 ghost use Rattle.filing_model.specs.Queries.{ids_for, first_cut};
+ghost use Rattle.filing_model.specs.Sessions.{answer};
 ghost use Rattle.filing_model.specs.Things as thing;
 ghost use Rattle.filing_model.specs.Things.{thing_eq};
 ghost use Rattle.filing_model.specs.Touches.{read_in, read_by, things_read};
@@ -130,6 +131,15 @@ fn with_first(alloc: Global, thing: Thing, later: Vec<Thing>) -> Result<Vec<Thin
     Ok(things)
 }
 
+/// A session's copy after a call.
+fn copy_after(alloc: Global, kind: Kind, call: &Call, copy: Books) -> Result<Books, AllocError>
+    ensures { IfOk result (λ b. b ≡ (answer kind (call_of call.now) copy).1) }
+{
+    let (reply, copy) = answer(alloc, kind, call, copy)?;
+    drop(reply);
+    Ok(copy)
+}
+
 /// The things that calls read one after another, each once.
 pub(crate) fn things_read(
     alloc: Global,
@@ -140,13 +150,27 @@ pub(crate) fn things_read(
     ensures { IfOk result (λ v. map thing_of v.items ≡ things_read kind copy (map call_of calls.now)) }
 {
     let Some((call, rest)) = calls.split_first() else {
+        drop(copy);
         return Ok(Vec::new(alloc));
     };
-    let read = read_by(alloc, kind, call, &copy)?;
-    let (_, copy) = answer(alloc, kind, call, copy)?;
-    let later = things_read(alloc, kind, copy, rest)?;
-    match read {
-        Some(thing) => with_first(alloc, thing, later),
-        None => Ok(later),
+    match read_by(alloc, kind, call, &copy) {
+        Ok(Some(thing)) => match copy_after(alloc, kind, call, copy) {
+            Ok(copy) => match things_read(alloc, kind, copy, rest) {
+                Ok(later) => with_first(alloc, thing, later),
+                Err(error) => {
+                    drop(thing);
+                    Err(error)
+                }
+            },
+            Err(error) => {
+                drop(thing);
+                Err(error)
+            }
+        },
+        Ok(None) => things_read(alloc, kind, copy_after(alloc, kind, call, copy)?, rest),
+        Err(error) => {
+            drop(copy);
+            Err(error)
+        }
     }
 }
