@@ -3,7 +3,7 @@ ghost use Rattle.std.specs.Prelude.{◌≡◌, ◌++◌, ◌∷◌, [], ◌-◌,
 ghost use Rattle.std.specs.List.{list_all, flat_map};
 ghost use Rattle.std.specs.Ordering.{is_lt};
 ghost use Rattle.sorted_pages.specs.Edges.{begins_with};
-ghost use Rattle.sorted_pages.specs.Pages.{held, of_group, single, IsFirst, IsFirstBlock};
+ghost use Rattle.sorted_pages.specs.Pages.{held, single, IsFirst, IsFirstBlock};
 ghost use Rattle.sorted_pages.specs.Sorted.{IsRising, AllBelow, PassesBelow, is_below};
 ghost use Rattle.sorted_pages.specs.Changes.{entry_of, entries_put, with_changes, without_tied};
 
@@ -13,7 +13,7 @@ use crate::cutter::Layout;
 use crate::edge::{Before, Below, Until, split_at_edge, split_before_edge};
 use crate::entry::{Edged, Entry};
 use crate::growing::{Growing, Tier, begin, finish};
-use crate::level::{Group, Leaf, Level, Page, Run};
+use crate::level::{Leaf, Level};
 use crate::spans::Tie;
 use std::alloc::{AllocError, Global};
 use std::sync::Arc;
@@ -21,7 +21,12 @@ use std::sync::Arc;
 /// A level of which lists are built, and over which changes are laid.
 pub(crate) trait Changing<E: Entry>: Level<E> {
     /// Appends entries, one after another.
-    fn fill<U: Growing<E, Self>>(alloc: Global, entries: Vec<E>, grown: U) -> Result<U, AllocError>
+    fn fill<U: Growing<E, Self>>(
+        alloc: Global,
+        layout: Layout,
+        entries: Vec<E>,
+        grown: U,
+    ) -> Result<U, AllocError>
         ensures { IfOk result (λ filled. U.all filled ≡ U.all grown ++ entries.items) };
 
     /// Appends the items with changes laid over them.
@@ -85,6 +90,7 @@ fn after_tied<'a, E: Entry>(entries: &'a [Leaf<E>], entry: &E) -> &'a [Leaf<E>]
 impl<E: Entry> Changing<E> for Leaf<E> {
     fn fill<U: Growing<E, Leaf<E>>>(
         _alloc: Global,
+        _layout: Layout,
         entries: Vec<E>,
         mut grown: U,
     ) -> Result<U, AllocError>
@@ -220,77 +226,30 @@ pub(crate) fn lay_blocks<E: Entry, T: Changing<E>, U: Growing<E, Arc<Block<T>>>>
     Ok(grown)
 }
 
-/// Appends runs of the entries of one page with changes laid over them.
-fn push_runs<E: Entry, U: Growing<E, Run<E>>>(
-    alloc: Global,
-    entries: &[Leaf<E>],
-    changes: &[Change<E>],
-    grown: U,
-) -> Result<U, AllocError>
-    requires items { IsRising E.order (flat_map single entries.now) }
-    requires changes { IsRising E.order (map entry_of changes.now) }
-    ensures { IfOk result (λ laid. U.all laid
-        ≡ U.all grown ++ with_changes E.order changes.now (flat_map single entries.now)) }
-{
-    let pages: Tier<Page<E>, U> = begin(alloc, Layout::Halved, 2, grown)?;
-    let pages = lay_block(alloc, entries, changes, pages)?;
-    finish(pages)
-}
-
-/// Appends groups of the entries of one page with changes laid over them.
-fn push_groups<E: Entry, U: Growing<E, Group<E>>>(
-    alloc: Global,
-    entries: &[Leaf<E>],
-    changes: &[Change<E>],
-    grown: U,
-) -> Result<U, AllocError>
-    requires items { IsRising E.order (flat_map single entries.now) }
-    requires changes { IsRising E.order (map entry_of changes.now) }
-    ensures { IfOk result (λ laid. U.all laid
-        ≡ U.all grown ++ with_changes E.order changes.now (flat_map single entries.now)) }
-{
-    let runs: Tier<Run<E>, U> = begin(alloc, Layout::Halved, 1, grown)?;
-    let runs = push_runs(alloc, entries, changes, runs)?;
-    finish(runs)
-}
-
-/// Groups of the entries of one page with changes laid over them.
-pub(crate) fn lay_groups<E: Entry>(
-    alloc: Global,
-    entries: &[Leaf<E>],
-    changes: &[Change<E>],
-) -> Result<Vec<Group<E>>, AllocError>
-    requires items { IsRising E.order (flat_map single entries.now) }
-    requires changes { IsRising E.order (map entry_of changes.now) }
-    ensures { IfOk result (λ groups. flat_map of_group groups.items
-        ≡ with_changes E.order changes.now (flat_map single entries.now)) }
-{
-    let groups: Vec<Group<E>> = Vec::new(alloc);
-    push_groups(alloc, entries, changes, groups)
-}
-
 /// Appends blocks of entries, one after another.
 pub(crate) fn fill_blocks<E: Entry, T: Changing<E>, U: Growing<E, Arc<Block<T>>>>(
     alloc: Global,
+    layout: Layout,
     entries: Vec<E>,
     grown: U,
 ) -> Result<U, AllocError>
     ensures { IfOk result (λ filled. U.all filled ≡ U.all grown ++ entries.items) }
 {
-    let tier: Tier<T, U> = begin(alloc, Layout::Filled, entries.len(), grown)?;
-    let tier: Tier<T, U> = T::fill(alloc, entries, tier)?;
+    let tier: Tier<T, U> = begin(alloc, layout, entries.len(), grown)?;
+    let tier: Tier<T, U> = T::fill(alloc, layout, entries, tier)?;
     finish(tier)
 }
 
 impl<E: Entry, T: Changing<E>> Changing<E> for Arc<Block<T>> {
     fn fill<U: Growing<E, Arc<Block<T>>>>(
         alloc: Global,
+        layout: Layout,
         entries: Vec<E>,
         grown: U,
     ) -> Result<U, AllocError>
         ensures { IfOk result (λ filled. U.all filled ≡ U.all grown ++ entries.items) }
     {
-        fill_blocks::<E, T, U>(alloc, entries, grown)
+        fill_blocks::<E, T, U>(alloc, layout, entries, grown)
     }
 
     fn lay<U: Growing<E, Arc<Block<T>>>>(

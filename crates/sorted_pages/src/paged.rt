@@ -11,10 +11,11 @@ ghost use Rattle.sorted_pages.specs.Edges.{first_passes};
 ghost use Rattle.sorted_pages.specs.declared.change.Change.TheVariants.{Remove};
 
 use crate::change::Change;
+use crate::cutter::Layout;
 use crate::edge::{Before, split_at_edge};
 use crate::entry::{Entry, Span};
 use crate::in_place::InPlace;
-use crate::laying::{Changing, fill_blocks, lay_blocks, lay_groups};
+use crate::laying::{Changing, fill_blocks, lay_blocks};
 use crate::level::{Group, Leaf, Run};
 use crate::range::{Front, Range, all_from, all_until, entries_from, with_entries, with_pages};
 use crate::spans::Tie;
@@ -84,17 +85,33 @@ fn short_of_sorted<E: Entry>(alloc: Global, entries: Vec<E>) -> Result<Paged<E>,
     ensures { IfOk result (λ p. p ≡ entries.items) }
 {
     let room: Vec<Leaf<E>> = Vec::with_capacity(alloc, entries.len())?;
-    let entries = Leaf::fill(alloc, entries, room)?;
+    let entries = Leaf::fill(alloc, Layout::Filled, entries, room)?;
     Ok(Paged::short(alloc, entries))
 }
 
 /// The list of entries that stand in groups.
-fn long_of_sorted<E: Entry>(alloc: Global, entries: Vec<E>) -> Result<Paged<E>, AllocError>
+fn long_of_sorted<E: Entry>(
+    alloc: Global,
+    layout: Layout,
+    entries: Vec<E>,
+) -> Result<Paged<E>, AllocError>
     requires { IsRising E.order entries.items }
     ensures { IfOk result (λ p. p ≡ entries.items) }
 {
-    let groups = fill_blocks::<E, Run<E>, Vec<Group<E>>>(alloc, entries, Vec::new(alloc))?;
+    let groups: Vec<Group<E>> = Vec::new(alloc);
+    let groups = fill_blocks::<E, Run<E>, Vec<Group<E>>>(alloc, layout, entries, groups)?;
     Ok(Paged::long(alloc, groups))
+}
+
+/// The entries out of their places.
+fn moved_out<E: Drop>(alloc: Global, places: Vec<Leaf<E>>) -> Result<Vec<E>, AllocError>
+    ensures { IfOk result (λ entries. entries.items ≡ places.items) }
+{
+    let mut entries = Vec::with_capacity(alloc, places.len())?;
+    for place in places {
+        entries.push(place.into_entry())?;
+    }
+    Ok(entries)
 }
 
 /// The list after changes of one whose entries stand in place.
@@ -108,26 +125,14 @@ fn short_after<E: Entry>(
     ensures { IfOk result (λ p. p ≡ with_changes E.order changes.now (flat_map single entries.now)) }
 {
     let most = entries.len().saturating_add(changes.len());
-    if most > E::most_in_page() {
-        return long_of_changed(alloc, entries, changes);
+    let room: Vec<Leaf<E>> = Vec::with_capacity(alloc, most)?;
+    let entries = Leaf::lay(alloc, entries, changes, room)?;
+    if entries.len() <= E::most_in_page() {
+        Ok(Paged::short(alloc, entries))
+    } else {
+        let entries = moved_out(alloc, entries)?;
+        long_of_sorted(alloc, Layout::Halved, entries)
     }
-    let grown: Vec<Leaf<E>> = Vec::with_capacity(alloc, most)?;
-    let entries = Leaf::lay(alloc, entries, changes, grown)?;
-    Ok(Paged::short(alloc, entries))
-}
-
-/// The same, for whose entries there is no room in place.
-fn long_of_changed<E: Entry>(
-    alloc: Global,
-    entries: &[Leaf<E>],
-    changes: &[Change<E>],
-) -> Result<Paged<E>, AllocError>
-    requires entries { IsRising E.order (flat_map single entries.now) }
-    requires changes { IsRising E.order (map entry_of changes.now) }
-    ensures { IfOk result (λ p. p ≡ with_changes E.order changes.now (flat_map single entries.now)) }
-{
-    let groups = lay_groups(alloc, entries, changes)?;
-    Ok(Paged::long(alloc, groups))
 }
 
 /// The list after changes of one whose entries stand in groups.
@@ -217,7 +222,7 @@ impl<E: Entry> Paged<E> {
         if entries.len() <= E::most_in_page() {
             short_of_sorted(alloc, entries)
         } else {
-            long_of_sorted(alloc, entries)
+            long_of_sorted(alloc, Layout::Filled, entries)
         }
     }
 
