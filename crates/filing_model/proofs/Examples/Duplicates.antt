@@ -1,10 +1,12 @@
 -- Worked examples of pairs, classes and allowed duplicates.
-use Rattle.std.specs.Prelude.{◌≡◌, ◌*◌, ◌^◌, true, false, ℕ, pos, neg_ℤ, List, [], ◌∷◌, Some, None, codes, refl}
+use Rattle.std.specs.Prelude.{◌≡◌, ◌*◌, ◌^◌, Bool, true, false, ℕ, pos, neg_ℤ, List, [], ◌∷◌, map, Some, None, codes, refl}
 use Rattle.filing_model.specs.Text.{Text}
 use Rattle.filing_model.specs.Dimensions.{Dims}
 use Rattle.filing_model.specs.Facts.{Fact, FactValue, Nil, Written, Number}
 use Rattle.filing_model.specs.Duplicates.{pair_of, class_of, allows, obeys, least_disallowed, cell_of}
 use Rattle.filing_model.specs.declared.duplicates.Allowed.TheVariants as allowed
+use Rattle.filing_model.specs.declared.duplicates.Allowed.{Allowed}
+use Rattle.filing_model.specs.declared.duplicates.Class.{Class}
 use Rattle.filing_model.specs.declared.duplicates.Class.TheVariants as class
 use Rattle.filing_model.specs.declared.duplicates.Pair.TheVariants as pair
 
@@ -76,6 +78,15 @@ an_exact_number_at_the_end = refl
 pub an_exact_number_past_the_end : pair_of (rounded (codes "1000") 1000 3) (with assets (Number (codes "1500.000000000000001") (pos 1500000000000000001) None)) ≡ pair.Inconsistent
 an_exact_number_past_the_end = refl
 
+pub a_blank_at_the_end_counts : pair_of (written (codes "a")) (written (codes "a ")) ≡ pair.Inconsistent
+a_blank_at_the_end_counts = refl
+
+pub two_spellings_of_an_exact_number : pair_of (exact (codes "-0.0") 0) (exact (codes " 0") 0) ≡ pair.Complete
+two_spellings_of_an_exact_number = refl
+
+pub two_exact_numbers : pair_of (exact (codes "5") 5) (exact (codes "6") 6) ≡ pair.Inconsistent
+two_exact_numbers = refl
+
 -- ---- classes
 
 pub no_fact : class_of [] ≡ class.Empty
@@ -106,7 +117,32 @@ two_sets_of_dimensions = refl
 pub two_sets_of_dimensions_beside_inconsistent_facts : class_of (with assets Nil ∷ exact (codes "0") 0 ∷ with cash Nil ∷ []) ≡ class.Mixed
 two_sets_of_dimensions_beside_inconsistent_facts = refl
 
+pub nil_beside_a_text : class_of (nil ∷ written (codes "a") ∷ []) ≡ class.Inconsistent
+nil_beside_a_text = refl
+
+pub one_number_three_times : class_of (one_at (codes "1.0") 1 ∷ one_at (codes "1") 1 ∷ one_at (codes "1.0") 2 ∷ []) ≡ class.Consistent
+one_number_three_times = refl
+
+-- the number six, again, beside a rounded ten, and beside two sets of dimensions
+pub more_of_one_number : map class_of (
+    (exact (codes "6") 6 ∷ []) ∷ (exact (codes "6") 6 ∷ exact (codes "6") 6 ∷ []) ∷ (exact (codes "6") 6 ∷ rounded (codes "10") 10 1 ∷ exact (codes "6") 6 ∷ [])
+    ∷ (exact (codes "6") 6 ∷ exact (codes "14") 14 ∷ with cash Nil ∷ []) ∷ [])
+    ≡ class.Single ∷ class.Complete ∷ class.Consistent ∷ class.Mixed ∷ []
+more_of_one_number = refl
+
 -- ---- allowed duplicates
+
+-- each class that there is
+abbrev classes : List Class
+classes = class.Empty ∷ class.Single ∷ class.Complete ∷ class.Consistent ∷ class.Inconsistent ∷ class.Mixed ∷ []
+
+abbrev allowed_by : Allowed → List Bool
+allowed_by a = map (allows a) classes
+
+pub classes_that_are_allowed : map allowed_by (allowed.Never ∷ allowed.Complete ∷ allowed.Consistent ∷ allowed.All ∷ [])
+    ≡ (true ∷ true ∷ false ∷ false ∷ false ∷ false ∷ []) ∷ (true ∷ true ∷ true ∷ false ∷ false ∷ false ∷ [])
+    ∷ (true ∷ true ∷ true ∷ true ∷ false ∷ false ∷ []) ∷ (true ∷ true ∷ true ∷ true ∷ true ∷ false ∷ []) ∷ []
+classes_that_are_allowed = refl
 
 pub mixed_facts_are_never_allowed : allows allowed.All class.Mixed ≡ false
 mixed_facts_are_never_allowed = refl
@@ -147,3 +183,10 @@ no_cell_is_disallowed = refl
 -- both concepts have duplicates
 pub the_least_of_two_disallowed_cells : least_disallowed allowed.Never ((codes "a", with cash Nil) ∷ (codes "b", with cash Nil) ∷ (codes "c", nil) ∷ (codes "d", nil) ∷ []) ≡ Some assets
 the_least_of_two_disallowed_cells = refl
+
+-- a single fact of one concept, and two of another
+pub the_only_disallowed_cell : least_disallowed allowed.Never ((codes "a", nil) ∷ (codes "b", with cash Nil) ∷ (codes "c", with cash Nil) ∷ []) ≡ Some cash
+the_only_disallowed_cell = refl
+
+pub single_facts_are_allowed : least_disallowed allowed.Never ((codes "a", with cash Nil) ∷ (codes "b", nil) ∷ []) ≡ None
+single_facts_are_allowed = refl

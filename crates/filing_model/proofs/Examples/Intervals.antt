@@ -1,5 +1,5 @@
 -- Worked examples of intervals, in half units. A unit is 10^-15 (`most_fraction_digits`).
-use Rattle.std.specs.Prelude.{◌≡◌, ◌-◌, ◌*◌, ◌^◌, true, false, pos, neg_ℤ, Some, None, Ok, Err, codes, refl}
+use Rattle.std.specs.Prelude.{◌≡◌, ◌-◌, ◌*◌, ◌^◌, [], ◌∷◌, map, replicate, true, false, pos, neg_ℤ, Some, None, Ok, Err, codes, refl}
 use Rattle.filing_model.specs.Numerals.{number_of}
 use Rattle.filing_model.specs.Intervals.{interval_of, meets, accuracy_of}
 use Rattle.filing_model.specs.declared.faults.NumberFault.TheVariants.{DecimalsOutOfRange}
@@ -49,3 +49,11 @@ decimals_too_great = refl
 
 pub decimals_too_small : accuracy_of (Some (neg_ℤ (pos 21))) ≡ Err DecimalsOutOfRange
 decimals_too_small = refl
+
+pub around_zero : map (interval_of (pos 0)) (None ∷ Some (pos 13) ∷ Some (pos 0) ∷ Some (neg_ℤ (pos 20)) ∷ [])
+    ≡ record { low = pos 0; high = pos 0 } ∷ record { low = neg_ℤ (pos 100); high = pos 100 }
+    ∷ record { low = neg_ℤ (pos (10 ^ 15)); high = pos (10 ^ 15) } ∷ record { low = neg_ℤ (pos (10 ^ 35)); high = pos (10 ^ 35) } ∷ []
+around_zero = refl
+
+pub the_ends_of_64_bits : map accuracy_of (Some (pos 9223372036854775807) ∷ Some (neg_ℤ (pos 9223372036854775808)) ∷ []) ≡ replicate 2 (Err DecimalsOutOfRange)
+the_ends_of_64_bits = refl

@@ -1,5 +1,6 @@
 -- Worked examples of numbers, which computing alone proves.
-use Rattle.std.specs.Prelude.{◌≡◌, ◌^◌, ◌-◌, pos, neg_ℤ, Ok, Err, codes, refl}
+use Rattle.std.specs.Prelude.{◌≡◌, ◌^◌, ◌-◌, ◌*◌, List, [], ◌∷◌, map, replicate, pos, neg_ℤ, Ok, Err, codes, refl}
+use Rattle.filing_model.specs.Text.{Text}
 use Rattle.filing_model.specs.Numerals.{number_of}
 use Rattle.filing_model.specs.declared.faults.NumberFault.TheVariants.{NotANumber, TooLarge}
 
@@ -59,3 +60,33 @@ two_signs = refl
 
 pub two_points : number_of (codes "1.2.3") ≡ Err NotANumber
 two_points = refl
+
+-- zeros and signs
+pub zero_is_spelled_with_a_sign_and_with_zeros : map number_of (codes "0" ∷ codes "+0" ∷ codes "000" ∷ codes "-0.0" ∷ []) ≡ replicate 4 (Ok (pos 0))
+zero_is_spelled_with_a_sign_and_with_zeros = refl
+
+pub further_numbers : map number_of (codes "1" ∷ codes "0.000000000000001" ∷ codes "0.000000000001" ∷ codes "10000000000000000000" ∷ [])
+    ≡ Ok (pos (10 ^ 15)) ∷ Ok (pos 1) ∷ Ok (pos 1000) ∷ Ok (pos (10 ^ 34)) ∷ []
+further_numbers = refl
+
+pub further_negative_numbers : map number_of (codes "-.5" ∷ codes "-.0000000000000010000" ∷ codes "\n\n-7 " ∷ codes "-0099999999999999999999.9999999999999990" ∷ [])
+    ≡ Ok (neg_ℤ (pos (5 * 10 ^ 14))) ∷ Ok (neg_ℤ (pos 1)) ∷ Ok (neg_ℤ (pos (7 * 10 ^ 15))) ∷ Ok (neg_ℤ (pos (10 ^ 35 - 1))) ∷ []
+further_negative_numbers = refl
+
+pub digits_too_many : map number_of (codes "-123456789012345678901.5" ∷ codes "1.1234567890123456" ∷ codes "100000000000000000000.0000000000000001" ∷ [])
+    ≡ replicate 3 (Err TooLarge)
+digits_too_many = refl
+
+abbrev other_spellings : List Text
+other_spellings = codes "-" ∷ codes "-." ∷ codes "1-" ∷ codes "1..2" ∷ codes "1e3" ∷ codes "1,5" ∷ codes "0x1f" ∷ codes "INF" ∷ codes "NaN" ∷ codes "100000000000000000000x" ∷ []
+
+pub other_spellings_are_no_numbers : map number_of other_spellings ≡ replicate 10 (Err NotANumber)
+other_spellings_are_no_numbers = refl
+
+-- digits of other scripts, a minus of another kind, a no-break space before a digit, a thin one behind it, a form feed and a vertical tab
+abbrev other_characters : List Text
+other_characters = (217 ∷ 160 ∷ 217 ∷ 161 ∷ []) ∷ (239 ∷ 188 ∷ 145 ∷ []) ∷ (226 ∷ 136 ∷ 146 ∷ 49 ∷ []) ∷ (194 ∷ 160 ∷ 49 ∷ [])
+    ∷ (49 ∷ 226 ∷ 128 ∷ 137 ∷ []) ∷ (12 ∷ 49 ∷ []) ∷ (49 ∷ 11 ∷ []) ∷ []
+
+pub other_characters_spell_no_numbers : map number_of other_characters ≡ replicate 7 (Err NotANumber)
+other_characters_spell_no_numbers = refl
