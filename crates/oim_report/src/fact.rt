@@ -15,11 +15,11 @@ ghost use Rattle.oim_fact.specs.Dims.{dims_view};
 ghost use Rattle.oim_fact.specs.Texts.{text_view};
 ghost use Rattle.oim_report.specs.Readings.{dim_view, dims_at, raw_fact_at, raw_fact_with, same};
 
-use crate::values::{copy_at, members_of, take_member, whole_text};
+use crate::values::{members_of, take_member, whole_text};
 use filing_model::Trouble;
 use oim_fact::{DimSet, RawFact};
 use serde_json::{Map, Value};
-use std::alloc::{AllocError, Global};
+use std::alloc::Global;
 
 /// The members of a fact object that are read.
 #[derive(Drop)]
@@ -66,19 +66,6 @@ fn fact_members(value: Value) -> FactMembers
     }
 }
 
-/// Copies of the members that are read beside the dimensions.
-fn stated_copied(value: &Value) -> Result<Stated, AllocError>
-    ensures value { IfOk result (λ s. option_map view s.value ≡ get (codes "value") (view value.now)) }
-    ensures decimals { IfOk result (λ s. option_map view s.decimals ≡ get (codes "decimals") (view value.now)) }
-    ensures links { IfOk result (λ s. option_map view s.links ≡ get (codes "links") (view value.now)) }
-{
-    Ok(Stated {
-        value: copy_at(value, "value")?,
-        decimals: copy_at(value, "decimals")?,
-        links: copy_at(value, "links")?,
-    })
-}
-
 /// A dimension's name with its value, a text or null.
 fn dim(name: String, value: Value) -> Result<(String, Option<String>), Trouble>
     ensures { Gives fact_trouble dim_view result (dim_of (string_bytes name, view value)) }
@@ -109,38 +96,6 @@ fn dims_in(
     Ok(dims)
 }
 
-/// As `dim`, of a member that stays.
-fn dim_copied(name: &String, value: &Value) -> Result<(String, Option<String>), Trouble>
-    ensures { Gives fact_trouble dim_view result (dim_of (string_bytes name.now, view value.now)) }
-{
-    let Ok(name) = name.clone() else {
-        return Err(Trouble::NoMemory);
-    };
-    match value.clone() {
-        Ok(value) => dim(name, value),
-        Err(_) => Err(Trouble::NoMemory),
-    }
-}
-
-/// As `dims_in`, of members that stay.
-fn dims_among(
-    alloc: Global,
-    members: &Map<String, Value>,
-) -> Result<Vec<(String, Option<String>)>, Trouble>
-    ensures { Gives fact_trouble (λ v. dims_view v.items) result
-        (each dim_of (pairs (members_view members.now.entries))) }
-{
-    let Ok(mut dims) = Vec::with_capacity(alloc, members.len()) else {
-        return Err(Trouble::NoMemory);
-    };
-    for (name, value) in members {
-        let Ok(()) = dims.push(dim_copied(name, value)?) else {
-            return Err(Trouble::NoMemory);
-        };
-    }
-    Ok(dims)
-}
-
 /// The dimensions as they stand in the object.
 fn dims(alloc: Global, dimensions: Option<Value>) -> Result<Vec<(String, Option<String>)>, Trouble>
     ensures { Gives fact_trouble (λ v. dims_view v.items) result
@@ -151,23 +106,6 @@ fn dims(alloc: Global, dimensions: Option<Value>) -> Result<Vec<(String, Option<
     };
     match members_of(dimensions) {
         Some(members) => dims_in(alloc, members),
-        None => Err(Trouble::WrongShape),
-    }
-}
-
-/// As `dims`, of an object that stays.
-fn dims_copied(
-    alloc: Global,
-    dimensions: Option<&Value>,
-) -> Result<Vec<(String, Option<String>)>, Trouble>
-    ensures { Gives fact_trouble (λ v. dims_view v.items) result
-        (dims_at (option_map (λ d. view d.now) dimensions.entry)) }
-{
-    let Some(dimensions) = dimensions else {
-        return Err(Trouble::WrongShape);
-    };
-    match dimensions.as_object() {
-        Some(members) => dims_among(alloc, members),
         None => Err(Trouble::WrongShape),
     }
 }
@@ -271,9 +209,8 @@ pub fn raw_fact(alloc: Global, value: &Value) -> Result<RawFact, Trouble>
     ensures fact { Gives fact_trouble same result (raw_fact_of (view value.now)) }
     ensures links { IfOk result (λ raw. AreLinks raw.links) }
 {
-    let named = dims_copied(alloc, value.get("dimensions"))?;
-    match stated_copied(value) {
-        Ok(stated) => fact_with(alloc, named, stated),
+    match value.clone() {
+        Ok(value) => raw_fact_from(alloc, value),
         Err(_) => Err(Trouble::NoMemory),
     }
 }
@@ -289,5 +226,8 @@ pub fn dimensions_from(alloc: Global, value: Value) -> Result<DimSet, Trouble>
 pub fn dimensions(alloc: Global, value: &Value) -> Result<DimSet, Trouble>
     ensures { Gives fact_trouble same result (dims_read (view value.now)) }
 {
-    set_of(dims_copied(alloc, Some(value))?)
+    match value.clone() {
+        Ok(value) => dimensions_from(alloc, value),
+        Err(_) => Err(Trouble::NoMemory),
+    }
 }

@@ -79,21 +79,6 @@ fn entry(
     }
 }
 
-/// As `entry`, of a member that stays.
-fn entry_copied(
-    alloc: Global,
-    names: &Names,
-    id: &String,
-    value: &Value,
-) -> Result<(String, Arc<Fact>), ReportFault>
-    ensures entry { Gives report_fault fact_view result
-        (entry_of names.now (string_bytes id.now, view value.now)) }
-    ensures dims { IfOk result (λ e. AreDims (arc_value e.1).dims) }
-    ensures fitted { IfOk result (λ e. IsFitted names.now (arc_value e.1)) }
-{
-    entry(alloc, names, id.clone()?, value.clone()?)
-}
-
 /// Takes the facts that these members are, each under its identifier, into a list that has none.
 fn take_facts(
     alloc: Global,
@@ -153,44 +138,6 @@ pub(crate) fn facts(
     };
     match members_of(value) {
         Some(members) => facts_in(alloc, names, members),
-        None => Err(ReportFault::WrongShape),
-    }
-}
-
-/// The facts that these members are, of which one value at a time is copied.
-fn facts_among(
-    alloc: Global,
-    names: &Names,
-    members: &Map<String, Value>,
-) -> Result<Vec<(String, Arc<Fact>)>, ReportFault>
-    ensures facts { Gives report_fault (λ v. facts_view v.items) result
-        (each (entry_of names.now) (pairs (members_view members.now.entries))) }
-    ensures rise { IfOk result (λ v. T (is_sorted text_cmp (facts_view v.items))) }
-    ensures fitted { IfOk result (λ v. AreFitted names.now (facts_view v.items)) }
-{
-    let mut facts = Vec::with_capacity(alloc, members.len())?;
-    for (id, value) in members {
-        facts.push(entry_copied(alloc, names, id, value)?)?;
-    }
-    Ok(facts)
-}
-
-/// The facts of a report, which keeps its member `facts`.
-pub(crate) fn facts_at(
-    alloc: Global,
-    names: &Names,
-    value: &Value,
-) -> Result<Vec<(String, Arc<Fact>)>, ReportFault>
-    ensures facts { Gives report_fault (λ v. from_entries (facts_view v.items)) result
-        (facts_of names.now (get (codes "facts") (view value.now))) }
-    ensures rise { IfOk result (λ v. T (is_sorted text_cmp (facts_view v.items))) }
-    ensures fitted { IfOk result (λ v. AreFitted names.now (facts_view v.items)) }
-{
-    let Some(member) = value.get("facts") else {
-        return Ok(Vec::new(alloc));
-    };
-    match member.as_object() {
-        Some(members) => facts_among(alloc, names, members),
         None => Err(ReportFault::WrongShape),
     }
 }

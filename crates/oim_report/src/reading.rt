@@ -16,11 +16,11 @@ ghost use Rattle.oim_report.specs.Readable.{AreFitted, IsReadable};
 ghost use Rattle.oim_report.specs.Readings.{declared_by, of_declared, report_of_members, same};
 
 use crate::borrowed::{owned_at, text_value};
-use crate::facts::{facts, facts_at, facts_in_text};
+use crate::facts::{facts, facts_in_text};
 use crate::fault::ReportFault;
 use crate::info::{allowed, document_info, info_text, names};
 use crate::report::{Report, ReportParts};
-use crate::values::{copy_at, take_member, without_mark};
+use crate::values::{take_member, without_mark};
 use filing_model::Allowed;
 use json::Scratch;
 use oim_fact::{Fact, Names, NumericTable};
@@ -178,7 +178,6 @@ pub fn report_from(
 }
 
 /// The report that a JSON value is (xBRL-JSON 1.0) by this numeric table, or the first fault, in this order: not the shape of a report, the document type, the features, the namespaces, `documentInfo` that nests deeper than a JSON text may, a number in it that is not whole, the shape of `facts`, and the first refused fact in byte order of the identifiers.
-#[tactic(auto, using(crate::proofs::ReportsByParts::report_by_members))]
 pub fn report_of(
     alloc: Global,
     value: &Value,
@@ -188,10 +187,7 @@ pub fn report_of(
         (report_of (arc_value table.now) (view value.now)) }
     ensures readable { IfOk result IsReadable }
 {
-    let document_info = copy_at(value, "documentInfo")?;
-    let declared = declaration(alloc, document_info, table)?;
-    let facts = facts_at(alloc, &declared.names, value);
-    with_facts_read(declared, facts)
+    report_from(alloc, value.clone()?, table)
 }
 
 /// What a report declares, of a value whose texts are those that were read.

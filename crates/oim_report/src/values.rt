@@ -57,16 +57,6 @@ pub(crate) fn take_member(members: &mut Map<String, Value>, name: &str) -> Optio
     members.remove(name)
 }
 
-/// A copy of the member of this name, where there is one.
-pub(crate) fn copy_at(value: &Value, name: &str) -> Result<Option<Value>, AllocError>
-    ensures { IfOk result (λ o. option_map view o ≡ get name.now (view value.now)) }
-{
-    match value.get(name) {
-        Some(member) => Ok(Some(member.clone()?)),
-        None => Ok(None),
-    }
-}
-
 /// Whether a number is one that an i64 or a u64 holds.
 fn is_whole_number(number: &Number) -> bool
     ensures whole { result ≡ not (is_float (number_view number.now)) }
