@@ -21,7 +21,7 @@ use kinds::KINDS;
 use oim_fact::NumericTable;
 use oim_report::read_table;
 use script_oracle::expected_output;
-use std::alloc::Global;
+use std::alloc::{AllocError, Global};
 use std::marker::Brand;
 use std::sync::Arc;
 use std::sync::ledger::{Blank, Ledger};
@@ -37,7 +37,40 @@ const ROOM: usize = 65536;
 const TOLD: u64 = 10;
 
 // So many scripts have replies of every kind.
-const LARGE: u64 = 5000;
+const MANY: u64 = 5000;
+
+// So many scripts of a large report are drawn, with numbers of their own.
+const LARGE_SCRIPTS: u64 = 16;
+
+const FIRST_LARGE: u64 = 1 << 32;
+
+/// What a script is of.
+#[derive(Clone, Copy)]
+enum Size {
+    /// Reports of few facts.
+    Small,
+    /// A report of hundreds of facts.
+    Large,
+}
+
+/// Which script is drawn.
+#[derive(Clone, Copy)]
+struct Drawing {
+    seed: u64,
+    number: u64,
+    size: Size,
+}
+
+impl Drawing {
+    fn draft(self, alloc: Global) -> Result<Draft, AllocError> {
+        let mut draft = Draft::new(alloc, self.seed, self.number);
+        match self.size {
+            Size::Small => draft.put_script(alloc)?,
+            Size::Large => draft.put_large_script(alloc)?,
+        }
+        Ok(draft)
+    }
+}
 
 /// The line of the first byte at which two texts differ, from 1 on.
 fn first_difference(one: &[u8], other: &[u8]) -> Option<u64> {
@@ -85,13 +118,11 @@ fn departure<L: Ledger, K: Ledger>(
 fn try_script(
     alloc: Global,
     table: &Arc<NumericTable>,
-    seed: u64,
-    number: u64,
+    drawing: Drawing,
     tally: &mut Tally,
     histories: &mut Histories,
 ) -> Result<Option<u64>> {
-    let mut draft = Draft::new(alloc, seed, number);
-    draft.put_script(alloc)?;
+    let mut draft = drawing.draft(alloc)?;
     let piece = 1 + draft.below(400) as usize;
     let expected = expected_output(alloc, draft.text(), table)?;
     tally.count_all(alloc, draft.text(), &expected)?;
@@ -110,10 +141,10 @@ fn try_script(
     Ok(departure)
 }
 
-/// Tries so many scripts, and gives how many differ.
+/// Tries so many scripts from one on, and gives how many differ.
 fn try_scripts<R: Print + AllocGlobal>(
     rt: &R,
-    seed: u64,
+    first: Drawing,
     scripts: u64,
     tally: &mut Tally,
     histories: &mut Histories,
@@ -121,8 +152,10 @@ fn try_scripts<R: Print + AllocGlobal>(
     let alloc = rt.alloc();
     let table = Arc::new(alloc, read_table(alloc, NUMERIC)?)?;
     let mut differ = 0u64;
-    for number in 0..scripts {
-        if let Some(line) = try_script(alloc, &table, seed, number, tally, histories)? {
+    for turn in 0..scripts {
+        let (seed, number) = (first.seed, first.number.wrapping_add(turn));
+        let drawing = Drawing { number, ..first };
+        if let Some(line) = try_script(alloc, &table, drawing, tally, histories)? {
             if differ < TOLD {
                 println!(rt; "seed {seed}, script {number}: differs at reply {line}")?;
             }
@@ -159,26 +192,58 @@ fn tell_lacks<R: Print>(rt: &R, tally: &Tally) -> Result<u64> {
     Ok(lacks)
 }
 
-/// Compares so many scripts that are drawn from a seed.
-pub(crate) fn compare_drawn<R: Print + AllocGlobal>(rt: &R, seed: u64, scripts: u64) -> Result<()> {
-    let mut tally = Tally::new(rt.alloc());
-    let mut histories = Histories::new();
-    let differ = try_scripts(rt, seed, scripts, &mut tally, &mut histories)?;
-    tell_counts(rt, &tally)?;
+/// Tells how many scripts there were, and gives how many differ, or have a history that is judged otherwise than it is.
+fn tell_differences<R: Print>(
+    rt: &R,
+    what: &str,
+    differ: u64,
+    tally: &Tally,
+    histories: &Histories,
+) -> Result<u64> {
     let replies = tally.replies();
-    println!(rt; "{scripts} scripts, {replies} replies, {differ} differ")?;
+    println!(rt; "{what}, {replies} replies, {differ} differ")?;
     let Histories {
         departing,
         lawful,
         otherwise,
-    } = histories;
+    } = *histories;
     println!(rt;
         "{departing} histories with one change depart, {lawful} are lawful, {otherwise} judged otherwise"
     )?;
-    if differ > 0 || otherwise > 0 {
+    Ok(differ.saturating_add(otherwise))
+}
+
+/// Compares scripts of large reports that are drawn from a seed.
+fn compare_large<R: Print + AllocGlobal>(rt: &R, seed: u64) -> Result<u64> {
+    let mut tally = Tally::new(rt.alloc());
+    let mut histories = Histories::new();
+    let first = Drawing {
+        seed,
+        number: FIRST_LARGE,
+        size: Size::Large,
+    };
+    let differ = try_scripts(rt, first, LARGE_SCRIPTS, &mut tally, &mut histories)?;
+    let what = format!(in rt.alloc(); "{LARGE_SCRIPTS} scripts of a large report")?;
+    tell_differences(rt, &what, differ, &tally, &histories)
+}
+
+/// Compares so many scripts that are drawn from a seed, and some of large reports.
+pub(crate) fn compare_drawn<R: Print + AllocGlobal>(rt: &R, seed: u64, scripts: u64) -> Result<()> {
+    let mut tally = Tally::new(rt.alloc());
+    let mut histories = Histories::new();
+    let first = Drawing {
+        seed,
+        number: 0,
+        size: Size::Small,
+    };
+    let differ = try_scripts(rt, first, scripts, &mut tally, &mut histories)?;
+    tell_counts(rt, &tally)?;
+    let what = format!(in rt.alloc(); "{scripts} scripts")?;
+    let differ = tell_differences(rt, &what, differ, &tally, &histories)?;
+    if differ > 0 || compare_large(rt, seed)? > 0 {
         return Err(anyhow!("some scripts differ"));
     }
-    if scripts >= LARGE && tell_lacks(rt, &tally)? > 0 {
+    if scripts >= MANY && tell_lacks(rt, &tally)? > 0 {
         return Err(anyhow!("the scripts lack something"));
     }
     Ok(())

@@ -2,7 +2,7 @@
 //!
 //! `sheets` has worked rows of scripts, steps, reports, facts and classes, `pages` lists and maps in pages, `versions` versions and their changes, and `examples` stored scripts, worked histories and failing devices; `offices` takes steps at desks and opens reviews beside them, `threads` runs scripts in threads, and `drawn` draws scripts, which the oracle answers too; `lines` has what they need of lines.
 //!
-//! A word names the part that is wanted: `sheets`, `pages`, `versions`, `scripts`, `histories`, `devices`, `offices`, `threads` or `drawn`; without a word it is all of them. A seed of what is drawn may follow `versions`, `threads` and `drawn`, and then a number of sets or of scripts the last two. `costs` measures lists in pages.
+//! A word names the part that is wanted: `sheets`, `pages`, `versions`, `scripts`, `histories`, `devices`, `offices`, `threads` or `drawn`; without a word it is all of them. A seed of what is drawn may follow `threads` and `drawn`, and then a number of sets or of scripts.
 #![tactic(auto)]
 
 mod drawn;
@@ -18,7 +18,7 @@ use anyhow::{Result, anyhow};
 use drawn::compare_drawn;
 use examples::{compare_devices, compare_histories, compare_scripts};
 use offices::show_offices;
-use pages::{compare_pages, measure_pages};
+use pages::compare_pages;
 use sheets::compare_sheets;
 use std::env;
 use std::marker::Sync;
@@ -26,7 +26,7 @@ use std::rt::Files;
 use std::sync::Wait;
 use std::thread::Threads;
 use threads::compare_threads;
-use versions::{SEED, compare_versions};
+use versions::compare_versions;
 
 // So many sets of scripts are drawn for threads, and so many scripts for the oracle, where no number is named.
 const SETS: u64 = 12;
@@ -55,14 +55,13 @@ fn compare<T: Threads + Wait + Sync + Print + Files + AllocGlobal>(
     match part {
         "sheets" => compare_sheets(rt),
         "pages" => compare_pages(rt),
-        "versions" => compare_versions(rt, seed.unwrap_or(SEED)),
+        "versions" => compare_versions(rt),
         "scripts" => compare_scripts(rt),
         "histories" => compare_histories(rt),
         "devices" => compare_devices(rt),
         "offices" => show_offices(handle),
         "threads" => compare_threads(handle, seed.unwrap_or(FIRST), count.unwrap_or(SETS)),
         "drawn" => compare_drawn(rt, seed.unwrap_or(FIRST), count.unwrap_or(SCRIPTS)),
-        "costs" => measure_pages(rt),
         _ => Err(anyhow!("there is no part {part}")),
     }
 }

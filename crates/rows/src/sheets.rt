@@ -1,8 +1,8 @@
-//! Worked rows of scripts, steps, reports, facts and classes, and what they are answered beside what is written with them.
+//! Worked rows of scripts, steps, reports and facts, and what they are answered beside what is written with them.
 //!
 //! A file NAME.rows has scripts. A line that begins with `# ` begins one and is its title; a line that begins with `=> ` is the reply that is expected to the line before it; one that begins with `= ` is the number of steps that the script takes; every other line is a line of the script. `sheet` reads them, and `beside` compares the replies with those of the program.
 //!
-//! `scripts` runs scripts over memory. The lines of other files are questions: `steps` takes the steps of a core that `asked_steps` makes, loads and commits in two parts too, `tables` and `reports` read texts and write them again, `infos` sets what a report declares, `facts` reads and writes with one fact, `numbers` has numerals and intervals, `dimensions` dimension sets and prefixes, and `classes` what facts are to one another. `question` has the parts of a question. `drawn` and `loads` compare fast answers with slow ones.
+//! `scripts` runs scripts over memory. The lines of other files are questions: `steps` takes the steps of a core that `asked_steps` makes, loads and commits in two parts too, `tables` and `reports` read texts and write them again, `infos` sets what a report declares, `facts` reads and writes with one fact, and `dimensions` has dimension sets and prefixes. `question` has the parts of a question. `drawn`, of facts that `classes` makes, and `loads` compare fast answers with slow ones.
 
 mod asked_steps;
 mod beside;
@@ -12,7 +12,6 @@ mod drawn;
 mod facts;
 mod infos;
 mod loads;
-mod numbers;
 mod question;
 mod reports;
 mod scripts;
@@ -53,23 +52,16 @@ pub(crate) enum Asked {
     Info,
     RawFact,
     Fact,
-    Numeral,
-    Number,
-    Intervals,
     Dims,
     Order,
     Names,
-    Pair,
-    Class,
-    Allowed,
-    Least,
 }
 
 // So many bytes are read at once where it does not matter.
 const PIECE: usize = 65536;
 
 /// Each is the file NAME.rows.
-const FILES: [(&str, Kind); 29] = [
+const FILES: [(&str, Kind); 22] = [
     ("sessions", Kind::Script(PIECE)),
     ("sessions", Kind::Script(1)),
     ("conflicts", Kind::Script(PIECE)),
@@ -89,16 +81,9 @@ const FILES: [(&str, Kind); 29] = [
     ("infos", Kind::Each(Asked::Info)),
     ("raw_facts", Kind::Each(Asked::RawFact)),
     ("facts", Kind::Each(Asked::Fact)),
-    ("numerals", Kind::Each(Asked::Numeral)),
-    ("numbers", Kind::Each(Asked::Number)),
-    ("intervals", Kind::Each(Asked::Intervals)),
     ("dimensions", Kind::Each(Asked::Dims)),
     ("order", Kind::Each(Asked::Order)),
     ("names", Kind::Each(Asked::Names)),
-    ("pairs", Kind::Each(Asked::Pair)),
-    ("classes", Kind::Each(Asked::Class)),
-    ("allowed", Kind::Each(Asked::Allowed)),
-    ("least", Kind::Each(Asked::Least)),
 ];
 
 // A report that binds two prefixes.

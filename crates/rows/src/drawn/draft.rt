@@ -169,6 +169,19 @@ impl Draft {
         self.put("\"")
     }
 
+    /// One of 300 identifiers as a JSON text.
+    pub(crate) fn put_large_id(&mut self) -> Result<(), AllocError> {
+        let number = self.below(300);
+        let digits = [
+            HEX[(number / 100) as usize],
+            HEX[(number / 10 % 10) as usize],
+            HEX[(number % 10) as usize],
+        ];
+        self.put("\"f")?;
+        self.put_bytes(&digits)?;
+        self.put("\"")
+    }
+
     /// So many of one byte.
     pub(crate) fn put_many(&mut self, byte: u8, count: u32) -> Result<(), AllocError> {
         for _ in 0..count {

@@ -47,6 +47,14 @@ const AFTERS: [&str; 6] = ["null", "null", "null", "\"f1\"", "\"f2\"", "\"\""];
 
 const LIMITS: [&str; 7] = ["1", "1", "1", "2", "3", "10", "1000"];
 
+// What stands before the facts of a large report, around what it allows, and behind them.
+const LARGE_FRONT: &str =
+    r#"["load","r1",{"documentInfo":{"documentType":"https://xbrl.org/2021/xbrl-json","namespaces":{"ex":"http://e.org/t","iso4217":"http://e.org/c"},"features":{"xbrl:allowedDuplicates":""#;
+
+const LARGE_MIDDLE: &str = r#""}},"facts":{"#;
+
+const LARGE_END: &str = "}}]\n";
+
 // Lines that are no line of a script.
 const BAD_LINES: [&str; 55] = [
     "[",
@@ -333,5 +341,66 @@ impl Draft {
             self.cut();
         }
         Ok(())
+    }
+
+    /// A load of a report of up to 299 facts, of which few are refused.
+    fn put_large_load(&mut self) -> Result<(), AllocError> {
+        self.put(LARGE_FRONT)?;
+        let allowed = self.pick(&["all", "all", "all", "consistent"]);
+        self.put(allowed)?;
+        self.put(LARGE_MIDDLE)?;
+        for turn in 0..self.below(300) {
+            if turn > 0 {
+                self.put(",")?;
+            }
+            self.put_large_id()?;
+            self.put(":")?;
+            self.put_fact(20_000)?;
+        }
+        self.put(LARGE_END)
+    }
+
+    /// The beginning of a line about one of 300 identifiers.
+    fn put_about_large(&mut self, word: &str) -> Result<(), AllocError> {
+        self.put_question(word)?;
+        self.put(",")?;
+        self.put_large_id()
+    }
+
+    /// An addition under one of 300 identifiers.
+    fn put_large_addition(&mut self) -> Result<(), AllocError> {
+        self.put_about_large("add")?;
+        self.put(",")?;
+        self.put_fact(40)?;
+        self.put_closing()
+    }
+
+    /// A line that amends or reads a large report.
+    fn put_large_line(&mut self) -> Result<(), AllocError> {
+        match self.below(24) {
+            0..3 => self.put_opening(),
+            3..6 => self.put_ending("commit"),
+            6..13 => self.put_large_addition(),
+            13 => self.put_about_id("get"),
+            14..16 => self.put_cell(),
+            16..18 => self.put_page(),
+            18 => self.put_declaration(),
+            19 => self.put_export(),
+            _ => {
+                self.put_about_large("remove")?;
+                self.put_closing()
+            }
+        }
+    }
+
+    /// A script of one large report, and small ones beside it.
+    pub(crate) fn put_large_script(&mut self, alloc: Global) -> Result<(), AllocError> {
+        self.put_large_load()?;
+        self.put_beginning(alloc)?;
+        for _ in 0..100 {
+            self.put_large_line()?;
+            self.put_line_end()?;
+        }
+        self.put_last()
     }
 }

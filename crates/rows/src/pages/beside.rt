@@ -10,6 +10,12 @@ use std::alloc::{AllocError, Global};
 /// So many rounds of changes are made of one list.
 const ROUNDS: u64 = 500;
 
+/// So many entries the list has before, which stand in more than one run of pages.
+const FIRST: u64 = 6_000;
+
+/// The keys that are put and removed are below this.
+const KEYS: u64 = 8_000;
+
 /// A list in pages, and a plain one in the order of keys.
 #[derive(Drop)]
 struct Both {
@@ -18,20 +24,20 @@ struct Both {
 }
 
 /// The next number of a fixed sequence.
-pub(crate) fn next_number(state: u64) -> u64 {
+fn next_number(state: u64) -> u64 {
     state
         .wrapping_mul(6_364_136_223_846_793_005)
         .wrapping_add(1_442_695_040_888_963_407)
 }
 
-/// Up to 200 puts and removals of keys below 2,000, with rising keys.
+/// Up to 200 puts and removals, with rising keys.
 fn some_changes(alloc: Global, seed: u64, stride: u64) -> Result<Vec<Change<Item>>, AllocError> {
     let mut changes = Vec::new(alloc);
     let mut state = seed;
     for round in 0..200u64 {
         state = next_number(state);
         let entry = Item {
-            key: round.wrapping_mul(stride) % 2_000,
+            key: round.wrapping_mul(stride) % KEYS,
             weight: state >> 40,
         };
         let is_here = (state >> 35) % 3;
@@ -108,7 +114,7 @@ impl Both {
 
     /// Makes the changes of a round in both, and compares them.
     fn take_round(&mut self, alloc: Global, round: u64) -> Result<bool, AllocError> {
-        let changes = some_changes(alloc, round, round % 10 + 1)?;
+        let changes = some_changes(alloc, round, (round % 10 + 1).wrapping_mul(4))?;
         change_all(&mut self.plain, &changes)?;
         change(alloc, &mut self.list, &changes)?;
         self.is_same(alloc)
@@ -144,7 +150,7 @@ fn take_rounds<R: Print + AllocGlobal>(rt: &R, both: &mut Both) -> Result<u64> {
 }
 
 pub(crate) fn compare_rounds<R: Print + AllocGlobal>(rt: &R) -> Result<u64> {
-    let mut both = Both::filled(rt.alloc(), 0)?;
+    let mut both = Both::filled(rt.alloc(), FIRST)?;
     let differing = take_rounds(rt, &mut both);
     drop(both);
     differing

@@ -3,11 +3,9 @@
 ghost use Rattle.std.specs.Prelude.{◌<◌};
 
 use crate::lines::{is_end, push_line};
-use crate::sheets::classes::{allowed_answer, class_answer, least_answer, pair_answer};
 use crate::sheets::dimensions::{dims_answer, names_answer, order_answer};
 use crate::sheets::facts::{fact_answer, raw_answer};
 use crate::sheets::infos::info_answer;
-use crate::sheets::numbers::{interval_answer, number_answer, numeral_answer};
 use crate::sheets::reports::{fronts_answer, parts_answer, report_answer, written_answer};
 use crate::sheets::scripts::run_lines;
 use crate::sheets::sheet::Sheet;
@@ -48,16 +46,9 @@ fn value_answer(alloc: Global, table: &Table, kind: Asked, value: &Value) -> Res
         Asked::Info => info_answer(alloc, value, &table.numeric),
         Asked::RawFact => raw_answer(alloc, value),
         Asked::Fact => fact_answer(alloc, value, table.report.names()),
-        Asked::Numeral => numeral_answer(alloc, value),
-        Asked::Number => number_answer(alloc, value),
-        Asked::Intervals => interval_answer(alloc, value),
         Asked::Dims => dims_answer(alloc, value),
         Asked::Order => order_answer(alloc, value),
         Asked::Names => names_answer(alloc, value, &table.numeric),
-        Asked::Pair => pair_answer(alloc, value),
-        Asked::Class => class_answer(alloc, value),
-        Asked::Allowed => Ok(allowed_answer(alloc, value)?),
-        Asked::Least => least_answer(alloc, value),
     }
 }
 

@@ -1,11 +1,10 @@
 //! The info of a report in which a declared value is set, and reports that declare it.
 
-use crate::sheets::classes::allowed;
 use crate::sheets::question::text_at;
 use crate::sheets::reports::both_told;
 use anyhow::Result;
 use oim_fact::{Allowed, NumericTable};
-use oim_report::{Report, read_report, report_of, with_allowed, write_report};
+use oim_report::{Report, allowed_of_word, read_report, report_of, with_allowed, write_report};
 use serde_json::{Map, Value};
 use std::alloc::{AllocError, Global};
 use std::sync::Arc;
@@ -128,7 +127,7 @@ pub(crate) fn info_answer(
     question: &Value,
     table: &Arc<NumericTable>,
 ) -> Result<String> {
-    let allowed = allowed(text_at(question, 0));
+    let allowed = allowed_of_word(text_at(question, 0)).unwrap_or(Allowed::All);
     match question.get(1usize) {
         Some(Value::String(info)) => Ok(with_allowed(alloc, info, allowed)?),
         Some(Value::Number(depth)) => {

@@ -7,21 +7,12 @@ use anyhow::Result;
 use filing_cli::bad_report_reply;
 use oim_fact::{Allowed, NumericTable};
 use oim_report::{
-    Report, ReportFault, json_value, push_quoted, read_report, report_from, report_of, write_report,
+    Report, ReportFault, allowed_word, json_value, push_quoted, read_report, report_from,
+    report_of, write_report,
 };
 use serde_json::Value;
 use std::alloc::{AllocError, Global};
 use std::sync::Arc;
-
-/// The word of what is allowed.
-pub(crate) fn allowed_word(allowed: Allowed) -> &'static str {
-    match allowed {
-        Allowed::Never => "none",
-        Allowed::Complete => "complete",
-        Allowed::Consistent => "consistent",
-        Allowed::All => "all",
-    }
-}
 
 /// Whether a report was read, or the reply that refuses it.
 pub(crate) fn told(

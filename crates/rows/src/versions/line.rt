@@ -5,6 +5,7 @@
 use crate::versions::facts::{Named, Pool};
 use filing_version::Asked;
 use oim_fact::{Allowed, DimSet};
+use oim_report::allowed_of_word;
 
 /// What waits for a load or a commit.
 #[derive(Clone, Copy)]
@@ -21,12 +22,6 @@ pub(crate) enum Edit<'a> {
 }
 
 impl<'a> Edit<'a> {
-    pub(crate) fn report(self) -> &'a str {
-        match self {
-            Edit::Put { report, .. } | Edit::Declare { report, .. } => report,
-        }
-    }
-
     /// The identifier and the fact that wait for a load of this report.
     pub(crate) fn loaded(self, name: &str) -> Option<(&'a str, &'a Named)> {
         match self {
@@ -84,37 +79,6 @@ pub(crate) enum Line<'a> {
 /// The word at a place, or the empty one.
 fn word(line: &str, place: usize) -> &str {
     line.split(' ').nth(place).unwrap_or("")
-}
-
-/// The first word.
-pub(crate) fn kind_of(line: &str) -> &str {
-    word(line, 0)
-}
-
-pub(crate) const ALLOWED: [(&str, Allowed); 4] = [
-    ("none", Allowed::Never),
-    ("complete", Allowed::Complete),
-    ("consistent", Allowed::Consistent),
-    ("all", Allowed::All),
-];
-
-/// What a word allows.
-fn allowed_of(word: &str) -> Option<Allowed> {
-    for (name, allowed) in ALLOWED {
-        if name == word {
-            return Some(allowed);
-        }
-    }
-    None
-}
-
-pub(crate) fn allowed_word(allowed: Allowed) -> &'static str {
-    match allowed {
-        Allowed::Never => "none",
-        Allowed::Complete => "complete",
-        Allowed::Consistent => "consistent",
-        Allowed::All => "all",
-    }
 }
 
 fn given(word: &str) -> Option<&str> {
@@ -187,7 +151,7 @@ fn edit_of<'a>(pool: &'a Pool, line: &'a str) -> Option<Edit<'a>> {
         },
         _ => Edit::Declare {
             report,
-            allowed: allowed_of(word(line, 2))?,
+            allowed: allowed_of_word(word(line, 2))?,
         },
     };
     Some(edit)
@@ -198,7 +162,7 @@ pub(crate) fn read_line<'a>(pool: &'a Pool, line: &'a str) -> Option<Line<'a>> {
     let report = word(line, 1);
     let read = match word(line, 0) {
         "put" | "remove" | "declare" => Line::Edit(edit_of(pool, line)?),
-        "load" => Line::Load(report, allowed_of(word(line, 2))?),
+        "load" => Line::Load(report, allowed_of_word(word(line, 2))?),
         "commit" => Line::Commit,
         "try" => Line::Try,
         "at" => Line::At(report.parse::<usize>().ok()?),

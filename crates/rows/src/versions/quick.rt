@@ -1,7 +1,7 @@
 //! The answers of versions.
 
 use crate::versions::draft::Draft;
-use crate::versions::line::{Edit, Question, Sought, Stamped, allowed_word};
+use crate::versions::line::{Edit, Question, Sought, Stamped};
 use crate::versions::telling::{
     NO_REPORT, class_word, push_cell_or_none, push_dims_or_none, push_fact_or_none, push_named,
     push_none_if_empty, push_word,
@@ -9,7 +9,7 @@ use crate::versions::telling::{
 use anyhow::{Result, anyhow};
 use filing_version::{Got, Ids, RepoVersion};
 use oim_fact::{Allowed, DimSet, NumericTable};
-use oim_report::{Report, push_comma, read_report};
+use oim_report::{Report, allowed_word, push_comma, read_report};
 use std::alloc::{AllocError, Global};
 use std::sync::Arc;
 
@@ -288,6 +288,11 @@ impl Versions {
             self.all.push(next)?;
         }
         Ok(())
+    }
+
+    /// The number of the last version.
+    pub(crate) fn last_number(&self) -> usize {
+        self.all.len().saturating_sub(1)
     }
 
     /// Takes the last version back.

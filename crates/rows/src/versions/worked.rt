@@ -1,4 +1,4 @@
-//! The answers of both beside those that are written.
+//! The answers beside those that are written.
 
 use crate::versions::facts::Pool;
 use crate::versions::session::Session;
@@ -11,11 +11,6 @@ struct Seen {
     titles: u64,
     answers: u64,
     differing: u64,
-}
-
-/// Whether both answered this last.
-fn is_told(session: &Session<'_>, answer: &str) -> bool {
-    session.told.as_str() == answer && session.told_slowly.as_str() == answer
 }
 
 /// Takes a line of a sheet, and compares what was answered where it is an answer.
@@ -31,9 +26,9 @@ fn take<'a, R: Print + AllocGlobal>(
         return session.take(rt.alloc(), pool, line);
     };
     seen.answers = seen.answers.wrapping_add(1);
-    if !is_told(session, answer) {
+    if !session.has_told(answer) {
         seen.differing = seen.differing.wrapping_add(1);
-        session.tell(rt, title, line)?;
+        session.tell(rt, title, answer)?;
     }
     Ok(())
 }
