@@ -1,37 +1,32 @@
 //! Draws scripts, and compares what is written for each with the output that the test oracle computes, byte for byte; and the verdicts on its history, as it is and with one change, with what the one next reply of all entries says.
 //!
-//! Each script is drawn from the seed and its own number. `draft` is a text that grows by what is drawn, `facts`, `reports` and `scripts` say what is drawn, `words` gives the words of a reply, `tally` counts the replies, and `histories` judges histories. Of a large number of scripts it also tells which of `kinds` never came, and whether too few commits were refused.
-ghost use Rattle.std.specs.Prelude.{◌≡◌, ◌≤◌, ◌<◌};
+//! Each script is drawn from the seed and its own number, out of the lines of `data/drawn_lines.txt`, which `tools/draw_rows` writes. `pool` has those lines, `draft` is a script that grows by what is drawn, `scripts` says what is drawn, `words` gives the words of a reply, `tally` counts the replies, and `histories` judges histories. Of a large number of scripts it also tells which of `kinds` never came, and whether too few commits were refused.
 
 mod draft;
-mod facts;
 mod histories;
 mod kinds;
-mod reports;
+mod pool;
 mod scripts;
 mod tally;
 mod words;
 
+use crate::lines::read_data;
+use crate::memory::{Ran, run_over};
 use anyhow::{Result, anyhow};
 use draft::Draft;
-use filing_cli::{MemoryIn, MemoryOut, run_script};
-use filing_core::Core;
 use histories::Histories;
 use kinds::KINDS;
 use oim_fact::NumericTable;
 use oim_report::read_table;
+use pool::Pool;
 use script_oracle::expected_output;
 use std::alloc::{AllocError, Global};
-use std::marker::Brand;
+use std::rt::Files;
 use std::sync::Arc;
-use std::sync::ledger::{Blank, Ledger};
 use tally::Tally;
 
 // The concepts of scripts that are numeric.
 const NUMERIC: &str = "http://e.org/t Assets\nhttp://e.org/t Cash\n";
-
-// So many bytes of replies are written without a growth.
-const ROOM: usize = 65536;
 
 // So many scripts that differ are told one by one.
 const TOLD: u64 = 10;
@@ -61,12 +56,19 @@ struct Drawing {
     size: Size,
 }
 
+/// What scripts are drawn of, and the numeric table by which they are read.
+#[derive(Drop)]
+struct Given<'a> {
+    pool: Pool<'a>,
+    table: Arc<NumericTable>,
+}
+
 impl Drawing {
-    fn draft(self, alloc: Global) -> Result<Draft, AllocError> {
+    fn draft(self, alloc: Global, pool: &Pool<'_>) -> Result<Draft, AllocError> {
         let mut draft = Draft::new(alloc, self.seed, self.number);
         match self.size {
-            Size::Small => draft.put_script(alloc)?,
-            Size::Large => draft.put_large_script(alloc)?,
+            Size::Small => draft.put_script(pool)?,
+            Size::Large => draft.put_large_script(pool)?,
         }
         Ok(draft)
     }
@@ -90,51 +92,22 @@ fn first_difference(one: &[u8], other: &[u8]) -> Option<u64> {
     }
 }
 
-/// The reply at which what is written for a script is not what is expected, and the core that it leaves. So many bytes are read at once.
-fn departure<L: Ledger, K: Ledger>(
-    alloc: Global,
-    table: &Arc<NumericTable>,
-    script: &[u8],
-    piece: usize,
-    expected: &[u8],
-    source_blank: Blank,
-    sink_blank: Blank,
-) -> Result<(Option<u64>, Core)>
-    requires some { 0 < piece }
-    requires source_name { source_blank.name ≡ L.name }
-    requires source_parts { source_blank.parts ≡ L.parts }
-    requires source_three { 3 ≤ source_blank.parts }
-    requires sink_name { sink_blank.name ≡ K.name }
-    requires sink_parts { sink_blank.parts ≡ K.parts }
-    requires sink_some { 0 < sink_blank.parts }
-{
-    let mut source: MemoryIn<'_, L> = MemoryIn::new(script, piece, source_blank);
-    let mut sink: MemoryOut<K> = MemoryOut::new(alloc, ROOM, piece, sink_blank)?;
-    let core = run_script(alloc, &mut source, &mut sink, table)?;
-    Ok((first_difference(sink.written(), expected), core))
-}
-
 /// Draws a script, and tells at which reply it differs. Its history is judged too.
 fn try_script(
     alloc: Global,
-    table: &Arc<NumericTable>,
+    given: &Given<'_>,
     drawing: Drawing,
     tally: &mut Tally,
     histories: &mut Histories,
 ) -> Result<Option<u64>> {
-    let mut draft = drawing.draft(alloc)?;
+    let table = &given.table;
+    let mut draft = drawing.draft(alloc, &given.pool)?;
     let piece = 1 + draft.below(400) as usize;
     let expected = expected_output(alloc, draft.text(), table)?;
     tally.count_all(alloc, draft.text(), &expected)?;
-    let (departure, core) = departure::<Brand, Brand>(
-        alloc,
-        table,
-        draft.text(),
-        piece,
-        expected.as_bytes(),
-        Blank::new(3),
-        Blank::new(1),
-    )?;
+    let Ran { ended, written } = run_over(alloc, table, draft.text(), piece)?;
+    let departure = first_difference(&written, expected.as_bytes());
+    let core = ended?;
     let tried = histories.try_core(alloc, table, &mut draft, &core);
     drop(core);
     tried?;
@@ -144,18 +117,17 @@ fn try_script(
 /// Tries so many scripts from one on, and gives how many differ.
 fn try_scripts<R: Print + AllocGlobal>(
     rt: &R,
+    given: &Given<'_>,
     first: Drawing,
     scripts: u64,
     tally: &mut Tally,
     histories: &mut Histories,
 ) -> Result<u64> {
-    let alloc = rt.alloc();
-    let table = Arc::new(alloc, read_table(alloc, NUMERIC)?)?;
     let mut differ = 0u64;
     for turn in 0..scripts {
         let (seed, number) = (first.seed, first.number.wrapping_add(turn));
         let drawing = Drawing { number, ..first };
-        if let Some(line) = try_script(alloc, &table, drawing, tally, histories)? {
+        if let Some(line) = try_script(rt.alloc(), given, drawing, tally, histories)? {
             if differ < TOLD {
                 println!(rt; "seed {seed}, script {number}: differs at reply {line}")?;
             }
@@ -214,7 +186,7 @@ fn tell_differences<R: Print>(
 }
 
 /// Compares scripts of large reports that are drawn from a seed.
-fn compare_large<R: Print + AllocGlobal>(rt: &R, seed: u64) -> Result<u64> {
+fn compare_large<R: Print + AllocGlobal>(rt: &R, given: &Given<'_>, seed: u64) -> Result<u64> {
     let mut tally = Tally::new(rt.alloc());
     let mut histories = Histories::new();
     let first = Drawing {
@@ -222,13 +194,18 @@ fn compare_large<R: Print + AllocGlobal>(rt: &R, seed: u64) -> Result<u64> {
         number: FIRST_LARGE,
         size: Size::Large,
     };
-    let differ = try_scripts(rt, first, LARGE_SCRIPTS, &mut tally, &mut histories)?;
+    let differ = try_scripts(rt, given, first, LARGE_SCRIPTS, &mut tally, &mut histories)?;
     let what = format!(in rt.alloc(); "{LARGE_SCRIPTS} scripts of a large report")?;
     tell_differences(rt, &what, differ, &tally, &histories)
 }
 
-/// Compares so many scripts that are drawn from a seed, and some of large reports.
-pub(crate) fn compare_drawn<R: Print + AllocGlobal>(rt: &R, seed: u64, scripts: u64) -> Result<()> {
+/// Compares so many scripts, and tells how often each reply came, and what never came of many.
+fn compare_small<R: Print + AllocGlobal>(
+    rt: &R,
+    given: &Given<'_>,
+    seed: u64,
+    scripts: u64,
+) -> Result<u64> {
     let mut tally = Tally::new(rt.alloc());
     let mut histories = Histories::new();
     let first = Drawing {
@@ -236,15 +213,41 @@ pub(crate) fn compare_drawn<R: Print + AllocGlobal>(rt: &R, seed: u64, scripts: 
         number: 0,
         size: Size::Small,
     };
-    let differ = try_scripts(rt, first, scripts, &mut tally, &mut histories)?;
+    let differ = try_scripts(rt, given, first, scripts, &mut tally, &mut histories)?;
     tell_counts(rt, &tally)?;
     let what = format!(in rt.alloc(); "{scripts} scripts")?;
     let differ = tell_differences(rt, &what, differ, &tally, &histories)?;
-    if differ > 0 || compare_large(rt, seed)? > 0 {
-        return Err(anyhow!("some scripts differ"));
-    }
     if scripts >= MANY && tell_lacks(rt, &tally)? > 0 {
         return Err(anyhow!("the scripts lack something"));
     }
+    Ok(differ)
+}
+
+/// Compares scripts of small reports and of large ones.
+fn compare_given<R: Print + AllocGlobal>(
+    rt: &R,
+    given: &Given<'_>,
+    seed: u64,
+    scripts: u64,
+) -> Result<()> {
+    let differ = compare_small(rt, given, seed, scripts)?;
+    if differ.saturating_add(compare_large(rt, given, seed)?) > 0 {
+        return Err(anyhow!("some scripts differ"));
+    }
     Ok(())
+}
+
+/// Compares so many scripts that are drawn from a seed, and some of large reports.
+pub(crate) fn compare_drawn<R: Files + Print + AllocGlobal>(
+    rt: &R,
+    seed: u64,
+    scripts: u64,
+) -> Result<()> {
+    let file = read_data(rt, "drawn_lines", "txt")?;
+    let pool = Pool::read(rt.alloc(), &file)?;
+    let table = Arc::new(rt.alloc(), read_table(rt.alloc(), NUMERIC)?)?;
+    let given = Given { pool, table };
+    let compared = compare_given(rt, &given, seed, scripts);
+    drop(given);
+    compared
 }

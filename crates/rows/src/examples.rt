@@ -6,37 +6,23 @@ mod answered;
 mod changed;
 mod devices;
 mod fronts;
-mod histories;
 mod sheet;
 mod stored;
 mod trials;
 mod worked;
 
+use crate::lines::read_numeric;
 use anyhow::Result;
-use oim_fact::NumericTable;
-use oim_report::read_table;
-use std::fs;
 use std::rt::Files;
-use std::sync::Arc;
-
-// So many bytes are written without a growth.
-const ROOM: usize = 65536;
-
-/// The numeric table of a file.
-fn table_of<R: Files + AllocGlobal>(rt: &R, file: &str) -> Result<Arc<NumericTable>> {
-    let text = fs::read_to_string(rt, file)?;
-    let table = read_table(rt.alloc(), text.as_str())?;
-    Ok(Arc::new(rt.alloc(), table)?)
-}
 
 /// Runs the stored scripts.
 pub(crate) fn compare_scripts<R: Files + Print + AllocGlobal>(rt: &R) -> Result<()> {
-    stored::try_stored(rt, &table_of(rt, "numeric.txt")?)
+    stored::try_stored(rt, &read_numeric(rt, "numeric")?)
 }
 
 /// Compares and judges worked histories.
 pub(crate) fn compare_histories<R: Files + Print + AllocGlobal>(rt: &R) -> Result<()> {
-    worked::compare_worked(rt, &table_of(rt, "worked.txt")?)
+    worked::compare_worked(rt, &read_numeric(rt, "worked")?)
 }
 
 /// Has each call of a device go wrong.

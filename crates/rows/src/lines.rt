@@ -1,6 +1,42 @@
-//! Lines of bytes, each of which ends with a line feed.
+//! Files of `data/`, and lines of bytes, each of which ends with a line feed.
 
+use anyhow::Result;
+use oim_fact::NumericTable;
+use oim_report::read_table;
 use std::alloc::AllocError;
+use std::fs;
+use std::rt::Files;
+use std::sync::Arc;
+
+/// The bytes of the file NAME.ENDING.
+pub(crate) fn read_data<R: Files + AllocGlobal>(
+    rt: &R,
+    name: &str,
+    ending: &str,
+) -> Result<Vec<u8>> {
+    let file = format!(in rt.alloc(); "{name}.{ending}")?;
+    Ok(fs::read(rt, file)?)
+}
+
+/// The text of the file NAME.ENDING.
+pub(crate) fn read_text<R: Files + AllocGlobal>(
+    rt: &R,
+    name: &str,
+    ending: &str,
+) -> Result<String> {
+    let file = format!(in rt.alloc(); "{name}.{ending}")?;
+    Ok(fs::read_to_string(rt, file)?)
+}
+
+/// The numeric table of the file NAME.txt.
+pub(crate) fn read_numeric<R: Files + AllocGlobal>(
+    rt: &R,
+    name: &str,
+) -> Result<Arc<NumericTable>> {
+    let text = read_text(rt, name, "txt")?;
+    let table = read_table(rt.alloc(), &text)?;
+    Ok(Arc::new(rt.alloc(), table)?)
+}
 
 /// Whether a byte ends a line.
 pub(crate) fn is_end(byte: &u8) -> bool {
@@ -9,7 +45,7 @@ pub(crate) fn is_end(byte: &u8) -> bool {
 
 /// How many line feeds there are in bytes.
 pub(crate) fn ends_in(bytes: &[u8]) -> usize {
-    bytes.iter().filter(|byte| is_end(*byte)).count()
+    bytes.split(is_end).count().saturating_sub(1)
 }
 
 /// Appends a line with its end.

@@ -1,15 +1,17 @@
 //! Compares what the layers answer with what is written of them, and fast answers with slow ones.
 //!
-//! `sheets` has worked rows of scripts, steps, reports, facts and classes, `pages` lists and maps in pages, `versions` versions and their changes, and `examples` stored scripts, worked histories and failing devices; `offices` takes steps at desks and opens reviews beside them, `threads` runs scripts in threads, and `drawn` draws scripts, which the oracle answers too; `lines` has what they need of lines.
+//! `sheets` has worked rows of scripts, steps, reports and facts, `pages` lists and maps in pages, `versions` versions and their changes; `model` is of both, with answers that `tools/draw_rows` computed; and `examples` stored scripts, worked histories and failing devices; `offices` takes steps at desks and opens reviews beside them, `threads` runs scripts in threads, and `drawn` draws scripts, which the oracle answers too; `lines` has what they need of lines, `seen` counts what differs, and `memory` runs scripts and judges histories over memory.
 //!
-//! A word names the part that is wanted: `sheets`, `pages`, `versions`, `scripts`, `histories`, `devices`, `offices`, `threads` or `drawn`; without a word it is all of them. A seed of what is drawn may follow `threads` and `drawn`, and then a number of sets or of scripts.
+//! A word names the part that is wanted: `sheets`, `pages`, `versions`, `model`, `scripts`, `histories`, `devices`, `offices`, `threads` or `drawn`; without a word it is all of them. A seed of what is drawn may follow `threads` and `drawn`, and then a number of sets or of scripts.
 #![tactic(auto)]
 
 mod drawn;
 mod examples;
 mod lines;
+mod memory;
 mod offices;
 mod pages;
+mod seen;
 mod sheets;
 mod threads;
 mod versions;
@@ -19,14 +21,14 @@ use drawn::compare_drawn;
 use examples::{compare_devices, compare_histories, compare_scripts};
 use offices::show_offices;
 use pages::compare_pages;
-use sheets::compare_sheets;
+use sheets::{compare_drawn_sheets, compare_sheets};
 use std::env;
 use std::marker::Sync;
 use std::rt::Files;
 use std::sync::Wait;
 use std::thread::Threads;
 use threads::compare_threads;
-use versions::compare_versions;
+use versions::{compare_drawn_versions, compare_versions};
 
 // So many sets of scripts are drawn for threads, and so many scripts for the oracle, where no number is named.
 const SETS: u64 = 12;
@@ -56,6 +58,10 @@ fn compare<T: Threads + Wait + Sync + Print + Files + AllocGlobal>(
         "sheets" => compare_sheets(rt),
         "pages" => compare_pages(rt),
         "versions" => compare_versions(rt),
+        "model" => {
+            compare_drawn_sheets(rt)?;
+            compare_drawn_versions(rt)
+        }
         "scripts" => compare_scripts(rt),
         "histories" => compare_histories(rt),
         "devices" => compare_devices(rt),
@@ -67,10 +73,11 @@ fn compare<T: Threads + Wait + Sync + Print + Files + AllocGlobal>(
 }
 
 // What is compared where no part is named.
-const PARTS: [&str; 9] = [
+const PARTS: [&str; 10] = [
     "sheets",
     "pages",
     "versions",
+    "model",
     "scripts",
     "histories",
     "devices",

@@ -2,16 +2,13 @@
 //!
 //! A file NAME.rows has scripts. A line that begins with `# ` begins one and is its title; a line that begins with `=> ` is the reply that is expected to the line before it; one that begins with `= ` is the number of steps that the script takes; every other line is a line of the script. `sheet` reads them, and `beside` compares the replies with those of the program.
 //!
-//! `scripts` runs scripts over memory. The lines of other files are questions: `steps` takes the steps of a core that `asked_steps` makes, loads and commits in two parts too, `tables` and `reports` read texts and write them again, `infos` sets what a report declares, `facts` reads and writes with one fact, and `dimensions` has dimension sets and prefixes. `question` has the parts of a question. `drawn`, of facts that `classes` makes, and `loads` compare fast answers with slow ones.
+//! `scripts` runs scripts over memory. The lines of other files are questions: `steps` takes the steps of a core that `asked_steps` makes, loads and commits in two parts too, `tables` and `reports` read texts and write them again, `infos` sets what a report declares, `facts` reads and writes with one fact, and `dimensions` has dimension sets and prefixes. `question` has the parts of a question. `drawn_numbers` and `drawn_scripts` are of another part, since they are many: what is written there was computed by `tools/draw_rows`, by all pairs of facts and by lists of all that was touched.
 
 mod asked_steps;
 mod beside;
-mod classes;
 mod dimensions;
-mod drawn;
 mod facts;
 mod infos;
-mod loads;
 mod question;
 mod reports;
 mod scripts;
@@ -19,15 +16,11 @@ mod sheet;
 mod steps;
 mod tables;
 
+use crate::lines::read_numeric;
 use anyhow::Result;
 use beside::{Table, compare_file};
-use drawn::drawn_classes;
-use loads::drawn_loads;
-use oim_report::{read_report, read_table};
-use std::alloc::Global;
-use std::fs;
+use oim_report::read_report;
 use std::rt::Files;
-use std::sync::Arc;
 use steps::Taking;
 
 /// What answers the lines of a file.
@@ -86,15 +79,19 @@ const FILES: [(&str, Kind); 22] = [
     ("names", Kind::Each(Asked::Names)),
 ];
 
+/// What is drawn, with the answers that `tools/draw_rows` computed.
+const DRAWN: [(&str, Kind); 2] = [
+    ("drawn_numbers", Kind::Script(PIECE)),
+    ("drawn_scripts", Kind::Script(PIECE)),
+];
+
 // A report that binds two prefixes.
 const NAMES: &str =
     r#"{"documentInfo":{"documentType":"https://xbrl.org/2021/xbrl-json","namespaces":{"ex":"http://e.org/t","o":"http://o.org"}}}"#;
 
 /// The numeric table by which all rows are read, and the prefixes of a report.
 fn read_names<R: Files + AllocGlobal>(rt: &R) -> Result<Table> {
-    let text = fs::read_to_string(rt, "worked.txt")?;
-    let table = read_table(rt.alloc(), text.as_str())?;
-    let table = Arc::new(rt.alloc(), table)?;
+    let table = read_numeric(rt, "worked")?;
     let report = read_report(rt.alloc(), NAMES.as_bytes(), &table)?;
     Ok(Table {
         numeric: table,
@@ -102,20 +99,31 @@ fn read_names<R: Files + AllocGlobal>(rt: &R) -> Result<Table> {
     })
 }
 
-/// Compares all files by a table, and then fast answers with slow ones.
-fn compare_by<R: Files + Print + AllocGlobal>(rt: &R, table: &Table) -> Result<()> {
-    for (name, kind) in FILES {
-        compare_file(rt, table, name, kind)?;
+/// Compares files by a table.
+fn compare_by<R: Files + Print + AllocGlobal>(
+    rt: &R,
+    table: &Table,
+    files: &[(&str, Kind)],
+) -> Result<()> {
+    for (name, kind) in files {
+        compare_file(rt, table, name, *kind)?;
     }
-    println!(rt; "{}", drawn_classes(rt.alloc())?)?;
-    println!(rt; "{}", drawn_loads(rt.alloc(), &table.numeric)?)?;
     Ok(())
 }
 
-/// Compares all files, and then fast answers with slow ones.
-pub(crate) fn compare_sheets<R: Files + Print + AllocGlobal>(rt: &R) -> Result<()> {
+fn compare_files<R: Files + Print + AllocGlobal>(rt: &R, files: &[(&str, Kind)]) -> Result<()> {
     let table = read_names(rt)?;
-    let compared = compare_by(rt, &table);
+    let compared = compare_by(rt, &table, files);
     drop(table);
     compared
+}
+
+/// Compares worked rows.
+pub(crate) fn compare_sheets<R: Files + Print + AllocGlobal>(rt: &R) -> Result<()> {
+    compare_files(rt, &FILES)
+}
+
+/// Compares rows that are drawn.
+pub(crate) fn compare_drawn_sheets<R: Files + Print + AllocGlobal>(rt: &R) -> Result<()> {
+    compare_files(rt, &DRAWN)
 }

@@ -11,16 +11,15 @@ mod runs;
 mod sheet;
 mod told;
 
+use crate::lines::{read_data, read_numeric};
 use anyhow::{Result, anyhow};
 use drawn::drawn_set;
 use judge::{Finding, explanation};
 use long::compare_long;
 use oim_fact::NumericTable;
-use oim_report::read_table;
 use runs::replies_in_threads;
 use sheet::{Sheet, sheets_in};
 use std::alloc::Global;
-use std::fs;
 use std::marker::Sync;
 use std::rt::Files;
 use std::sync::{Arc, Wait};
@@ -61,7 +60,7 @@ fn compare<R: Print + AllocGlobal + Threads + Wait + Sync>(
 
 /// The sheets of the file of this name.
 fn read_sheets<R: AllocGlobal + Files>(rt: &R, name: &str) -> Result<Vec<Sheet>> {
-    let file = fs::read(rt, name)?;
+    let file = read_data(rt, name, "rows")?;
     Ok(sheets_in(rt.alloc(), &file)?)
 }
 
@@ -87,7 +86,7 @@ fn compare_worked<R: Print + AllocGlobal + Files + Threads + Wait + Sync>(
     rt: &R,
     table: &Arc<NumericTable>,
 ) -> Result<()> {
-    let sheets = read_sheets(rt, "threads.rows")?;
+    let sheets = read_sheets(rt, "threads")?;
     compare_sheets(rt, table, &sheets)
 }
 
@@ -121,7 +120,7 @@ fn judge_sheets<R: Print + AllocGlobal>(
 
 /// Tells of each sheet of replies whether some order explains them.
 fn judge_written<R: Print + AllocGlobal + Files>(rt: &R, table: &Arc<NumericTable>) -> Result<()> {
-    let sheets = read_sheets(rt, "judged_threads.rows")?;
+    let sheets = read_sheets(rt, "judged_threads")?;
     judge_sheets(rt, table, &sheets)
 }
 
@@ -181,13 +180,6 @@ fn try_sets<R: Print + AllocGlobal + Threads + Wait + Sync>(
     }
 }
 
-/// The numeric table by which all reports are read.
-fn read_numeric<R: Files + AllocGlobal>(rt: &R) -> Result<Arc<NumericTable>> {
-    let text = fs::read_to_string(rt, "threads_numeric.txt")?;
-    let table = read_table(rt.alloc(), text.as_str())?;
-    Ok(Arc::new(rt.alloc(), table)?)
-}
-
 /// Runs and judges scripts by a numeric table.
 fn compare_by<R: Print + AllocGlobal + Files + Threads + Wait + Sync>(
     rt: &R,
@@ -207,7 +199,7 @@ pub(crate) fn compare_threads<R: Print + AllocGlobal + Files + Threads + Wait + 
     seed: u64,
     sets: u64,
 ) -> Result<()> {
-    let table = read_numeric(rt)?;
+    let table = read_numeric(rt, "threads_numeric")?;
     let compared = compare_by(rt, &table, seed, sets);
     drop(table);
     compared

@@ -1,16 +1,16 @@
-//! A text that grows by what is drawn.
+//! A script that grows by what is drawn.
 
-ghost use Rattle.std.specs.Prelude.{◌<◌, length};
+ghost use Rattle.std.specs.Prelude.{◌<◌};
 
 use rand_core::Rng;
 use rand_pcg::Pcg32;
 use std::alloc::{AllocError, Global};
-use std::mem;
-
-const HEX: [u8; 16] = *b"0123456789abcdef";
 
 /// The names of sessions.
 pub(crate) const SESSIONS: [&str; 4] = ["s1", "s2", "s 3", "\"é\\"];
+
+// The same as JSON texts.
+const NAMES: [&str; 4] = [r#""s1""#, r#""s2""#, r#""s 3""#, r#""\"\u00e9\\""#];
 
 /// The bytes so far, the generator of what comes next, which names of sessions are in use, and how much was asked of each session.
 #[derive(Drop)]
@@ -58,14 +58,6 @@ impl Draft {
         self.rng.next_u32() as usize % bound
     }
 
-    /// One of some words. A word that stands there more often comes more often.
-    pub(crate) fn pick(&mut self, words: &[&'static str]) -> &'static str
-        requires { 0 < length words.now }
-    {
-        let place = self.place_below(words.len());
-        words[place]
-    }
-
     /// The place of a name that is in use, or that is not, as is wanted; now and then, or where there is none, of any.
     fn place_of_name(&mut self, wanted: bool) -> usize
         ensures { result < 4 }
@@ -94,15 +86,19 @@ impl Draft {
         names < 3
     }
 
-    /// The name of a session, mostly of one that is in use, of which something is asked.
-    pub(crate) fn asked_name(&mut self) -> &'static str {
+    /// The place of a session, mostly of one that is in use, of which something is asked.
+    pub(crate) fn asked_place(&mut self) -> usize
+        ensures { result < 4 }
+    {
         let place = self.place_of_name(true);
         self.asked[place] = self.asked[place].saturating_add(1);
-        SESSIONS[place]
+        place
     }
 
-    /// The name of a session, mostly of one that is in use and of which much was asked. From here on it is not in use.
-    pub(crate) fn ended_name(&mut self) -> &'static str {
+    /// The place of a session, mostly of one that is in use and of which much was asked. From here on it is not in use.
+    pub(crate) fn ended_place(&mut self) -> usize
+        ensures { result < 4 }
+    {
         let mut place = self.place_of_name(true);
         let other = self.place_of_name(true);
         if self.asked[other] > self.asked[place] {
@@ -110,94 +106,31 @@ impl Draft {
         }
         self.used[place] = false;
         self.asked[place] = 0;
-        SESSIONS[place]
+        place
     }
 
-    /// A name that is mostly not in use, and is so from here on.
-    pub(crate) fn opened_name(&mut self) -> &'static str {
+    /// The place of a name that is mostly not in use, and is so from here on.
+    pub(crate) fn opened_place(&mut self) -> usize
+        ensures { result < 4 }
+    {
         let place = self.place_of_name(false);
         self.used[place] = true;
-        SESSIONS[place]
+        place
     }
 
-    pub(crate) fn put(&mut self, text: &str) -> Result<(), AllocError> {
-        self.put_bytes(text.as_bytes())
-    }
-
-    pub(crate) fn put_bytes(&mut self, bytes: &[u8]) -> Result<(), AllocError> {
-        self.text.extend_from_slice(bytes)
-    }
-
-    /// The white space of JSON, or none.
-    pub(crate) fn put_space(&mut self) -> Result<(), AllocError> {
-        match self.below(24) {
-            0 => self.put(" "),
-            1 => self.put("  "),
-            2 => self.put("\t"),
-            _ => Ok(()),
-        }
-    }
-
-    fn put_escaped(&mut self, byte: u8) -> Result<(), AllocError> {
-        self.put("\\u00")?;
-        let digits = [HEX[(byte / 16) as usize], HEX[(byte % 16) as usize]];
-        self.put_bytes(&digits)
-    }
-
-    fn put_quoted_byte(&mut self, byte: u8) -> Result<(), AllocError> {
-        match byte {
-            b'"' => self.put("\\\""),
-            b'\\' => self.put("\\\\"),
-            0..0x20 => self.put_escaped(byte),
-            0x20..0x80 => {
-                if self.one_in(40) {
-                    self.put_escaped(byte)
-                } else {
-                    self.put_bytes(&[byte])
-                }
+    /// Appends a line, in which the name at a place stands for each `%`, and its end.
+    pub(crate) fn put_line(&mut self, line: &[u8], place: usize) -> Result<(), AllocError>
+        requires { place < 4 }
+    {
+        for byte in line {
+            if *byte == b'%' {
+                self.text.extend_from_slice(NAMES[place].as_bytes())?;
+            } else {
+                self.text.push(*byte)?;
             }
-            _ => self.put_bytes(&[byte]),
         }
-    }
-
-    /// A text as a JSON text, with escapes where they must be and elsewhere too.
-    pub(crate) fn put_quoted(&mut self, text: &[u8]) -> Result<(), AllocError> {
-        self.put("\"")?;
-        for byte in text {
-            self.put_quoted_byte(*byte)?;
-        }
-        self.put("\"")
-    }
-
-    /// One of 300 identifiers as a JSON text.
-    pub(crate) fn put_large_id(&mut self) -> Result<(), AllocError> {
-        let number = self.below(300);
-        let digits = [
-            HEX[(number / 100) as usize],
-            HEX[(number / 10 % 10) as usize],
-            HEX[(number % 10) as usize],
-        ];
-        self.put("\"f")?;
-        self.put_bytes(&digits)?;
-        self.put("\"")
-    }
-
-    /// So many of one byte.
-    pub(crate) fn put_many(&mut self, byte: u8, count: u32) -> Result<(), AllocError> {
-        for _ in 0..count {
-            self.put_bytes(&[byte])?;
-        }
-        Ok(())
-    }
-
-    /// Begins another text, and gives the one so far.
-    pub(crate) fn set_aside(&mut self, alloc: Global) -> Vec<u8> {
-        mem::replace(&mut self.text, Vec::new(alloc))
-    }
-
-    /// Goes on with a text that was set aside, and gives the other.
-    pub(crate) fn take_up(&mut self, text: Vec<u8>) -> Vec<u8> {
-        mem::replace(&mut self.text, text)
+        let end: &[u8] = if self.one_in(16) { b"\r\n" } else { b"\n" };
+        self.text.extend_from_slice(end)
     }
 
     /// Drops the last byte.

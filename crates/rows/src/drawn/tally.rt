@@ -4,8 +4,9 @@ ghost use Rattle.std.specs.Prelude.{◌<◌};
 
 use crate::drawn::draft::SESSIONS;
 use crate::drawn::words::{text_at, words_of};
+use crate::lines::is_end;
+use filing_cli::is_blank;
 use filing_text::line_of;
-use line_run::is_blank;
 use oim_report::json_value;
 use serde_json::Value;
 use std::alloc::{AllocError, Global};
@@ -136,7 +137,7 @@ impl Tally {
     ) -> Result<(), AllocError> {
         self.changed = [false; 4];
         let mut replies = output.lines();
-        for line in script.split(|byte| *byte == b'\n') {
+        for line in script.split(is_end) {
             if !is_blank(line)
                 && let Some(reply) = replies.next()
             {

@@ -1,8 +1,8 @@
 //! What a sheet is answered: its script run, and its history judged.
 
 use crate::examples::changed::push_changes;
-use crate::examples::histories::{left_by, lines_of, told_of, verdict_told};
 use crate::examples::sheet::Sheet;
+use crate::memory::{history_of, left_by, verdict_on, verdict_told};
 use anyhow::Result;
 use filing_core::{Core, check_run};
 use oim_fact::NumericTable;
@@ -18,17 +18,32 @@ pub(crate) struct Answered {
     told: Vec<u8>,
 }
 
+// So many bytes are read at once.
+const PIECE: usize = 7;
+
+/// Appends the verdict on the lines of a history, as it is told.
+pub(crate) fn push_told(
+    alloc: Global,
+    table: &Arc<NumericTable>,
+    lines: &[u8],
+    told: &mut Vec<u8>,
+) -> Result<()> {
+    let verdict = verdict_on(alloc, table, lines, PIECE)?;
+    told.extend_from_slice(verdict_told(alloc, &verdict)?.as_bytes())?;
+    Ok(())
+}
+
 /// Appends the verdict on the entries of a core, as it is told.
 fn push_verdict(alloc: Global, core: &Core, told: &mut Vec<u8>) -> Result<()> {
     let verdict = check_run(alloc, core.history())?;
-    told.extend_from_slice(&verdict_told(alloc, &verdict)?)?;
+    told.extend_from_slice(verdict_told(alloc, &verdict)?.as_bytes())?;
     Ok(())
 }
 
 impl Answered {
     /// What a sheet is answered: of a script its history, and of a history the verdict on its lines, on its entries, and on those of which one is changed.
     pub(crate) fn of(alloc: Global, table: &Arc<NumericTable>, sheet: &Sheet) -> Result<Answered> {
-        let core = left_by(alloc, table, &sheet.script)?;
+        let core = left_by(alloc, table, &sheet.script, PIECE)?;
         let answered = Answered::of_core(alloc, table, sheet, &core);
         drop(core);
         answered
@@ -41,8 +56,9 @@ impl Answered {
         sheet: &Sheet,
         core: &Core,
     ) -> Result<Answered> {
-        let history = lines_of(alloc, core)?;
-        let mut told = told_of(alloc, table, &sheet.history)?;
+        let history = history_of(alloc, core)?;
+        let mut told = Vec::new(alloc);
+        push_told(alloc, table, &sheet.history, &mut told)?;
         if sheet.is_written {
             push_verdict(alloc, core, &mut told)?;
         }

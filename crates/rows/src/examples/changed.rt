@@ -1,6 +1,6 @@
 //! Histories of which one reply is changed.
 
-use crate::examples::histories::told_of;
+use crate::examples::answered::push_told;
 use crate::lines::{is_end, push_line};
 use anyhow::Result;
 use oim_fact::NumericTable;
@@ -47,17 +47,10 @@ fn with_line(
     Ok(all)
 }
 
-/// What is told of a history of which the reply at a place is changed.
-fn told_of_change(
-    alloc: Global,
-    table: &Arc<NumericTable>,
-    lines: &[u8],
-    place: usize,
-    line: &[u8],
-) -> Result<Vec<u8>> {
+/// A history of which the reply at a place is changed.
+fn with_change(alloc: Global, lines: &[u8], place: usize, line: &[u8]) -> Result<Vec<u8>> {
     let other = changed_line(alloc, line)?;
-    let changed = with_line(alloc, lines, place, &other)?;
-    told_of(alloc, table, &changed)
+    Ok(with_line(alloc, lines, place, &other)?)
 }
 
 /// Appends what is told of a history of which each reply is changed in turn.
@@ -69,8 +62,8 @@ pub(crate) fn push_changes(
 ) -> Result<()> {
     for (line, place) in lines.split(is_end).zip(0usize..) {
         if !line.is_empty() {
-            let changed = told_of_change(alloc, table, lines, place, line)?;
-            told.extend_from_slice(&changed)?;
+            let changed = with_change(alloc, lines, place, line)?;
+            push_told(alloc, table, &changed, told)?;
         }
     }
     Ok(())

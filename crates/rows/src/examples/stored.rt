@@ -1,19 +1,14 @@
 //! Runs the stored scripts, each with its replies and its history in files of their own, and tells which are not those; and judges a history of which a reply was changed.
 
-ghost use Rattle.std.specs.Prelude.{◌≡◌, ◌≤◌, ◌<◌};
-
-use crate::examples::ROOM;
-use crate::examples::histories::{is_as_written, verdict_on};
+use crate::lines::read_data;
+use crate::memory::{Ran, history_of, run_over, verdict_on};
 use anyhow::Result;
-use filing_cli::{MemoryIn, MemoryOut, ScriptFault, run_script};
+use filing_cli::ScriptFault;
 use filing_core::{Core, Verdict};
 use oim_fact::NumericTable;
 use std::alloc::Global;
-use std::fs;
-use std::marker::Brand;
 use std::rt::Files;
 use std::sync::Arc;
-use std::sync::ledger::{Blank, Ledger};
 
 /// Each is a script NAME.jsonl with the replies NAME.replies and the history NAME.history.
 const NAMES: [&str; 12] = [
@@ -30,6 +25,9 @@ const NAMES: [&str; 12] = [
     "declare",
     "every_reply",
 ];
+
+// So many bytes are read or written at once.
+const PIECE: usize = 65536;
 
 /// How a script ended, beside the replies that it is to have.
 enum Ended {
@@ -61,41 +59,40 @@ fn refused(fault: ScriptFault, written: &[u8], replies: &[u8]) -> Result<Ended, 
 }
 
 /// Runs a script, and compares its replies with these.
-fn run_beside<L: Ledger, K: Ledger>(
+fn run_beside(
     alloc: Global,
     table: &Arc<NumericTable>,
     script: &[u8],
     replies: &[u8],
-    source_blank: Blank,
-    sink_blank: Blank,
-) -> Result<Ended>
-    requires source_name { source_blank.name ≡ L.name }
-    requires source_parts { source_blank.parts ≡ L.parts }
-    requires source_three { 3 ≤ source_blank.parts }
-    requires sink_name { sink_blank.name ≡ K.name }
-    requires sink_parts { sink_blank.parts ≡ K.parts }
-    requires sink_some { 0 < sink_blank.parts }
-{
-    let mut sink: MemoryOut<K> = MemoryOut::new(alloc, ROOM, ROOM, sink_blank)?;
-    let mut source: MemoryIn<'_, L> = MemoryIn::new(script, ROOM, source_blank);
-    let ended = match run_script(alloc, &mut source, &mut sink, table) {
-        Ok(core) => Ok(left(core, sink.written() == replies)),
-        Err(fault) => refused(fault, sink.written(), replies),
-    };
-    drop(source);
-    drop(sink);
-    Ok(ended?)
+) -> Result<Ended> {
+    let Ran { ended, written } = run_over(alloc, table, script, PIECE)?;
+    match ended {
+        Ok(core) => Ok(left(core, written.as_slice() == replies)),
+        Err(fault) => Ok(refused(fault, &written, replies)?),
+    }
+}
+
+/// Whether these are the lines of a core's history, and are judged lawful.
+fn is_as_written(
+    alloc: Global,
+    table: &Arc<NumericTable>,
+    core: &Core,
+    lines: &[u8],
+) -> Result<bool> {
+    let verdict = verdict_on(alloc, table, lines, PIECE)?;
+    let history = history_of(alloc, core)?;
+    Ok(verdict == Verdict::Lawful && history.as_slice() == lines)
 }
 
 /// Tells how the history is that a script left.
-fn tell_left<R: Print + AllocGlobal>(
+fn tell_left<R: Files + Print + AllocGlobal>(
     rt: &R,
     table: &Arc<NumericTable>,
     name: &str,
     core: &Core,
-    history: &[u8],
 ) -> Result<()> {
-    if is_as_written(rt.alloc(), table, core, history)? {
+    let history = read_data(rt, name, "history")?;
+    if is_as_written(rt.alloc(), table, core, &history)? {
         println!(rt; "{name}: as written")?;
     } else {
         println!(rt; "{name}: ANOTHER HISTORY")?;
@@ -104,16 +101,15 @@ fn tell_left<R: Print + AllocGlobal>(
 }
 
 /// Tells how a script ended.
-fn tell_ended<R: Print + AllocGlobal>(
+fn tell_ended<R: Files + Print + AllocGlobal>(
     rt: &R,
     table: &Arc<NumericTable>,
     name: &str,
     ended: Ended,
-    history: &[u8],
 ) -> Result<()> {
     match ended {
         Ended::AsWritten(core) => {
-            let told = tell_left(rt, table, name, &core, history);
+            let told = tell_left(rt, table, name, &core);
             drop(core);
             return told;
         }
@@ -131,25 +127,16 @@ fn try_example<R: Files + Print + AllocGlobal>(
     table: &Arc<NumericTable>,
     name: &str,
 ) -> Result<()> {
-    let alloc = rt.alloc();
-    let script = fs::read(rt, format!(in alloc; "{name}.jsonl")?)?;
-    let replies = fs::read(rt, format!(in alloc; "{name}.replies")?)?;
-    let history = fs::read(rt, format!(in alloc; "{name}.history")?)?;
-    let ended = run_beside::<Brand, Brand>(
-        alloc,
-        table,
-        script.as_slice(),
-        replies.as_slice(),
-        Blank::new(3),
-        Blank::new(1),
-    )?;
-    tell_ended(rt, table, name, ended, history.as_slice())
+    let script = read_data(rt, name, "jsonl")?;
+    let replies = read_data(rt, name, "replies")?;
+    let ended = run_beside(rt.alloc(), table, &script, &replies)?;
+    tell_ended(rt, table, name, ended)
 }
 
 /// Judges the history of `write_skew` in which the refused commit has the reply of one that passes.
 fn try_forged<R: Files + Print + AllocGlobal>(rt: &R, table: &Arc<NumericTable>) -> Result<()> {
-    let lines = fs::read(rt, "forged.history")?;
-    match verdict_on(rt.alloc(), table, lines.as_slice(), ROOM)? {
+    let lines = read_data(rt, "forged", "history")?;
+    match verdict_on(rt.alloc(), table, &lines, PIECE)? {
         Verdict::Lawful => println!(rt; "forged: LAWFUL")?,
         Verdict::Departs(place) => println!(rt; "forged: departs at {place}")?,
     }

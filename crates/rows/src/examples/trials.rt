@@ -4,13 +4,13 @@
 
 use crate::examples::devices::{Given, Trial, Wanted, Work, comes_to};
 use crate::examples::fronts::first_lines;
-use crate::examples::histories::left_by;
-use crate::lines::ends_in;
+use crate::lines::{ends_in, read_data};
+use crate::memory::left_by;
+use crate::seen::Seen;
 use anyhow::{Result, anyhow};
 use filing_cli::ScriptFault;
 use oim_report::read_table;
 use std::alloc::{AllocError, Global};
-use std::fs;
 use std::rt::Files;
 use std::sync::Arc;
 
@@ -23,39 +23,6 @@ enum Wrong {
     WriteFails,
     /// A write takes nothing.
     WriteIdles,
-}
-
-/// How many trials there were, and how many of them came to something else.
-#[derive(Clone, Copy)]
-struct Seen {
-    trials: u64,
-    differing: u64,
-}
-
-impl Seen {
-    const NONE: Seen = Seen {
-        trials: 0,
-        differing: 0,
-    };
-
-    /// With one trial more.
-    fn with(self, is_as_wanted: bool) -> Seen {
-        Seen {
-            trials: self.trials.saturating_add(1),
-            differing: self.differing.saturating_add(u64::from(!is_as_wanted)),
-        }
-    }
-}
-
-/// Tells how many trials came to something else.
-fn tell<R: Print>(rt: &R, title: &str, seen: Seen) -> Result<()> {
-    let Seen { trials, differing } = seen;
-    if differing == 0 {
-        println!(rt; "{title}: {trials} trials, as wanted")?;
-    } else {
-        println!(rt; "{title}: {trials} trials, {differing} DIFFER")?;
-    }
-    Ok(())
 }
 
 /// What is written of a work that reads, when so many of its bytes were read.
@@ -120,17 +87,18 @@ fn calls_of(given: &Given, work: Work, wrong: Wrong) -> usize {
 
 /// Has each call of a work go wrong in turn. One that is not made leaves all as it is.
 fn try_each(alloc: Global, given: &Given, work: Work, wrong: Wrong) -> Result<Seen> {
-    let mut seen = Seen::NONE;
+    let mut seen = Seen::new();
     let calls = calls_of(given, work, wrong);
     for number in 0..calls {
         let wanted = wanted(given, work, wrong, number);
-        seen = seen.with(comes_to(alloc, given, work, trial(wrong, number), wanted)?);
+        seen.count(comes_to(alloc, given, work, trial(wrong, number), wanted)?);
     }
     let sound = Wanted {
         fault: None,
         written: given.written_in(work),
     };
-    Ok(seen.with(comes_to(alloc, given, work, trial(wrong, calls), sound)?))
+    seen.count(comes_to(alloc, given, work, trial(wrong, calls), sound)?);
+    Ok(seen)
 }
 
 // What goes wrong in which work.
@@ -195,13 +163,13 @@ fn try_pieces(alloc: Global, given: &Given) -> Result<Seen> {
         fault: None,
         written: given.written_in(Work::Script),
     };
-    let mut seen = Seen::NONE;
+    let mut seen = Seen::new();
     for piece in [2, 3, 4, 5, 7, 16, 33, 100, 1000, 100_000] {
         let trial = Trial {
             piece,
             ..Trial::SOUND
         };
-        seen = seen.with(comes_to(alloc, given, Work::Script, trial, sound)?);
+        seen.count(comes_to(alloc, given, Work::Script, trial, sound)?);
     }
     Ok(seen)
 }
@@ -226,7 +194,7 @@ fn is_told(alloc: Global, given: &Given, script: &[u8], replies: &[u8]) -> Resul
         replies: Vec::from_slice(alloc, replies)?,
         history: Vec::new(alloc),
         table: Arc::try_clone(&given.table)?,
-        core: left_by(alloc, &given.table, b"")?,
+        core: left_by(alloc, &given.table, b"", 1)?,
     };
     let sound = Wanted {
         fault: None,
@@ -239,13 +207,13 @@ fn is_told(alloc: Global, given: &Given, script: &[u8], replies: &[u8]) -> Resul
 
 /// Has each script of bad bytes answered.
 fn try_bad(alloc: Global, given: &Given) -> Result<Seen> {
-    let mut seen = Seen::NONE;
+    let mut seen = Seen::new();
     for (script, replies) in BAD {
-        seen = seen.with(is_told(alloc, given, script, replies)?);
+        seen.count(is_told(alloc, given, script, replies)?);
     }
     for depth in [100, 126, 127, 200, 100_000] {
         let script = nested(alloc, depth)?;
-        seen = seen.with(is_told(alloc, given, &script, b"[\"bad-line\"]\n")?);
+        seen.count(is_told(alloc, given, &script, b"[\"bad-line\"]\n")?);
     }
     Ok(seen)
 }
@@ -253,10 +221,10 @@ fn try_bad(alloc: Global, given: &Given) -> Result<Seen> {
 /// What lies beside the program.
 fn read_given<R: Files + AllocGlobal>(rt: &R) -> Result<Given> {
     let table = Arc::new(rt.alloc(), read_table(rt.alloc(), "")?)?;
-    let script = fs::read(rt, "run.jsonl")?;
-    let replies = fs::read(rt, "run.replies")?;
-    let history = fs::read(rt, "run.history")?;
-    let core = left_by(rt.alloc(), &table, &script)?;
+    let script = read_data(rt, "run", "jsonl")?;
+    let replies = read_data(rt, "run", "replies")?;
+    let history = read_data(rt, "run", "history")?;
+    let core = left_by(rt.alloc(), &table, &script, 1)?;
     Ok(Given {
         script,
         replies,
@@ -271,18 +239,11 @@ fn try_all<R: Print + AllocGlobal>(rt: &R, given: &Given) -> Result<u64> {
     let mut differing = 0u64;
     for (title, work, wrong) in TRIALS {
         let seen = try_each(rt.alloc(), given, work, wrong)?;
-        tell(rt, title, seen)?;
-        differing = differing.saturating_add(seen.differing);
+        differing = differing.saturating_add(seen.tell(rt, title)?);
     }
-    let pieces = try_pieces(rt.alloc(), given)?;
-    tell(rt, "a script, in larger pieces", pieces)?;
-    let bad = try_bad(rt.alloc(), given)?;
-    tell(rt, "scripts of bad bytes", bad)?;
-    Ok(
-        differing
-            .saturating_add(pieces.differing)
-            .saturating_add(bad.differing),
-    )
+    let pieces = try_pieces(rt.alloc(), given)?.tell(rt, "a script, in larger pieces")?;
+    let bad = try_bad(rt.alloc(), given)?.tell(rt, "scripts of bad bytes")?;
+    Ok(differing.saturating_add(pieces).saturating_add(bad))
 }
 
 /// Has each call of each work go wrong in turn.

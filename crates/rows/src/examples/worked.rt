@@ -4,19 +4,13 @@
 
 use crate::examples::answered::Answered;
 use crate::examples::sheet::Sheet;
-use crate::lines::is_end;
+use crate::lines::{is_end, read_data};
+use crate::seen::Seen;
 use anyhow::Result;
 use oim_fact::NumericTable;
+use std::mem;
 use std::rt::Files;
 use std::sync::Arc;
-use std::{fs, mem};
-
-/// What was seen of a file so far.
-#[derive(Clone, Copy)]
-struct Seen {
-    sheets: u64,
-    differing: u64,
-}
 
 /// Tells what the sheet of a title is answered.
 fn tell_answered<R: Print + AllocGlobal>(rt: &R, title: &str, answered: &[u8]) -> Result<()> {
@@ -30,20 +24,18 @@ fn compare_sheet<R: Print + AllocGlobal>(
     rt: &R,
     table: &Arc<NumericTable>,
     sheet: &Sheet,
-    seen: Seen,
-) -> Result<Seen> {
+    seen: &mut Seen,
+) -> Result<()> {
     if sheet.title.is_empty() {
-        return Ok(seen);
+        return Ok(());
     }
     let answered = Answered::of(rt.alloc(), table, sheet)?;
-    let differs = !answered.is_as_written(sheet);
-    if differs {
+    let is_same = answered.is_as_written(sheet);
+    if !is_same {
         tell_answered(rt, sheet.title.as_str(), answered.told())?;
     }
-    Ok(Seen {
-        sheets: seen.sheets.saturating_add(1),
-        differing: seen.differing.saturating_add(u64::from(differs)),
-    })
+    seen.count(is_same);
+    Ok(())
 }
 
 /// Takes a line of a file. Where it is a title, the sheet is compared, and another one begun.
@@ -52,15 +44,14 @@ fn take_line<R: Print + AllocGlobal>(
     table: &Arc<NumericTable>,
     line: &[u8],
     sheet: &mut Sheet,
-    seen: Seen,
-) -> Result<Seen> {
+    seen: &mut Seen,
+) -> Result<()> {
     let Some(title) = line.strip_prefix(b"# ") else {
-        sheet.take(line)?;
-        return Ok(seen);
+        return Ok(sheet.take(line)?);
     };
-    let seen = compare_sheet(rt, table, sheet, seen)?;
+    compare_sheet(rt, table, sheet, seen)?;
     drop(mem::replace(sheet, Sheet::new(rt.alloc(), title)?));
-    Ok(seen)
+    Ok(())
 }
 
 /// Compares each sheet of a file.
@@ -69,15 +60,13 @@ fn compare_sheets<R: Print + AllocGlobal>(
     table: &Arc<NumericTable>,
     file: &[u8],
 ) -> Result<Seen> {
-    let mut seen = Seen {
-        sheets: 0,
-        differing: 0,
-    };
+    let mut seen = Seen::new();
     let mut sheet = Sheet::new(rt.alloc(), b"")?;
     for line in file.split(is_end) {
-        seen = take_line(rt, table, line, &mut sheet, seen)?;
+        take_line(rt, table, line, &mut sheet, &mut seen)?;
     }
-    compare_sheet(rt, table, &sheet, seen)
+    compare_sheet(rt, table, &sheet, &mut seen)?;
+    Ok(seen)
 }
 
 /// Compares the sheets of each file.
@@ -86,14 +75,8 @@ pub(crate) fn compare_worked<R: Files + Print + AllocGlobal>(
     table: &Arc<NumericTable>,
 ) -> Result<()> {
     for name in ["written_histories", "judged_histories"] {
-        let file = fs::read(rt, format!(in rt.alloc(); "{name}.rows")?)?;
-        let seen = compare_sheets(rt, table, &file)?;
-        let (sheets, differing) = (seen.sheets, seen.differing);
-        if differing == 0 {
-            println!(rt; "{name}: {sheets} sheets, as written")?;
-        } else {
-            println!(rt; "{name}: {sheets} sheets, {differing} DIFFER")?;
-        }
+        let file = read_data(rt, name, "rows")?;
+        compare_sheets(rt, table, &file)?.tell(rt, name)?;
     }
     Ok(())
 }

@@ -2,11 +2,13 @@
 
 ghost use Rattle.std.specs.Prelude.{◌≡◌, ◌<◌, ◌^◌};
 
-use crate::offices::crowd::{Busy, Told, Way, compare_all, parted, run_rounds};
+use crate::offices::crowd::{Told, Way, compare_all, parted, run_rounds};
 use crate::offices::meeting::{run_both, tell_all};
 use crate::offices::rounds::{add_one, before_and_after, load_first, look, review};
 use anyhow::{Error, Result, anyhow};
-use filing_office::{Core, Desk, FinishFault, Naming, Office, Opened, Press, Review, Reviewer};
+use filing_office::{
+    Core, Desk, FinishFault, Naming, Office, Opened, Press, Ran, Review, Reviewer,
+};
 use std::marker::{Send, Sync};
 use std::sync::Wait;
 use std::sync::ledger::{Blank, Ledger};
@@ -260,7 +262,7 @@ fn at_all<
     L: Ledger + Naming + Send + Sync,
     M: Ledger + Send + Sync,
     R: Threads + Wait + Sync + Print + AllocGlobal,
->(rt: &R, office: &Office<L, M>, desks: Vec<Desk<L, M>>, way: Way) -> Result<Vec<Busy<L, M>>> {
+>(rt: &R, office: &Office<L, M>, desks: Vec<Desk<L, M>>, way: Way) -> Result<Vec<Ran<L, M>>> {
     let mut desks = desks;
     match load_at(rt, office, desks.last_mut()) {
         Ok(()) => run_rounds(rt, office, desks, way),
@@ -334,7 +336,7 @@ pub(crate) fn four_desks<
         reviewers,
     } = opened;
     let ended = match at_all(rt, &office, desks, way) {
-        Ok(busy) => end_crowd(rt, office, busy),
+        Ok(ran) => end_crowd(rt, office, ran),
         Err(error) => abandon(rt, office, error),
     };
     drop(reviewers);
@@ -342,29 +344,36 @@ pub(crate) fn four_desks<
 }
 
 /// Compares what desks were told with the history of their office, and writes what it made.
-fn compare_end<R: Print + AllocGlobal>(rt: &R, core: &Core, told: Vec<Vec<Told>>) -> Result<()> {
+fn compare_end<R: Print + AllocGlobal>(rt: &R, core: &Core, told: &[Told]) -> Result<()> {
     compare_all(rt, core.history(), told)?;
     tell_end(rt, core)
+}
+
+/// Ends an office, and compares what its desks were told with the history.
+fn end_and_compare<L: Ledger + Naming, M: Ledger, R: Wait + Print + AllocGlobal>(
+    rt: &R,
+    office: Office<L, M>,
+    desks: Vec<Desk<L, M>>,
+    told: &[Told],
+) -> Result<()> {
+    let core = end_at_last(rt, office, desks)?;
+    let compared = compare_end(rt, &core, told);
+    drop(core);
+    compared
 }
 
 /// Ends the office of desks that took their rounds, and compares what they were told with the history.
 fn end_crowd<L: Ledger + Naming, M: Ledger, R: Wait + Print + AllocGlobal>(
     rt: &R,
     office: Office<L, M>,
-    busy: Vec<Busy<L, M>>,
+    ran: Vec<Ran<L, M>>,
 ) -> Result<()> {
-    match parted(rt.alloc(), busy) {
-        Ok((desks, told)) => match end_at_last(rt, office, desks) {
-            Ok(core) => {
-                let compared = compare_end(rt, &core, told);
-                drop(core);
-                compared
-            }
-            Err(error) => {
-                drop(told);
-                Err(error)
-            }
-        },
+    match parted(rt.alloc(), ran) {
+        Ok((desks, told)) => {
+            let compared = end_and_compare(rt, office, desks, &told);
+            drop(told);
+            compared
+        }
         Err(error) => abandon(rt, office, error),
     }
 }

@@ -1,13 +1,12 @@
 //! Two desks that wait for one another while each has a session open.
 
-use crate::offices::places::made_of_each;
 use crate::offices::rounds::{learn, review, tell};
-use crate::offices::steps::addition;
+use crate::offices::steps::{COMMIT, OPEN, addition, desk_step};
 use anyhow::{Result, anyhow};
 use filing_office::{
     Answer, Desk, DeskStep, Gate, Naming, Office, Outcome, Ran, Reviewer, Work, run_desks,
 };
-use filing_step::{Kind, Reply, Step};
+use filing_step::Reply;
 use std::alloc::Global;
 use std::marker::{Send, Sync};
 use std::sync::Wait;
@@ -72,30 +71,12 @@ impl Gate for Meeting {
     fn after(&self, _desk: usize, _step: usize) {}
 }
 
-fn named(alloc: Global, step: Step) -> Result<DeskStep> {
-    match String::from_str(alloc, "s") {
-        Ok(name) => Ok(DeskStep { name, step }),
-        Err(error) => {
-            drop(step);
-            Err(error.into())
-        }
-    }
-}
-
-/// The step at a turn of a session that adds a fact to the report `r1`.
-fn step_at(alloc: Global, turn: usize, id: &str) -> Result<Step> {
-    match turn {
-        0 => Ok(Step::Open(Kind::Amend)),
-        1 => addition(alloc, id),
-        _ => Ok(Step::Commit),
-    }
-}
-
 /// The steps of a session that adds a fact to the report `r1`.
 fn steps_of(alloc: Global, id: &str) -> Result<Vec<DeskStep>> {
+    let added = addition(alloc, id)?;
     let mut steps = Vec::with_capacity(alloc, 3)?;
-    for turn in 0..3 {
-        steps.push(named(alloc, step_at(alloc, turn, id)?)?)?;
+    for line in [OPEN, added.as_str(), COMMIT] {
+        steps.push(desk_step(alloc, line)?)?;
     }
     Ok(steps)
 }
@@ -119,10 +100,11 @@ fn works_of<L: Ledger + Naming, M: Ledger>(
     alloc: Global,
     desks: Vec<Desk<L, M>>,
 ) -> Result<Vec<Work<L, M>>> {
-    made_of_each(alloc, desks, |place, desk| {
-        let id = if place == 0 { "a" } else { "b" };
-        work(alloc, desk, id)
-    })
+    let mut works = Vec::with_capacity(alloc, desks.len())?;
+    for (desk, id) in desks.into_iter().zip(["a", "b"]) {
+        works.push(work(alloc, desk, id)?)?;
+    }
+    Ok(works)
 }
 
 /// Lets two desks run at once, and tells whether one waited for the other in vain.

@@ -1,15 +1,20 @@
 //! Steps of desks, and reviews beside them.
 
-ghost use Rattle.std.specs.Prelude.{◌≡◌};
-
-use crate::offices::steps::{addition, first_report, load, names};
+use crate::offices::steps::{COMMIT, LOAD, OPEN, addition, step};
 use anyhow::{Result, anyhow};
 use filing_office::{Answer, Desk, Naming, Office, Receipt, Review, Reviewer};
-use filing_step::{Asked, Kind, Limit, Reply, Step};
+use filing_step::{Reply, Step};
 use filing_text::reply_text;
 use std::alloc::Global;
 use std::sync::Wait;
 use std::sync::ledger::Ledger;
+
+// What a review is asked beside a fact.
+const LOOKS: [&str; 3] = [
+    r#"["cell","r1",{"concept":"ex:Name"}]"#,
+    r#"["page","r1","ex:Name",null,null,10]"#,
+    r#"["declared","r1"]"#,
+];
 
 /// Writes a reply.
 pub(crate) fn tell<R: Print + AllocGlobal>(rt: &R, who: &str, reply: &Reply) -> Result<()> {
@@ -18,14 +23,15 @@ pub(crate) fn tell<R: Print + AllocGlobal>(rt: &R, who: &str, reply: &Reply) -> 
     Ok(())
 }
 
-/// Takes a step and writes its reply.
-pub(crate) fn take<L: Ledger + Naming, M: Ledger, R: Wait + Print + AllocGlobal>(
+/// Takes the step of a line and writes its reply.
+fn take<L: Ledger + Naming, M: Ledger, R: Wait + Print + AllocGlobal>(
     rt: &R,
     office: &Office<L, M>,
     desk: &mut Desk<L, M>,
     session: Option<u64>,
-    step: Step,
+    line: &str,
 ) -> Result<Answer<L>> {
+    let step = step(rt.alloc(), line)?;
     let Ok(answer) = desk.step(rt, office, rt.alloc(), session, step) else {
         return Err(anyhow!("a step is refused"));
     };
@@ -38,15 +44,15 @@ pub(crate) fn take<L: Ledger + Naming, M: Ledger, R: Wait + Print + AllocGlobal>
     }
 }
 
-/// Takes a step and writes its reply. Gives the session of its entry.
+/// Takes the step of a line and writes its reply. Gives the session of its entry.
 fn take_in<L: Ledger + Naming, M: Ledger, R: Wait + Print + AllocGlobal>(
     rt: &R,
     office: &Office<L, M>,
     desk: &mut Desk<L, M>,
     session: Option<u64>,
-    step: Step,
+    line: &str,
 ) -> Result<Option<u64>> {
-    let answer = take(rt, office, desk, session, step)?;
+    let answer = take(rt, office, desk, session, line)?;
     let session = answer.session;
     drop(answer);
     Ok(session)
@@ -68,8 +74,7 @@ pub(crate) fn load_first<L: Ledger + Naming, M: Ledger, R: Wait + Print + AllocG
     office: &Office<L, M>,
     desk: &mut Desk<L, M>,
 ) -> Result<Receipt<L>> {
-    let step = load(rt.alloc(), "r1")?;
-    received(take(rt, office, desk, None, step)?)
+    received(take(rt, office, desk, None, LOAD)?)
 }
 
 /// Adds a fact to the report `r1` in a session of its own.
@@ -79,9 +84,10 @@ pub(crate) fn add_one<L: Ledger + Naming, M: Ledger, R: Wait + Print + AllocGlob
     desk: &mut Desk<L, M>,
     id: &str,
 ) -> Result<Receipt<L>> {
-    let session = take_in(rt, office, desk, None, Step::Open(Kind::Amend))?;
-    take_in(rt, office, desk, session, addition(rt.alloc(), id)?)?;
-    received(take(rt, office, desk, session, Step::Commit)?)
+    let added = addition(rt.alloc(), id)?;
+    let session = take_in(rt, office, desk, None, OPEN)?;
+    take_in(rt, office, desk, session, &added)?;
+    received(take(rt, office, desk, session, COMMIT)?)
 }
 
 /// Writes the number that a reviewer has seen.
@@ -91,47 +97,29 @@ fn tell_seen<J: Naming, R: Print>(rt: &R, who: &str, reviewer: &Reviewer<J>) -> 
     Ok(())
 }
 
-fn page(alloc: Global, review: &Review) -> Result<Reply> {
-    let Some(limit) = Limit::of(10) else {
-        return Err(anyhow!("the limit is refused"));
-    };
-    let concept = String::from_str(alloc, "ex:Name")?;
-    Ok(review.page(
-        alloc,
-        first_report(alloc)?,
-        concept,
-        Asked::Without,
-        None,
-        limit,
-    )?)
+/// What a review is answered to a step that reads.
+fn answered(alloc: Global, review: &Review, step: Step) -> Result<Reply> {
+    match step {
+        Step::Get { report, id } => Ok(review.get(alloc, report, id)?),
+        Step::Cell { report, dims } => Ok(review.cell(alloc, report, dims)?),
+        Step::Page {
+            report,
+            concept,
+            period,
+            after,
+            limit,
+        } => Ok(review.page(alloc, report, concept, period, after, limit)?),
+        Step::Declared { report } => Ok(review.declared(&report)),
+        other => {
+            drop(other);
+            Err(anyhow!("a review reads alone"))
+        }
+    }
 }
 
-/// Writes what a review is answered of a fact.
-fn look_at_fact<R: Print + AllocGlobal>(
-    rt: &R,
-    who: &str,
-    review: &Review,
-    id: &str,
-) -> Result<()> {
-    let alloc = rt.alloc();
-    let told = review.get(alloc, first_report(alloc)?, String::from_str(alloc, id)?)?;
-    let is_written = tell(rt, who, &told);
-    drop(told);
-    is_written
-}
-
-/// Writes what it is answered of its cell.
-fn look_at_cell<R: Print + AllocGlobal>(rt: &R, who: &str, review: &Review) -> Result<()> {
-    let alloc = rt.alloc();
-    let told = review.cell(alloc, first_report(alloc)?, names(alloc)?)?;
-    let is_written = tell(rt, who, &told);
-    drop(told);
-    is_written
-}
-
-/// Writes what it is answered of a page.
-fn look_at_page<R: Print + AllocGlobal>(rt: &R, who: &str, review: &Review) -> Result<()> {
-    let told = page(rt.alloc(), review)?;
+/// Writes what a review is answered to the step of a line.
+fn look_by<R: Print + AllocGlobal>(rt: &R, who: &str, review: &Review, line: &str) -> Result<()> {
+    let told = answered(rt.alloc(), review, step(rt.alloc(), line)?)?;
     let is_written = tell(rt, who, &told);
     drop(told);
     is_written
@@ -144,10 +132,12 @@ pub(crate) fn look<R: Print + AllocGlobal>(
     review: &Review,
     id: &str,
 ) -> Result<()> {
-    look_at_fact(rt, who, review, id)?;
-    look_at_cell(rt, who, review)?;
-    look_at_page(rt, who, review)?;
-    tell(rt, who, &review.declared("r1"))
+    let get = format!(in rt.alloc(); "[\"get\",\"r1\",\"{id}\"]")?;
+    look_by(rt, who, review, &get)?;
+    for line in LOOKS {
+        look_by(rt, who, review, line)?;
+    }
+    Ok(())
 }
 
 /// A reviewer learns a receipt.

@@ -1,87 +1,64 @@
-//! The steps that are taken.
+//! The steps that are taken, as histories write them.
 
 use anyhow::{Result, anyhow};
-use filing_step::{Kind, Step};
-use oim_fact::{DimSet, NumericTable, RawFact};
-use oim_report::{Report, read_report};
+use filing_office::DeskStep;
+use filing_step::Step;
+use history_text::step_in;
+use oim_fact::NumericTable;
+use oim_report::json_value;
+use serde_json::Value;
 use std::alloc::{AllocError, Global};
 use std::sync::Arc;
 
-const REPORT: &str =
-    r#"{"documentInfo":{"documentType":"https://xbrl.org/2021/xbrl-json","namespaces":{"ex":"http://e.org/t"}}}"#;
-
-/// A report without facts.
-fn bare_report(alloc: Global) -> Result<Report> {
-    let table = Arc::new(alloc, NumericTable::of(Vec::new(alloc))?)?;
-    let read = read_report(alloc, REPORT.as_bytes(), &table);
-    drop(table);
-    match read {
-        Ok(report) => Ok(report),
-        Err(_) => Err(anyhow!("the report is refused")),
-    }
-}
-
 /// A load of a report without facts.
-pub(crate) fn load(alloc: Global, name: &str) -> Result<Step> {
-    let name = String::from_str(alloc, name)?;
-    let report = bare_report(alloc)?;
-    Ok(Step::Load(name, Arc::new(alloc, report)?))
+pub(crate) const LOAD: &str =
+    r#"["load","r1",{"documentInfo":{"documentType":"https://xbrl.org/2021/xbrl-json","namespaces":{"ex":"http://e.org/t"}}}]"#;
+
+pub(crate) const OPEN: &str = r#"["open","amend"]"#;
+
+pub(crate) const COMMIT: &str = r#"["commit"]"#;
+
+// The fact of each addition, a name `x`, as histories write it.
+const FACT: &str = r#"{"dimensions":{"concept":"ex:Name"},"value":"x"}"#;
+
+/// The step that a line is, where it is one, by a table of no numeric concept.
+fn read_step(alloc: Global, line: &str) -> Result<Option<Step>> {
+    let table = Arc::new(alloc, NumericTable::of(Vec::new(alloc))?)?;
+    let value = json_value(alloc, line.as_bytes())?.unwrap_or(Value::Null);
+    Ok(step_in(alloc, value, &table)?)
 }
 
-/// The dimensions of the concept `ex:Name`.
-pub(crate) fn names(alloc: Global) -> Result<DimSet> {
-    let concept = (
-        String::from_str(alloc, "concept")?,
-        Some(String::from_str(alloc, "ex:Name")?),
-    );
-    let mut pairs = Vec::new(alloc);
-    pairs.push(concept)?;
-    match DimSet::of(pairs) {
-        Ok(dims) => Ok(dims),
-        Err(_) => Err(anyhow!("the dimensions are refused")),
+/// The step that a line is.
+pub(crate) fn step(alloc: Global, line: &str) -> Result<Step> {
+    match read_step(alloc, line)? {
+        Some(step) => Ok(step),
+        None => Err(anyhow!("no step: {line}")),
     }
 }
 
-/// The addition of a name `x` to the report `r1`.
-pub(crate) fn addition(alloc: Global, id: &str) -> Result<Step> {
-    let report = first_report(alloc)?;
-    let id = String::from_str(alloc, id)?;
-    let value = String::from_str(alloc, "x")?;
-    let fact = RawFact {
-        dims: names(alloc)?,
-        value: Some(value),
-        decimals: None,
-        links: None,
-    };
-    Ok(Step::Add { report, id, fact })
+/// The same under the name of a session.
+pub(crate) fn desk_step(alloc: Global, line: &str) -> Result<DeskStep> {
+    let name = String::from_str(alloc, "s")?;
+    let step = step(alloc, line)?;
+    Ok(DeskStep { name, step })
 }
 
-pub(crate) fn first_report(alloc: Global) -> Result<String, AllocError> {
-    String::from_str(alloc, "r1")
+/// The line of an addition to the report `r1`.
+pub(crate) fn addition(alloc: Global, id: &str) -> Result<String, AllocError> {
+    format!(in alloc; "[\"add\",\"r1\",\"{id}\",{FACT}]")
 }
 
 /// So many steps a round has.
 pub(crate) const ROUND: usize = 7;
 
-fn reading(alloc: Global, id: String) -> Result<Step> {
-    Ok(Step::Get {
-        report: first_report(alloc)?,
-        id,
-    })
-}
-
-/// The step at a turn of a round: a session that reads, adds twice and removes what is not there, under identifiers of the desk and the round, and commits.
-pub(crate) fn round_step(alloc: Global, place: usize, round: usize, turn: usize) -> Result<Step> {
-    let id = format!(in alloc; "f-{place}-{round}")?;
-    match turn {
-        0 => Ok(Step::Open(Kind::Amend)),
-        1 => reading(alloc, id),
-        2 | 3 => addition(alloc, &id),
-        4 => reading(alloc, id),
-        5 => Ok(Step::Remove {
-            report: first_report(alloc)?,
-            id: format!(in alloc; "g-{place}-{round}")?,
-        }),
-        _ => Ok(Step::Commit),
+/// The line of a step of rounds, at a turn of all of them: a session that reads, adds twice, reads, removes what is not there, and commits, under identifiers of the desk and the round.
+pub(crate) fn round_line(alloc: Global, place: usize, turn: usize) -> Result<String, AllocError> {
+    let round = turn / ROUND;
+    match turn % ROUND {
+        0 => String::from_str(alloc, OPEN),
+        1 | 4 => format!(in alloc; "[\"get\",\"r1\",\"f-{place}-{round}\"]"),
+        2 | 3 => format!(in alloc; "[\"add\",\"r1\",\"f-{place}-{round}\",{FACT}]"),
+        5 => format!(in alloc; "[\"remove\",\"r1\",\"g-{place}-{round}\"]"),
+        _ => String::from_str(alloc, COMMIT),
     }
 }

@@ -2,7 +2,7 @@
 
 use crate::pages::item::Item;
 use crate::pages::lists::{Edit, change, changes_of, filled, is_found, make_edits, spaced};
-use crate::pages::seen::Seen;
+use crate::seen::Seen;
 use anyhow::Result;
 use sorted_pages::{Change, Paged};
 use std::alloc::{AllocError, Global};
@@ -93,9 +93,12 @@ fn length_of(alloc: Global, list: &Paged<Item>) -> Result<Option<usize>, AllocEr
 
 /// Whether a list finds all entries of a plain one.
 fn finds_all(list: &Paged<Item>, plain: &[Item]) -> bool {
-    plain
-        .iter()
-        .all(|entry| list.get(entry).copied() == Some(*entry))
+    for entry in plain {
+        if list.get(entry) != Some(entry) {
+            return false;
+        }
+    }
+    true
 }
 
 impl Both {

@@ -2,7 +2,7 @@
 
 use crate::pages::item::Item;
 use crate::pages::lists::{Edit, built, make_edits, spaced};
-use crate::pages::seen::Seen;
+use crate::seen::Seen;
 use anyhow::Result;
 use sorted_pages::Paged;
 use std::alloc::{AllocError, Global};

@@ -2,7 +2,7 @@
 
 ghost use Rattle.std.specs.Prelude.{◌<◌};
 
-use crate::lines::{is_end, push_line};
+use crate::lines::{is_end, push_line, read_data};
 use crate::sheets::dimensions::{dims_answer, names_answer, order_answer};
 use crate::sheets::facts::{fact_answer, raw_answer};
 use crate::sheets::infos::info_answer;
@@ -17,9 +17,9 @@ use oim_fact::NumericTable;
 use oim_report::{Report, json_value};
 use serde_json::Value;
 use std::alloc::{AllocError, Global};
+use std::mem;
 use std::rt::Files;
 use std::sync::Arc;
-use std::{fs, mem};
 
 /// What was seen of a file so far.
 #[derive(Clone, Copy)]
@@ -188,7 +188,7 @@ pub(crate) fn compare_file<R: Files + Print + AllocGlobal>(
     name: &str,
     kind: Kind,
 ) -> Result<()> {
-    let file = fs::read(rt, format!(in rt.alloc(); "{name}.rows")?)?;
+    let file = read_data(rt, name, "rows")?;
     let seen = compare_scripts(rt, table, kind, &file)?;
     let (scripts, replies, differing) = (seen.scripts, seen.replies, seen.differing);
     if differing == 0 {

@@ -1,20 +1,14 @@
 //! Scripts, run over memory.
 
-ghost use Rattle.std.specs.Prelude.{◌≡◌, ◌≤◌, ◌<◌};
-
 use crate::lines::{ends_in, is_end, push_line};
+use crate::memory::{Ran, run_over};
 use crate::sheets::sheet::Sheet;
 use anyhow::Result;
-use filing_cli::{MemoryIn, MemoryOut, ScriptFault, is_blank, run_script};
+use filing_cli::{ScriptFault, is_blank};
 use filing_core::Core;
 use oim_fact::NumericTable;
 use std::alloc::{AllocError, Global};
-use std::marker::Brand;
 use std::sync::Arc;
-use std::sync::ledger::{Blank, Ledger};
-
-// So many bytes of replies are written without a growth.
-const ROOM: usize = 65536;
 
 /// How many lines before the one of this number, from 1, have a reply.
 fn replies_before(lines: &[u8], number: u128) -> usize {
@@ -70,30 +64,6 @@ fn told(
     }
 }
 
-fn run_over<L: Ledger, K: Ledger>(
-    alloc: Global,
-    table: &Arc<NumericTable>,
-    sheet: &Sheet,
-    piece: usize,
-    source_blank: Blank,
-    sink_blank: Blank,
-) -> Result<Vec<u8>>
-    requires source_name { source_blank.name ≡ L.name }
-    requires source_parts { source_blank.parts ≡ L.parts }
-    requires source_three { 3 ≤ source_blank.parts }
-    requires sink_name { sink_blank.name ≡ K.name }
-    requires sink_parts { sink_blank.parts ≡ K.parts }
-    requires sink_some { 0 < sink_blank.parts }
-{
-    let mut sink: MemoryOut<K> = MemoryOut::new(alloc, ROOM, piece.max(1), sink_blank)?;
-    let mut source: MemoryIn<'_, L> = MemoryIn::new(&sheet.lines, piece.max(1), source_blank);
-    let ended = run_script(alloc, &mut source, &mut sink, table);
-    drop(source);
-    let told = told(alloc, sheet, ended, sink.written());
-    drop(sink);
-    told
-}
-
 /// What is written for the lines of a sheet, of which so many bytes are read at once.
 pub(crate) fn run_lines(
     alloc: Global,
@@ -101,5 +71,6 @@ pub(crate) fn run_lines(
     sheet: &Sheet,
     piece: usize,
 ) -> Result<Vec<u8>> {
-    run_over::<Brand, Brand>(alloc, table, sheet, piece, Blank::new(3), Blank::new(1))
+    let Ran { ended, written } = run_over(alloc, table, &sheet.lines, piece)?;
+    told(alloc, sheet, ended, &written)
 }

@@ -6,6 +6,7 @@
 
 ghost use Rattle.std.specs.Prelude.{◌≡◌};
 
+use crate::lines::is_end;
 use crate::threads::runs::replies_alone;
 use anyhow::Result;
 use filing_cli::is_blank;
@@ -13,6 +14,7 @@ use oim_fact::NumericTable;
 use oim_report::json_value;
 use serde_json::Value;
 use std::alloc::{AllocError, Global};
+use std::mem;
 use std::ops::Range;
 use std::sync::Arc;
 
@@ -34,9 +36,9 @@ enum Meeting {
 
 /// A line as a script of all lines has it, and what it is told.
 #[derive(Drop)]
-struct Told {
+struct Told<'a> {
     line: Vec<u8>,
-    reply: Vec<u8>,
+    reply: &'a [u8],
     meeting: Meeting,
 }
 
@@ -64,8 +66,7 @@ impl Order {
     pub(crate) fn is_of_whole_scripts(&self) -> bool {
         for (place, script) in self.scripts.iter().enumerate() {
             let (before, _) = self.scripts.split_at(place);
-            let follows_another = before.last().is_some_and(|last| *last != *script);
-            if follows_another && before.contains(script) {
+            if before.last() != Some(script) && before.contains(script) {
                 return false;
             }
         }
@@ -117,65 +118,96 @@ fn meeting_of(word: &str, reply: &[u8]) -> Meeting {
     }
 }
 
-/// A line with its reply, as a script of all lines has it: its session is named apart, and an export is a bad line.
-fn told_apart(alloc: Global, place: usize, line: &[u8], reply: &[u8]) -> Result<Told, AllocError> {
-    let told = Vec::from_slice(alloc, reply)?;
-    let Some(mut value) = json_value(alloc, line)? else {
-        return Ok(Told {
-            line: Vec::from_slice(alloc, line)?,
-            reply: told,
-            meeting: Meeting::Never,
-        });
-    };
-    let meeting = meeting_of(word_in(&value), reply);
-    match word_in(&value) {
-        "load" => {}
-        "export" => value = Value::Null,
-        _ => name_apart(alloc, place, &mut value)?,
+/// The value of a line as a script of all lines has it: its session is named apart, and an export is a bad line.
+fn value_apart(alloc: Global, place: usize, value: &mut Value) -> Result<(), AllocError> {
+    match word_in(value) {
+        "load" => Ok(()),
+        "export" => {
+            drop(mem::replace(value, Value::Null));
+            Ok(())
+        }
+        _ => name_apart(alloc, place, value),
     }
-    let line = Vec::from_slice(alloc, value.to_string(alloc)?.as_bytes())?;
+}
+
+/// The text of a value, once it is apart.
+fn text_apart(alloc: Global, place: usize, value: &mut Value) -> Result<Vec<u8>, AllocError> {
+    value_apart(alloc, place, value)?;
+    Ok(value.to_string(alloc)?.into_bytes())
+}
+
+/// A line with its reply, as a script of all lines has it. One that is no JSON becomes another.
+fn told_apart<'a>(
+    alloc: Global,
+    place: usize,
+    line: &[u8],
+    reply: &'a [u8],
+) -> Result<Told<'a>, AllocError> {
+    let mut value = json_value(alloc, line)?.unwrap_or(Value::Null);
+    let meeting = meeting_of(word_in(&value), reply);
+    let line = text_apart(alloc, place, &mut value);
+    drop(value);
     Ok(Told {
-        line,
-        reply: told,
+        line: line?,
+        reply,
         meeting,
     })
 }
 
+/// The lines of a script with the next replies, or none where there are not as many.
+fn told_script<'a>(
+    alloc: Global,
+    place: usize,
+    script: &[u8],
+    replies: &mut Vec<&'a [u8]>,
+) -> Result<Option<Vec<Told<'a>>>, AllocError> {
+    let mut told = Vec::new(alloc);
+    for line in script.split(is_end) {
+        if !is_blank(line) {
+            match replies.pop() {
+                Some(reply) => told.push(told_apart(alloc, place, line, reply)?)?,
+                None => return Ok(None),
+            }
+        }
+    }
+    Ok(Some(told))
+}
+
+/// The lines of replies, the last one first.
+fn reply_lines(alloc: Global, replies: &[u8]) -> Result<Vec<&[u8]>, AllocError> {
+    let mut lines = Vec::new(alloc);
+    for line in replies.rsplit(is_end) {
+        lines.push(line)?;
+    }
+    Ok(lines)
+}
+
 /// The lines of scripts with what they are told, or none where there are not as many replies as lines.
-fn told_lines(
+fn told_lines<'a>(
     alloc: Global,
     scripts: &[Vec<u8>],
-    replies: &[u8],
-) -> Result<Option<Vec<Vec<Told>>>, AllocError> {
-    let mut left = replies.split(|byte| *byte == b'\n');
+    replies: &'a [u8],
+) -> Result<Option<Vec<Vec<Told<'a>>>>, AllocError> {
+    let mut left = reply_lines(alloc, replies)?;
     let mut all = Vec::new(alloc);
     for (place, script) in scripts.iter().enumerate() {
-        let mut told = Vec::new(alloc);
-        for line in script.split(|byte| *byte == b'\n') {
-            if is_blank(line) {
-                continue;
-            }
-            let Some(reply) = left.next() else {
-                return Ok(None);
-            };
-            told.push(told_apart(alloc, place, line, reply)?)?;
+        match told_script(alloc, place, script, &mut left)? {
+            Some(told) => all.push(told)?,
+            None => return Ok(None),
         }
-        all.push(told)?;
     }
     // What follows the last line feed is nothing.
-    match (left.next(), left.next()) {
-        (Some(b""), None) => Ok(Some(all)),
-        _ => Ok(None),
+    if left.len() == 1 && left[0].is_empty() {
+        Ok(Some(all))
+    } else {
+        Ok(None)
     }
 }
 
 /// The last line of replies.
 fn last_reply(replies: &[u8]) -> &[u8] {
     let whole = replies.strip_suffix(b"\n").unwrap_or(replies);
-    match whole.rsplit(|byte| *byte == b'\n').next() {
-        Some(reply) => reply,
-        None => whole,
-    }
+    whole.rsplit(is_end).next().unwrap_or(whole)
 }
 
 /// All lines up to this one, where it is told after them what it is told.
@@ -183,7 +215,7 @@ fn lines_up_to(
     alloc: Global,
     table: &Arc<NumericTable>,
     taken: &[Taken],
-    told: &Told,
+    told: &Told<'_>,
 ) -> Result<Option<Vec<u8>>> {
     let mut lines = match taken.last() {
         Some(last) => Vec::from_slice(alloc, &last.lines)?,
@@ -192,7 +224,7 @@ fn lines_up_to(
     lines.extend_from_slice(&told.line)?;
     lines.extend_from_slice(b"\n")?;
     let replies = replies_alone(alloc, table, &lines)?;
-    if last_reply(&replies) == told.reply.as_slice() {
+    if last_reply(&replies) == told.reply {
         Ok(Some(lines))
     } else {
         Ok(None)
@@ -201,33 +233,48 @@ fn lines_up_to(
 
 /// How many lines of a script were taken.
 fn count_taken(taken: &[Taken], script: usize) -> usize {
-    taken.iter().filter(|one| one.script == script).count()
+    let mut count = 0usize;
+    for one in taken {
+        if one.script == script {
+            count = count.saturating_add(1);
+        }
+    }
+    count
 }
 
 /// The first line of a script that was not taken.
-fn line_left<'a>(all: &'a [Vec<Told>], taken: &[Taken], script: usize) -> Option<&'a Told> {
+fn line_left<'a, 'b>(
+    all: &'a [Vec<Told<'b>>],
+    taken: &[Taken],
+    script: usize,
+) -> Option<&'a Told<'b>> {
     all.get(script)?.get(count_taken(taken, script))
 }
 
-/// The scripts from which the next line may be: one alone where its line meets no other script's.
-fn next_scripts(all: &[Vec<Told>], taken: &[Taken]) -> Range<usize> {
+/// How the line that is told so meets others.
+fn meeting_in(told: Option<&Told<'_>>) -> Option<Meeting> {
+    Some(told?.meeting)
+}
+
+/// The scripts from a place on from which the next line may be: one alone where its line meets no other script's.
+fn next_scripts(all: &[Vec<Told<'_>>], taken: &[Taken], from: usize) -> Range<usize> {
     for script in 0..all.len() {
-        if line_left(all, taken, script).is_some_and(|told| told.meeting == Meeting::Never) {
-            return script..script.saturating_add(1);
+        if meeting_in(line_left(all, taken, script)) == Some(Meeting::Never) {
+            return script.max(from)..script.saturating_add(1);
         }
     }
-    0..all.len()
+    from..all.len()
 }
 
 /// The next line, of the first script from a place on of which one can be taken.
 fn next_taken(
     alloc: Global,
     table: &Arc<NumericTable>,
-    all: &[Vec<Told>],
+    all: &[Vec<Told<'_>>],
     taken: &[Taken],
     from: usize,
 ) -> Result<Option<Taken>> {
-    for script in next_scripts(all, taken).filter(|script| from <= *script) {
+    for script in next_scripts(all, taken, from) {
         if let Some(told) = line_left(all, taken, script) {
             if let Some(lines) = lines_up_to(alloc, table, taken, told)? {
                 let place = count_taken(taken, script);
@@ -242,20 +289,25 @@ fn next_taken(
     Ok(None)
 }
 
+/// How a line that was taken meets others.
+fn meeting_at(all: &[Vec<Told<'_>>], one: &Taken) -> Option<Meeting> {
+    meeting_in(all.get(one.script)?.get(one.place))
+}
+
 /// How far each script is, and at which version each of its sessions was opened.
-fn state_of(alloc: Global, all: &[Vec<Told>], taken: &[Taken]) -> Result<Vec<u64>, AllocError> {
+fn state_of(alloc: Global, all: &[Vec<Told<'_>>], taken: &[Taken]) -> Result<Vec<u64>, AllocError> {
     let mut state = Vec::new(alloc);
-    for (script, lines) in all.iter().enumerate() {
+    for script in 0..all.len() {
         let mut own = 0usize;
         let mut version = 0u64;
         for one in taken {
-            let told = all.get(one.script).and_then(|lines| lines.get(one.place));
-            if told.is_some_and(|told| told.meeting == Meeting::Makes) {
+            let meeting = meeting_at(all, one);
+            if meeting == Some(Meeting::Makes) {
                 version = version.saturating_add(1);
             }
             if one.script == script {
                 own = own.saturating_add(1);
-                if told.is_some_and(|told| told.meeting == Meeting::Opens) {
+                if meeting == Some(Meeting::Opens) {
                     state.push(version)?;
                 }
             }
@@ -275,18 +327,99 @@ fn order_of(alloc: Global, taken: &[Taken]) -> Result<Order, AllocError> {
     Ok(Order { scripts })
 }
 
-/// Whether a state is one of some.
-fn is_among(states: &[Vec<u64>], state: &[u64]) -> bool {
-    states.iter().any(|one| one.as_slice() == state)
-}
-
 /// How many lines there are.
-fn count_of(all: &[Vec<Told>]) -> usize {
+fn count_of(all: &[Vec<Told<'_>>]) -> usize {
     let mut count = 0usize;
     for lines in all {
         count = count.saturating_add(lines.len());
     }
     count
+}
+
+/// A search for an order: the lines that were taken, the script from which on the next may be, and the states after which nothing could follow.
+#[derive(Drop)]
+struct Search {
+    taken: Vec<Taken>,
+    from: usize,
+    dead: Vec<Vec<u64>>,
+}
+
+impl Search {
+    /// Whether something may follow the lines that were taken, as far as it is known.
+    fn is_alive(&self, alloc: Global, all: &[Vec<Told<'_>>]) -> Result<bool, AllocError> {
+        let state = state_of(alloc, all, &self.taken)?;
+        for one in &self.dead {
+            if *one == state {
+                return Ok(false);
+            }
+        }
+        Ok(true)
+    }
+
+    /// Gives the last line back. Whether there was one.
+    fn give_back(&mut self) -> bool {
+        match self.taken.pop() {
+            Some(last) => {
+                self.from = last.script.saturating_add(1);
+                true
+            }
+            None => false,
+        }
+    }
+
+    /// Takes a line, and gives it back where nothing can follow it.
+    fn take(&mut self, alloc: Global, all: &[Vec<Told<'_>>], next: Taken) -> Result<bool> {
+        self.taken.push(next)?;
+        self.from = 0;
+        Ok(self.is_alive(alloc, all)? || self.give_back())
+    }
+
+    /// Takes the next line, or gives the last one back. Whether the search goes on.
+    fn turn(
+        &mut self,
+        alloc: Global,
+        table: &Arc<NumericTable>,
+        all: &[Vec<Told<'_>>],
+    ) -> Result<bool> {
+        match next_taken(alloc, table, all, &self.taken, self.from)? {
+            Some(next) => self.take(alloc, all, next),
+            None => {
+                self.dead.push(state_of(alloc, all, &self.taken)?)?;
+                Ok(self.give_back())
+            }
+        }
+    }
+
+    /// Looks through orders.
+    fn find(
+        &mut self,
+        alloc: Global,
+        table: &Arc<NumericTable>,
+        all: &[Vec<Told<'_>>],
+    ) -> Result<Finding> {
+        let count = count_of(all);
+        for _ in 0..MOST_TRIES {
+            if self.taken.len() == count {
+                return Ok(Finding::Explained(order_of(alloc, &self.taken)?));
+            }
+            if !self.turn(alloc, table, all)? {
+                return Ok(Finding::Unexplained);
+            }
+        }
+        Ok(Finding::Undecided)
+    }
+}
+
+/// Looks for an order that explains what the lines of scripts are told.
+fn found(alloc: Global, table: &Arc<NumericTable>, all: &[Vec<Told<'_>>]) -> Result<Finding> {
+    let mut search = Search {
+        taken: Vec::new(alloc),
+        from: 0,
+        dead: Vec::new(alloc),
+    };
+    let finding = search.find(alloc, table, all);
+    drop(search);
+    finding
 }
 
 /// Looks for an order that explains what scripts are told.
@@ -296,35 +429,12 @@ pub(crate) fn explanation(
     scripts: &[Vec<u8>],
     replies: &[u8],
 ) -> Result<Finding> {
-    let Some(all) = told_lines(alloc, scripts, replies)? else {
-        return Ok(Finding::Unexplained);
-    };
-    let count = count_of(&all);
-    let mut taken = Vec::new(alloc);
-    let mut from = 0usize;
-    let mut dead = Vec::new(alloc);
-    for _ in 0..MOST_TRIES {
-        if taken.len() == count {
-            return Ok(Finding::Explained(order_of(alloc, &taken)?));
+    match told_lines(alloc, scripts, replies)? {
+        Some(all) => {
+            let finding = found(alloc, table, &all);
+            drop(all);
+            finding
         }
-        let next = next_taken(alloc, table, &all, &taken, from)?;
-        let goes_on = match next {
-            Some(next) => {
-                taken.push(next)?;
-                !is_among(&dead, &state_of(alloc, &all, &taken)?)
-            }
-            None => {
-                dead.push(state_of(alloc, &all, &taken)?)?;
-                false
-            }
-        };
-        if goes_on {
-            from = 0;
-        } else if let Some(last) = taken.pop() {
-            from = last.script.saturating_add(1);
-        } else {
-            return Ok(Finding::Unexplained);
-        }
+        None => Ok(Finding::Unexplained),
     }
-    Ok(Finding::Undecided)
 }

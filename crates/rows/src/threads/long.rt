@@ -1,7 +1,7 @@
 //! Long scripts: of more lines, and of more bytes, than are judged at once.
 
+use crate::lines::{ends_in, push_line};
 use crate::threads::runs::{replies_alone, replies_in_threads};
-use crate::threads::sheet::push_line;
 use anyhow::Result;
 use oim_fact::NumericTable;
 use std::alloc::{AllocError, Global};
@@ -58,11 +58,6 @@ fn is_twice(bytes: &[u8], others: &[u8]) -> bool {
     }
 }
 
-/// How many lines there are.
-fn count_lines(bytes: &[u8]) -> usize {
-    bytes.iter().filter(|byte| **byte == b'\n').count()
-}
-
 /// Tells of so many replies whether they are those of one script after the other.
 fn tell<R: Print>(rt: &R, lines: usize, is_same: bool) -> Result<()> {
     if is_same {
@@ -81,5 +76,5 @@ pub(crate) fn compare_long<R: Print + AllocGlobal + Threads + Wait + Sync>(
     let script = long_script(rt.alloc())?;
     let alone = replies_alone(rt.alloc(), table, &script)?;
     let told = told_at_once(rt, table, script)?;
-    tell(rt, count_lines(&told), is_twice(&told, &alone))
+    tell(rt, ends_in(&told), is_twice(&told, &alone))
 }

@@ -2,8 +2,9 @@
 
 ghost use Rattle.std.specs.Prelude.{◌≡◌, ◌≤◌, ◌<◌, length};
 
+use crate::memory::replies_to;
 use anyhow::{Result, anyhow};
-use filing_cli::{MemoryIn, MemoryOut, Unwatched, run_script, run_threads};
+use filing_cli::{MemoryOut, Unwatched, run_threads};
 use oim_fact::NumericTable;
 use std::alloc::Global;
 use std::marker::{Brand, Sync};
@@ -50,32 +51,11 @@ pub(crate) fn replies_in_threads<R: AllocGlobal + Threads + Wait + Sync>(
     written_in_threads::<Brand, R>(rt, table, scripts, Blank::new(1))
 }
 
-/// What is written for a script.
-fn written_alone<L: Ledger, K: Ledger>(
-    alloc: Global,
-    table: &Arc<NumericTable>,
-    script: &[u8],
-    source_blank: Blank,
-    sink_blank: Blank,
-) -> Result<Vec<u8>>
-    requires source_name { source_blank.name ≡ L.name }
-    requires source_parts { source_blank.parts ≡ L.parts }
-    requires source_three { 3 ≤ source_blank.parts }
-    requires sink_name { sink_blank.name ≡ K.name }
-    requires sink_parts { sink_blank.parts ≡ K.parts }
-    requires sink_some { 0 < sink_blank.parts }
-{
-    let mut source: MemoryIn<'_, L> = MemoryIn::new(script, PIECE, source_blank);
-    let mut sink: MemoryOut<K> = MemoryOut::new(alloc, ROOM, PIECE, sink_blank)?;
-    run_script(alloc, &mut source, &mut sink, table)?;
-    Ok(Vec::from_slice(alloc, sink.written())?)
-}
-
 /// What a script is told that runs alone.
 pub(crate) fn replies_alone(
     alloc: Global,
     table: &Arc<NumericTable>,
     script: &[u8],
 ) -> Result<Vec<u8>> {
-    written_alone::<Brand, Brand>(alloc, table, script, Blank::new(3), Blank::new(1))
+    replies_to(alloc, table, script, PIECE)
 }

@@ -1,5 +1,6 @@
 //! Sheets: scripts with what they are told.
 
+use crate::lines::{is_end, push_line};
 use std::alloc::{AllocError, Global};
 
 /// What stands under a title.
@@ -12,12 +13,6 @@ pub(crate) struct Sheet {
     pub(crate) replies: Vec<u8>,
     /// Whether the order of the steps is left open, so that `_` stands for the number of a version.
     pub(crate) is_open: bool,
-}
-
-/// Appends a line with its end.
-pub(crate) fn push_line(lines: &mut Vec<u8>, line: &[u8]) -> Result<(), AllocError> {
-    lines.extend_from_slice(line)?;
-    lines.extend_from_slice(b"\n")
 }
 
 impl Sheet {
@@ -63,7 +58,7 @@ impl Sheet {
 /// The sheets of a file. A line that begins with `# ` begins one, and has its title.
 pub(crate) fn sheets_in(alloc: Global, file: &[u8]) -> Result<Vec<Sheet>, AllocError> {
     let mut sheets = Vec::new(alloc);
-    for line in file.split(|byte| *byte == b'\n') {
+    for line in file.split(is_end) {
         if let Some(title) = line.strip_prefix(b"# ") {
             sheets.push(Sheet::new(alloc, title)?)?;
         } else if let Some(mut sheet) = sheets.pop() {

@@ -1,6 +1,7 @@
 //! What scripts are told, where the order of the steps is left open.
 
-use crate::threads::sheet::{Sheet, push_line};
+use crate::lines::{is_end, push_line};
+use crate::threads::sheet::Sheet;
 use std::alloc::{AllocError, Global};
 use std::str;
 
@@ -23,7 +24,7 @@ fn number_of(digits: &[u8]) -> Option<u64> {
 /// The numbers of versions that are told.
 fn numbers_in(alloc: Global, replies: &[u8]) -> Result<Vec<u64>, AllocError> {
     let mut numbers = Vec::new(alloc);
-    for reply in replies.split(|byte| *byte == b'\n') {
+    for reply in replies.split(is_end) {
         if let Some(digits) = number_in(reply) {
             if let Some(number) = number_of(digits) {
                 numbers.push(number)?;
@@ -50,7 +51,7 @@ fn is_each_once(alloc: Global, replies: &[u8]) -> Result<bool, AllocError> {
 /// The replies with `_` for the numbers of versions.
 fn without_numbers(alloc: Global, replies: &[u8]) -> Result<Vec<u8>, AllocError> {
     let mut plain = Vec::new(alloc);
-    for reply in replies.split(|byte| *byte == b'\n') {
+    for reply in replies.split(is_end) {
         if number_in(reply).is_none() {
             if !reply.is_empty() {
                 push_line(&mut plain, reply)?;

@@ -1,5 +1,6 @@
 //! Changes: what is put, removed and declared in them, at once and in two parts.
 
+use crate::seen::Seen;
 use anyhow::Result;
 use filing_version::{Change, Put, ReadyDeclare, ReadyPut};
 use oim_fact::{Allowed, DimSet, Fact, FactValue};
@@ -44,14 +45,12 @@ enum Wanted {
     PutAgain,
     /// It stays until what is ready is taken, and is then as it was to be.
     Taken,
-    /// It takes hundreds of further puts.
-    Hundreds,
 }
 
 /// A name, further edits, and what the change is to be after them.
 type Row = (&'static str, &'static [Edit<'static>], Wanted);
 
-const ROWS: [Row; 14] = [
+const ROWS: [Row; 13] = [
     ("puts come in byte order", &[], Wanted::Puts(SOME_PUTS)),
     (
         "a later put takes the place of an earlier one",
@@ -88,11 +87,7 @@ const ROWS: [Row; 14] = [
         &[],
         Wanted::Taken,
     ),
-    ("hundreds of puts are all there", &[], Wanted::Hundreds),
 ];
-
-/// So many facts are put under rising identifiers.
-const NUMBERS: u64 = 300;
 
 /// A fact of these dimensions with a text.
 fn make_fact(alloc: Global, dims: &DimSet, text: &str) -> Result<Arc<Fact>, AllocError> {
@@ -237,35 +232,6 @@ fn is_put_again(alloc: Global, dims: &DimSet, change: &mut Change) -> Result<boo
     Ok(is_left && is_put)
 }
 
-/// Puts a fact under the identifier of a number below 1,000, which is its text too. Identifiers rise as the numbers do.
-fn put_number(
-    alloc: Global,
-    dims: &DimSet,
-    change: &mut Change,
-    number: u64,
-) -> Result<(), AllocError> {
-    let id = format!(in alloc; "{number:03}")?;
-    put(alloc, dims, change, "r4", &id, &id)
-}
-
-/// The puts of that change and of all numbers.
-fn numbers_text(alloc: Global) -> Result<String, AllocError> {
-    let mut texts = String::from_str(alloc, SOME_PUTS)?;
-    for number in 0..NUMBERS {
-        write!(texts, "r4/{number:03}={number:03} ")?;
-    }
-    Ok(texts)
-}
-
-/// Whether the change has hundreds of further puts once they are made.
-fn has_hundreds(alloc: Global, dims: &DimSet, change: &mut Change) -> Result<bool, AllocError> {
-    for turn in 0..NUMBERS {
-        put_number(alloc, dims, change, turn.wrapping_mul(7) % NUMBERS)?;
-    }
-    let expected = numbers_text(alloc)?;
-    has_puts(alloc, change, &expected)
-}
-
 /// Whether a change is as it is to be.
 fn is_as_wanted(
     alloc: Global,
@@ -279,7 +245,6 @@ fn is_as_wanted(
         Wanted::Declared(report, allowed) => Ok(change.declared(report) == allowed),
         Wanted::PutAgain => is_put_again(alloc, dims, change),
         Wanted::Taken => is_taken(alloc, change),
-        Wanted::Hundreds => has_hundreds(alloc, dims, change),
     }
 }
 
@@ -303,36 +268,13 @@ fn is_as_written(alloc: Global, dims: &DimSet, row: &Row) -> Result<bool, AllocE
     is_same
 }
 
-/// How many answers were looked at, and how many of them differ.
-#[derive(Clone, Copy)]
-struct Seen {
-    answers: u64,
-    differing: u64,
-}
-
-impl Seen {
-    /// Counts one more, and tells it where it differs.
-    fn note<R: Print>(&mut self, rt: &R, name: &str, is_same: bool) -> Result<()> {
-        self.answers = self.answers.wrapping_add(1);
-        if !is_same {
-            self.differing = self.differing.wrapping_add(1);
-            println!(rt; "changes: {name}: differs")?;
-        }
-        Ok(())
-    }
-}
-
 /// Compares changes with what is written of them. Their facts have these dimensions.
 pub(crate) fn compare_changes<R: Print + AllocGlobal>(rt: &R, dims: &DimSet) -> Result<()> {
-    let mut seen = Seen {
-        answers: 0,
-        differing: 0,
-    };
+    let mut seen = Seen::new();
     for row in &ROWS {
         let is_same = is_as_written(rt.alloc(), dims, row)?;
         seen.note(rt, row.0, is_same)?;
     }
-    let (answers, differing) = (seen.answers, seen.differing);
-    println!(rt; "changes: {answers} answers, {differing} differ")?;
+    seen.tell(rt, "changes")?;
     Ok(())
 }

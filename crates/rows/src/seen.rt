@@ -2,7 +2,7 @@
 
 use anyhow::Result;
 
-/// How many were looked at, and how many of them differ.
+/// How many were looked at, and how many of them differ from what is wanted.
 #[derive(Clone, Copy)]
 pub(crate) struct Seen {
     count: u64,
@@ -17,11 +17,16 @@ impl Seen {
         }
     }
 
+    /// Counts one more.
+    pub(crate) fn count(&mut self, is_same: bool) {
+        self.count = self.count.saturating_add(1);
+        self.differing = self.differing.saturating_add(u64::from(!is_same));
+    }
+
     /// Counts one more, and tells it where it differs.
     pub(crate) fn note<R: Print>(&mut self, rt: &R, name: &str, is_same: bool) -> Result<()> {
-        self.count = self.count.wrapping_add(1);
+        self.count(is_same);
         if !is_same {
-            self.differing = self.differing.wrapping_add(1);
             println!(rt; "differs: {name}")?;
         }
         Ok(())
