@@ -1,0 +1,44 @@
+"""Scripts with their replies, and the reports and facts that they have."""
+from repository import DOCUMENT_TYPE, FEATURE, MOST_PLACES, Number, Repository, compact, reply_text
+
+NUMERIC = {("http://e.org/t", "Assets")}
+SCRIPT_NUMERIC = NUMERIC | {("http://example.com/taxonomy", "Assets"), ("http://example.com/taxonomy", "Margin")}
+INFO = {"documentType": DOCUMENT_TYPE, "namespaces": {"ex": "http://e.org/t"}}
+
+
+def written(number):
+    """The numeral of a number of units."""
+    whole, places = divmod(abs(number), 10**MOST_PLACES)
+    return ("-" if number < 0 else "") + f"{whole}.{places:0{MOST_PLACES}}"
+
+
+def fact(value, decimals=None, **dims):
+    """A fact of a concept as a JSON value."""
+    dims = {"concept": "ex:Assets", **{name.replace("_", ":"): text for name, text in dims.items()}}
+    accuracy = {} if decimals is None else {"decimals": Number(str(decimals))}
+    return {"dimensions": dims, "value": value, **accuracy}
+
+
+def load(name, facts, allowed="all", info=INFO):
+    declared = dict(info, features={FEATURE: allowed})
+    return ["load", name, {"documentInfo": declared, "facts": facts}]
+
+
+class Script:
+    """Lines with their replies."""
+
+    def __init__(self, title, numeric=frozenset(SCRIPT_NUMERIC)):
+        self.rows, self.repository = ["# " + title], Repository(numeric)
+
+    def say(self, line):
+        self.say_text(line if isinstance(line, str) else compact(line))
+
+    def say_text(self, text):
+        self.rows += [text, "=> " + reply_text(self.repository.line(text))]
+
+    def told(self):
+        return self.rows[-1][3:]
+
+
+def expect(script, *told):
+    assert script.told() in told, (script.rows[-2:], told)
