@@ -47,7 +47,7 @@ class Versions:
         self.touches.append((len(self.touches) + 1, *touched))
         self.at = len(self.touches)
 
-    def edit(self, after, changed, declared):
+    def edit(self, after, changed, declared, puts):
         name, at = self.random.choice(sorted(after)), self.name()
         before = self.states[-1][name]["facts"]
         kind = self.random.choices(["put", "remove", "declare"], [7, 4, 1])[0]
@@ -63,12 +63,14 @@ class Versions:
             after[name]["facts"][at] = self.known[fact_name]
         else:
             after[name]["facts"].pop(at, None)
+        puts[name, at] = after[name]["facts"].get(at)
         changed[name, at] = before.get(at), after[name]["facts"].get(at)
 
     def commit(self, verb, most):
-        after, changed, declared = copy_of(self.states[-1]), {}, set()
+        after, changed, declared, puts = copy_of(self.states[-1]), {}, set(), {}
         for _ in range(1 + self.random.randrange(most)):
-            self.edit(after, changed, declared)
+            self.edit(after, changed, declared, puts)
+        self.ask_waiting(after, declared, puts)
         # What was not there before and is not there after touches nothing.
         changed = {place: both for place, both in changed.items() if both != (None, None)}
         found = self.first_disallowed(after, changed, declared)
@@ -77,6 +79,16 @@ class Versions:
             self.push(after, (None, changed, declared))
         else:
             self.at = len(self.touches)
+
+    def ask_waiting(self, after, declared, puts):
+        """What waits, as a change has it."""
+        name, at = self.report(), self.name()
+        texts = {place: "gone" if fact is None else fact_text(fact) for place, fact in puts.items()}
+        told = " ".join(f"{place[0]}/{place[1]}={texts[place]}" for place in sorted(texts)) or "none"
+        if len(told) < 1000:
+            self.rows += ["puts", "=> " + told]
+        self.rows += [f"staged {name} {at}", "=> " + texts.get((name, at), "nothing")]
+        self.rows += [f"declares {name}", "=> " + (after[name]["allowed"] if name in declared else "nothing")]
 
     def first_disallowed(self, after, changed, declared):
         for name in sorted(after):

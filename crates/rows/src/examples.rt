@@ -22,7 +22,14 @@ pub(crate) fn compare_scripts<R: Files + Print + AllocGlobal>(rt: &R) -> Result<
 
 /// Compares and judges worked histories.
 pub(crate) fn compare_histories<R: Files + Print + AllocGlobal>(rt: &R) -> Result<()> {
-    worked::compare_worked(rt, &read_numeric(rt, "worked")?)
+    let table = read_numeric(rt, "worked")?;
+    worked::compare_worked(rt, &table, "written_histories")?;
+    worked::compare_worked(rt, &table, "judged_histories")
+}
+
+/// Compares and judges histories that are drawn, with the lines and the verdicts that `tools/draw_rows` computed.
+pub(crate) fn compare_drawn_histories<R: Files + Print + AllocGlobal>(rt: &R) -> Result<()> {
+    worked::compare_worked(rt, &read_numeric(rt, "worked")?, "drawn_histories")
 }
 
 /// Has each call of a device go wrong.

@@ -1,6 +1,6 @@
 //! Compares what the layers answer with what is written of them, and fast answers with slow ones.
 //!
-//! `sheets` has worked rows of scripts, steps, reports and facts, `pages` lists and maps in pages, `versions` versions and their changes; `model` is of both, with answers that `tools/draw_rows` computed; and `examples` stored scripts, worked histories and failing devices; `offices` takes steps at desks and opens reviews beside them, `threads` runs scripts in threads, and `drawn` draws scripts, which the oracle answers too; `lines` has what they need of lines, `seen` counts what differs, and `memory` runs scripts and judges histories over memory.
+//! `sheets` has worked rows of scripts, steps, reports and facts, `pages` lists and maps in pages, `versions` versions and their changes; `model` is of both and of histories, with answers that `tools/draw_rows` computed; and `examples` stored scripts, worked histories and failing devices; `offices` takes steps at desks and opens reviews beside them, `threads` runs scripts in threads, and `drawn` draws scripts, which the oracle answers too; `lines` has what they need of lines, `seen` counts what differs, and `memory` runs scripts and judges histories over memory.
 //!
 //! A word names the part that is wanted: `sheets`, `pages`, `versions`, `model`, `scripts`, `histories`, `devices`, `offices`, `threads` or `drawn`; without a word it is all of them. A seed of what is drawn may follow `threads` and `drawn`, and then a number of sets or of scripts.
 #![tactic(auto)]
@@ -18,7 +18,7 @@ mod versions;
 
 use anyhow::{Result, anyhow};
 use drawn::compare_drawn;
-use examples::{compare_devices, compare_histories, compare_scripts};
+use examples::{compare_devices, compare_drawn_histories, compare_histories, compare_scripts};
 use offices::show_offices;
 use pages::compare_pages;
 use sheets::{compare_drawn_sheets, compare_sheets};
@@ -46,6 +46,27 @@ fn number_of(word: Option<String>) -> Result<Option<u64>> {
     }
 }
 
+/// Compares rows that are drawn, with the answers that `tools/draw_rows` computed.
+fn compare_model<R: Print + Files + AllocGlobal>(rt: &R) -> Result<()> {
+    compare_drawn_sheets(rt)?;
+    compare_drawn_versions(rt)?;
+    compare_drawn_histories(rt)
+}
+
+/// Compares the part of this name, if there is one, of those that start no threads.
+fn compare_alone<R: Print + Files + AllocGlobal>(rt: &R, part: &str) -> Result<()> {
+    match part {
+        "sheets" => compare_sheets(rt),
+        "pages" => compare_pages(rt),
+        "versions" => compare_versions(rt),
+        "model" => compare_model(rt),
+        "scripts" => compare_scripts(rt),
+        "histories" => compare_histories(rt),
+        "devices" => compare_devices(rt),
+        _ => Err(anyhow!("there is no part {part}")),
+    }
+}
+
 /// Compares the part of this name, if there is one. Threads are started by a handle of their own, which only `main` has.
 fn compare<T: Threads + Wait + Sync + Print + Files + AllocGlobal>(
     rt: &HostRuntime,
@@ -54,21 +75,12 @@ fn compare<T: Threads + Wait + Sync + Print + Files + AllocGlobal>(
     seed: Option<u64>,
     count: Option<u64>,
 ) -> Result<()> {
+    let seed = seed.unwrap_or(FIRST);
     match part {
-        "sheets" => compare_sheets(rt),
-        "pages" => compare_pages(rt),
-        "versions" => compare_versions(rt),
-        "model" => {
-            compare_drawn_sheets(rt)?;
-            compare_drawn_versions(rt)
-        }
-        "scripts" => compare_scripts(rt),
-        "histories" => compare_histories(rt),
-        "devices" => compare_devices(rt),
         "offices" => show_offices(handle),
-        "threads" => compare_threads(handle, seed.unwrap_or(FIRST), count.unwrap_or(SETS)),
-        "drawn" => compare_drawn(rt, seed.unwrap_or(FIRST), count.unwrap_or(SCRIPTS)),
-        _ => Err(anyhow!("there is no part {part}")),
+        "threads" => compare_threads(handle, seed, count.unwrap_or(SETS)),
+        "drawn" => compare_drawn(rt, seed, count.unwrap_or(SCRIPTS)),
+        _ => compare_alone(rt, part),
     }
 }
 

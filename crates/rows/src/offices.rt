@@ -1,10 +1,11 @@
 //! Takes steps at desks of offices and opens reviews beside them, and writes what each is answered, which `stdout` has as it is to be: the same whatever the schedule.
 //!
-//! `steps` makes the steps. `rounds` takes them at one desk after the other, `meeting` at two desks that wait for one another, and `crowd` at four desks in threads of their own, whose answers are compared with the history. `ends` opens offices and ends them.
+//! `steps` makes the steps. `rounds` takes them at one desk after the other, `meeting` at two desks that wait for one another, and `crowd` at four desks in threads of their own, whose answers are compared with the history. `ends` opens offices and ends them, and `places` makes something of each value at its place.
 
 mod crowd;
 mod ends;
 mod meeting;
+mod places;
 mod rounds;
 mod steps;
 

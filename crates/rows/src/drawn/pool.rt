@@ -22,17 +22,38 @@ pub(crate) enum When {
     Large,
 }
 
+// The words of the kinds, in their order.
+const WORDS: [&[u8]; 8] = [
+    b"first ",
+    b"load ",
+    b"open ",
+    b"end ",
+    b"ask ",
+    b"apart ",
+    b"largeload ",
+    b"large ",
+];
+
+impl When {
+    /// The place of the kind's word.
+    fn place(self) -> usize {
+        match self {
+            When::First => 0,
+            When::Load => 1,
+            When::Open => 2,
+            When::End => 3,
+            When::Ask => 4,
+            When::Apart => 5,
+            When::LargeLoad => 6,
+            When::Large => 7,
+        }
+    }
+}
+
 /// The lines of each kind.
 #[derive(Drop)]
 pub(crate) struct Pool<'a> {
-    first: Vec<&'a [u8]>,
-    load: Vec<&'a [u8]>,
-    open: Vec<&'a [u8]>,
-    end: Vec<&'a [u8]>,
-    ask: Vec<&'a [u8]>,
-    apart: Vec<&'a [u8]>,
-    large_load: Vec<&'a [u8]>,
-    large: Vec<&'a [u8]>,
+    kinds: Vec<Vec<&'a [u8]>>,
 }
 
 /// The lines of a file behind this word.
@@ -48,29 +69,15 @@ fn behind<'a>(alloc: Global, file: &'a [u8], word: &[u8]) -> Result<Vec<&'a [u8]
 
 impl<'a> Pool<'a> {
     pub(crate) fn read(alloc: Global, file: &'a [u8]) -> Result<Pool<'a>, AllocError> {
-        Ok(Pool {
-            first: behind(alloc, file, b"first ")?,
-            load: behind(alloc, file, b"load ")?,
-            open: behind(alloc, file, b"open ")?,
-            end: behind(alloc, file, b"end ")?,
-            ask: behind(alloc, file, b"ask ")?,
-            apart: behind(alloc, file, b"apart ")?,
-            large_load: behind(alloc, file, b"largeload ")?,
-            large: behind(alloc, file, b"large ")?,
-        })
+        let mut kinds = Vec::new(alloc);
+        for word in WORDS {
+            kinds.push(behind(alloc, file, word)?)?;
+        }
+        Ok(Pool { kinds })
     }
 
     /// All lines that may come then.
-    pub(crate) fn lines(&self, when: When) -> &[&'a [u8]] {
-        match when {
-            When::First => &self.first,
-            When::Load => &self.load,
-            When::Open => &self.open,
-            When::End => &self.end,
-            When::Ask => &self.ask,
-            When::Apart => &self.apart,
-            When::LargeLoad => &self.large_load,
-            When::Large => &self.large,
-        }
+    pub(crate) fn lines(&self, when: When) -> Option<&Vec<&'a [u8]>> {
+        self.kinds.get(when.place())
     }
 }

@@ -21,7 +21,9 @@ impl Draft {
 
     /// One of the lines of a kind.
     fn put(&mut self, pool: &Pool<'_>, when: When) -> Result<(), AllocError> {
-        let lines = pool.lines(when);
+        let Some(lines) = pool.lines(when) else {
+            return Ok(());
+        };
         if lines.is_empty() {
             return Ok(());
         }

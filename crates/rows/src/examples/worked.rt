@@ -69,14 +69,13 @@ fn compare_sheets<R: Print + AllocGlobal>(
     Ok(seen)
 }
 
-/// Compares the sheets of each file.
+/// Compares the sheets of the file of this name.
 pub(crate) fn compare_worked<R: Files + Print + AllocGlobal>(
     rt: &R,
     table: &Arc<NumericTable>,
+    name: &str,
 ) -> Result<()> {
-    for name in ["written_histories", "judged_histories"] {
-        let file = read_data(rt, name, "rows")?;
-        compare_sheets(rt, table, &file)?.tell(rt, name)?;
-    }
+    let file = read_data(rt, name, "rows")?;
+    compare_sheets(rt, table, &file)?.tell(rt, name)?;
     Ok(())
 }

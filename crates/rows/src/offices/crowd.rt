@@ -1,5 +1,6 @@
 //! Four desks that each take 25 rounds of steps in threads of their own, and whether the finished history has just these.
 
+use crate::offices::places::made_of_each;
 use crate::offices::steps::{ROUND, desk_step, round_line};
 use anyhow::Result;
 use filing_office::{Answer, Desk, DeskStep, Gate, Naming, Office, Outcome, Ran, Work, run_desks};
@@ -60,11 +61,7 @@ fn works_of<L: Ledger + Naming, M: Ledger>(
     alloc: Global,
     desks: Vec<Desk<L, M>>,
 ) -> Result<Vec<Work<L, M>>> {
-    let mut works = Vec::with_capacity(alloc, desks.len())?;
-    for (place, desk) in desks.into_iter().enumerate() {
-        works.push(work_of(alloc, place, desk)?)?;
-    }
-    Ok(works)
+    made_of_each(alloc, desks, work_of::<L, M>)
 }
 
 /// Takes steps one after the other, each with the session that the step before it was told.
@@ -189,38 +186,36 @@ impl Told {
     }
 }
 
-/// A desk, and what it was told.
-fn parted_one<L: Ledger + Naming, M: Ledger>(
+/// What each desk was told.
+pub(crate) fn told_of_all<L: Ledger + Naming, M: Ledger>(
     alloc: Global,
-    place: usize,
-    ran: Ran<L, M>,
-) -> Result<(Desk<L, M>, Told), AllocError> {
-    let (desk, left, outcomes) = ran;
-    drop(left);
-    let told = Told::of(alloc, place, &outcomes);
-    drop(outcomes);
-    match told {
-        Ok(told) => Ok((desk, told)),
-        Err(error) => {
-            drop(desk);
-            Err(error)
-        }
+    ran: &[Ran<L, M>],
+) -> Result<Vec<Told>> {
+    let mut all = Vec::with_capacity(alloc, ran.len())?;
+    for (one, place) in ran.iter().zip(0usize..) {
+        all.push(Told::of(alloc, place, &one.2)?)?;
     }
+    Ok(all)
 }
 
-/// The desks, and what each was told.
-pub(crate) fn parted<L: Ledger + Naming, M: Ledger>(
+/// The desk that comes back.
+fn desk_of<L: Ledger + Naming, M: Ledger>(
+    _alloc: Global,
+    _place: usize,
+    ran: Ran<L, M>,
+) -> Result<Desk<L, M>> {
+    let (desk, reviewer, outcomes) = ran;
+    drop(reviewer);
+    drop(outcomes);
+    Ok(desk)
+}
+
+/// The desks that come back.
+pub(crate) fn desks_of<L: Ledger + Naming, M: Ledger>(
     alloc: Global,
     ran: Vec<Ran<L, M>>,
-) -> Result<(Vec<Desk<L, M>>, Vec<Told>)> {
-    let mut desks = Vec::with_capacity(alloc, ran.len())?;
-    let mut all_told = Vec::with_capacity(alloc, ran.len())?;
-    for (place, one) in ran.into_iter().enumerate() {
-        let (desk, told) = parted_one(alloc, place, one)?;
-        desks.push(desk)?;
-        all_told.push(told)?;
-    }
-    Ok((desks, all_told))
+) -> Result<Vec<Desk<L, M>>> {
+    made_of_each(alloc, ran, desk_of::<L, M>)
 }
 
 /// Writes of each desk how many answers it got, and whether the entries of its sessions are those, in order.

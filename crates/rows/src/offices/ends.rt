@@ -2,7 +2,7 @@
 
 ghost use Rattle.std.specs.Prelude.{◌≡◌, ◌<◌, ◌^◌};
 
-use crate::offices::crowd::{Told, Way, compare_all, parted, run_rounds};
+use crate::offices::crowd::{Told, Way, compare_all, desks_of, run_rounds, told_of_all};
 use crate::offices::meeting::{run_both, tell_all};
 use crate::offices::rounds::{add_one, before_and_after, load_first, look, review};
 use anyhow::{Error, Result, anyhow};
@@ -362,18 +362,24 @@ fn end_and_compare<L: Ledger + Naming, M: Ledger, R: Wait + Print + AllocGlobal>
     compared
 }
 
-/// Ends the office of desks that took their rounds, and compares what they were told with the history.
+/// Ends the office of desks that came back, and compares what they were told with the history.
 fn end_crowd<L: Ledger + Naming, M: Ledger, R: Wait + Print + AllocGlobal>(
     rt: &R,
     office: Office<L, M>,
     ran: Vec<Ran<L, M>>,
 ) -> Result<()> {
-    match parted(rt.alloc(), ran) {
-        Ok((desks, told)) => {
-            let compared = end_and_compare(rt, office, desks, &told);
+    match told_of_all(rt.alloc(), &ran) {
+        Ok(told) => {
+            let ended = match desks_of(rt.alloc(), ran) {
+                Ok(desks) => end_and_compare(rt, office, desks, &told),
+                Err(error) => abandon(rt, office, error),
+            };
             drop(told);
-            compared
+            ended
         }
-        Err(error) => abandon(rt, office, error),
+        Err(error) => {
+            drop(ran);
+            abandon(rt, office, error)
+        }
     }
 }

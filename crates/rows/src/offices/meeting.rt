@@ -1,5 +1,7 @@
 //! Two desks that wait for one another while each has a session open.
 
+use crate::offices::crowd::desks_of;
+use crate::offices::places::made_of_each;
 use crate::offices::rounds::{learn, review, tell};
 use crate::offices::steps::{COMMIT, OPEN, addition, desk_step};
 use anyhow::{Result, anyhow};
@@ -82,29 +84,17 @@ fn steps_of(alloc: Global, id: &str) -> Result<Vec<DeskStep>> {
 }
 
 /// A desk that adds a fact to the report `r1` in a session of its own.
-fn work<L: Ledger + Naming, M: Ledger>(
+fn work_of<L: Ledger + Naming, M: Ledger>(
     alloc: Global,
+    place: usize,
     desk: Desk<L, M>,
-    id: &str,
 ) -> Result<Work<L, M>> {
-    let steps = steps_of(alloc, id)?;
+    let steps = steps_of(alloc, if place == 0 { "a" } else { "b" })?;
     Ok(Work {
         desk,
         reviewer: None,
         steps,
     })
-}
-
-/// What two desks do at once.
-fn works_of<L: Ledger + Naming, M: Ledger>(
-    alloc: Global,
-    desks: Vec<Desk<L, M>>,
-) -> Result<Vec<Work<L, M>>> {
-    let mut works = Vec::with_capacity(alloc, desks.len())?;
-    for (desk, id) in desks.into_iter().zip(["a", "b"]) {
-        works.push(work(alloc, desk, id)?)?;
-    }
-    Ok(works)
 }
 
 /// Lets two desks run at once, and tells whether one waited for the other in vain.
@@ -114,7 +104,7 @@ pub(crate) fn run_both<
     R: Threads + Wait + Sync + Print + AllocGlobal,
 >(rt: &R, office: &Office<L, M>, desks: Vec<Desk<L, M>>) -> Result<Vec<Ran<L, M>>> {
     let alloc = rt.alloc();
-    let works = works_of(alloc, desks)?;
+    let works = made_of_each(alloc, desks, work_of::<L, M>)?;
     let meeting = Meeting::new();
     let ran = run_desks(rt, office, alloc, works, &meeting)?;
     match meeting.tell(rt) {
@@ -166,35 +156,30 @@ fn meet_all<J: Naming, R: Print + AllocGlobal>(
     Ok(())
 }
 
-/// Writes what a desk was answered, and hands it back.
-fn tell_of<L: Ledger + Naming, M: Ledger, R: Print + AllocGlobal>(
+/// Writes what each desk was answered, and what a reviewer reads who learnt all receipts.
+fn tell_of_all<L: Ledger + Naming, M: Ledger, R: Print + AllocGlobal>(
     rt: &R,
     reviewer: &mut Reviewer<L>,
-    ran: Ran<L, M>,
-) -> Result<Desk<L, M>> {
-    let (desk, left, outcomes) = ran;
-    drop(left);
-    let met = meet_all(rt, reviewer, &outcomes);
-    drop(outcomes);
-    match met {
-        Ok(()) => Ok(desk),
-        Err(error) => {
-            drop(desk);
-            Err(error)
-        }
+    ran: &[Ran<L, M>],
+) -> Result<()> {
+    for one in ran {
+        meet_all(rt, reviewer, &one.2)?;
     }
+    drop(review(rt, "one who learnt", reviewer, "a")?);
+    Ok(())
 }
 
-/// Writes what each desk was answered, and what a reviewer reads who learnt all receipts.
+/// The same, which hands the desks back.
 pub(crate) fn tell_all<L: Ledger + Naming, M: Ledger, R: Print + AllocGlobal>(
     rt: &R,
     reviewer: &mut Reviewer<L>,
     ran: Vec<Ran<L, M>>,
 ) -> Result<Vec<Desk<L, M>>> {
-    let mut desks = Vec::with_capacity(rt.alloc(), ran.len())?;
-    for one in ran {
-        desks.push(tell_of(rt, reviewer, one)?)?;
+    match tell_of_all(rt, reviewer, &ran) {
+        Ok(()) => desks_of(rt.alloc(), ran),
+        Err(error) => {
+            drop(ran);
+            Err(error)
+        }
     }
-    drop(review(rt, "one who learnt", reviewer, "a")?);
-    Ok(desks)
 }

@@ -191,10 +191,6 @@ pub(crate) fn compare_file<R: Files + Print + AllocGlobal>(
     let file = read_data(rt, name, "rows")?;
     let seen = compare_scripts(rt, table, kind, &file)?;
     let (scripts, replies, differing) = (seen.scripts, seen.replies, seen.differing);
-    if differing == 0 {
-        println!(rt; "{name}: {scripts} scripts, {replies} replies, as written")?;
-    } else {
-        println!(rt; "{name}: {scripts} scripts, {replies} replies, {differing} DIFFER")?;
-    }
+    println!(rt; "{name}: {scripts} scripts, {replies} replies, {differing} differ")?;
     Ok(())
 }

@@ -58,16 +58,6 @@ fn is_twice(bytes: &[u8], others: &[u8]) -> bool {
     }
 }
 
-/// Tells of so many replies whether they are those of one script after the other.
-fn tell<R: Print>(rt: &R, lines: usize, is_same: bool) -> Result<()> {
-    if is_same {
-        println!(rt; "two long scripts with {lines} replies, as one after the other")?;
-    } else {
-        println!(rt; "TWO LONG SCRIPTS DIFFER from one after the other")?;
-    }
-    Ok(())
-}
-
 /// Runs a long script twice at once, and tells whether each is told what one alone is told.
 pub(crate) fn compare_long<R: Print + AllocGlobal + Threads + Wait + Sync>(
     rt: &R,
@@ -76,5 +66,7 @@ pub(crate) fn compare_long<R: Print + AllocGlobal + Threads + Wait + Sync>(
     let script = long_script(rt.alloc())?;
     let alone = replies_alone(rt.alloc(), table, &script)?;
     let told = told_at_once(rt, table, script)?;
-    tell(rt, ends_in(&told), is_twice(&told, &alone))
+    let (lines, is_same) = (ends_in(&told), is_twice(&told, &alone));
+    println!(rt; "two long scripts with {lines} replies, as one after the other: {is_same}")?;
+    Ok(())
 }

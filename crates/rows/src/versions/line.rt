@@ -1,6 +1,6 @@
 //! What a line asks for.
 //!
-//! Its words stand apart by one space. An edit waits for the next load or commit: `put REPORT ID FACT`, `remove REPORT ID`, `declare REPORT WORD`. `load REPORT WORD` loads the facts that wait for a report, which declares the word. `commit` makes the version after the edits, and `try` takes it back where a cell of it is not allowed. `at NUMBER` goes to an older version. All others are questions; `-` stands for an identifier that is not given.
+//! Its words stand apart by one space. An edit waits for the next load or commit: `put REPORT ID FACT`, `remove REPORT ID`, `declare REPORT WORD`. `load REPORT WORD` loads the facts that wait for a report, which declares the word. `commit` makes the version after the edits, and `try` takes it back where a cell of it is not allowed. `at NUMBER` goes to an older version. `puts`, `staged REPORT ID` and `declares REPORT` ask for what waits, as a change has it. All others are questions; `-` stands for an identifier that is not given.
 
 use crate::versions::facts::{Named, Pool};
 use filing_version::Asked;
@@ -66,6 +66,14 @@ pub(crate) enum Question<'a> {
     Stamp(Stamped<'a>),
 }
 
+/// What is asked of what waits.
+#[derive(Clone, Copy)]
+pub(crate) enum Waiting<'a> {
+    Puts,
+    Staged(&'a str, &'a str),
+    Declares(&'a str),
+}
+
 #[derive(Clone, Copy)]
 pub(crate) enum Line<'a> {
     Edit(Edit<'a>),
@@ -73,6 +81,7 @@ pub(crate) enum Line<'a> {
     Commit,
     Try,
     At(usize),
+    Waiting(Waiting<'a>),
     Ask(&'a str, Question<'a>),
 }
 
@@ -157,6 +166,15 @@ fn edit_of<'a>(pool: &'a Pool, line: &'a str) -> Option<Edit<'a>> {
     Some(edit)
 }
 
+/// What a line asks of what waits.
+fn waiting_of(line: &str) -> Waiting<'_> {
+    match word(line, 0) {
+        "staged" => Waiting::Staged(word(line, 1), word(line, 2)),
+        "declares" => Waiting::Declares(word(line, 1)),
+        _ => Waiting::Puts,
+    }
+}
+
 /// What a line asks for, where it is one.
 pub(crate) fn read_line<'a>(pool: &'a Pool, line: &'a str) -> Option<Line<'a>> {
     let report = word(line, 1);
@@ -166,6 +184,7 @@ pub(crate) fn read_line<'a>(pool: &'a Pool, line: &'a str) -> Option<Line<'a>> {
         "commit" => Line::Commit,
         "try" => Line::Try,
         "at" => Line::At(report.parse::<usize>().ok()?),
+        "puts" | "staged" | "declares" => Line::Waiting(waiting_of(line)),
         _ => Line::Ask(report, question_of(pool, line)?),
     };
     Some(read)

@@ -1,14 +1,14 @@
 //! The answers of versions.
 
 use crate::versions::draft::Draft;
-use crate::versions::line::{Edit, Question, Sought, Stamped};
+use crate::versions::line::{Edit, Question, Sought, Stamped, Waiting};
 use crate::versions::telling::{
     NO_REPORT, class_word, push_cell_or_none, push_dims_or_none, push_fact_or_none, push_named,
     push_none_if_empty, push_word,
 };
 use anyhow::{Result, anyhow};
-use filing_version::{Got, Ids, RepoVersion};
-use oim_fact::{Allowed, DimSet, NumericTable};
+use filing_version::{Change, Got, Ids, RepoVersion};
+use oim_fact::{Allowed, DimSet, Fact, NumericTable};
 use oim_report::{Report, allowed_word, push_comma, read_report};
 use std::alloc::{AllocError, Global};
 use std::sync::Arc;
@@ -244,6 +244,41 @@ fn after(
     next
 }
 
+/// Appends what is put at an identifier.
+fn push_put(told: &mut String, fact: Option<&Arc<Fact>>) -> Result<(), AllocError> {
+    match fact {
+        Some(fact) => push_fact_or_none(told, Some(&**fact)),
+        None => told.push_str("gone"),
+    }
+}
+
+/// Appends the puts of a change.
+fn push_puts(told: &mut String, change: &Change) -> Result<(), AllocError> {
+    for (report, id, fact) in change.puts() {
+        push_word(told, report)?;
+        told.push_str("/")?;
+        told.push_str(id)?;
+        told.push_str("=")?;
+        push_put(told, fact)?;
+    }
+    push_none_if_empty(told)
+}
+
+/// Appends what a change has.
+fn push_change(told: &mut String, change: &Change, waiting: Waiting<'_>) -> Result<(), AllocError> {
+    match waiting {
+        Waiting::Puts => push_puts(told, change),
+        Waiting::Staged(report, id) => match change.staged(report, id) {
+            Some(fact) => push_put(told, fact),
+            None => told.push_str("nothing"),
+        },
+        Waiting::Declares(report) => match change.declared(report) {
+            Some(allowed) => told.push_str(allowed_word(allowed)),
+            None => told.push_str("nothing"),
+        },
+    }
+}
+
 impl Versions {
     pub(crate) fn new(alloc: Global) -> Result<Versions, AllocError> {
         let mut all = Vec::new(alloc);
@@ -288,6 +323,26 @@ impl Versions {
             self.all.push(next)?;
         }
         Ok(())
+    }
+
+    /// Appends what a change of the last version has that edits make.
+    pub(crate) fn push_waiting(
+        &self,
+        alloc: Global,
+        told: &mut String,
+        edits: &[Edit<'_>],
+        waiting: Waiting<'_>,
+    ) -> Result<(), AllocError> {
+        let Some(base) = self.all.last() else {
+            return Ok(());
+        };
+        let mut draft = Draft::new(alloc, base);
+        let pushed = match make_all(alloc, &mut draft, edits) {
+            Ok(()) => push_change(told, draft.change(), waiting),
+            Err(error) => Err(error),
+        };
+        drop(draft);
+        pushed
     }
 
     /// The number of the last version.

@@ -76,6 +76,10 @@ impl<'a> Session<'a> {
                 self.commit(alloc)?;
                 self.take_back();
             }
+            Some(Line::Waiting(waiting)) => {
+                self.versions
+                    .push_waiting(alloc, &mut self.told, &self.waiting, waiting)?
+            }
             Some(Line::At(number)) => self.at = number.min(self.versions.last_number()),
             Some(Line::Ask(report, question)) => self.ask(alloc, report, question)?,
             None => return Err(anyhow!("no such line: {line}")),
