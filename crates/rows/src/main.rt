@@ -1,17 +1,21 @@
 //! Compares what the layers answer with what is written of them, and fast answers with slow ones.
 //!
-//! `sheets` has worked rows of scripts, steps, reports and facts, `pages` lists and maps in pages, `versions` versions and their changes; `model` is of both and of histories, with answers that `tools/draw_rows` computed; and `examples` stored scripts, worked histories and failing devices; `offices` takes steps at desks and opens reviews beside them, `threads` runs scripts in threads, and `drawn` draws scripts, which the oracle answers too; `lines` has what they need of lines, `seen` counts what differs, and `memory` runs scripts and judges histories over memory.
+//! `sheets` has worked rows of scripts, steps, reports and facts, `pages` lists and maps in pages, `versions` versions; `model` is of both and of histories, with answers that `tools/draw_rows` computed; and `examples` stored scripts, worked histories and failing devices; `offices` takes steps at desks and opens reviews beside them, `threads` runs scripts in threads, and `drawn` draws scripts, which the oracle answers too; `lines` has what they need of lines, `sheet` reads rows and compares, `question` has the parts of a line of JSON, `pool` and `draft` draw scripts, `seen` counts what differs, and `memory` runs scripts and judges histories over memory.
 //!
 //! A word names the part that is wanted: `sheets`, `pages`, `versions`, `model`, `scripts`, `histories`, `devices`, `offices`, `threads` or `drawn`; without a word it is all of them. A seed of what is drawn may follow `threads` and `drawn`, and then a number of sets or of scripts.
 #![tactic(auto)]
 
+mod draft;
 mod drawn;
 mod examples;
 mod lines;
 mod memory;
 mod offices;
 mod pages;
+mod pool;
+mod question;
 mod seen;
+mod sheet;
 mod sheets;
 mod threads;
 mod versions;
@@ -72,10 +76,9 @@ fn compare<T: Threads + Wait + Sync + Print + Files + AllocGlobal>(
     rt: &HostRuntime,
     handle: &T,
     part: &str,
-    seed: Option<u64>,
+    seed: u64,
     count: Option<u64>,
 ) -> Result<()> {
-    let seed = seed.unwrap_or(FIRST);
     match part {
         "offices" => show_offices(handle),
         "threads" => compare_threads(handle, seed, count.unwrap_or(SETS)),
@@ -84,28 +87,29 @@ fn compare<T: Threads + Wait + Sync + Print + Files + AllocGlobal>(
     }
 }
 
-// What is compared where no part is named.
-const PARTS: [&str; 10] = [
-    "sheets",
-    "pages",
-    "versions",
-    "model",
-    "scripts",
-    "histories",
-    "devices",
-    "offices",
-    "threads",
-    "drawn",
-];
+/// Compares all parts.
+fn compare_all<T: Threads + Wait + Sync + Print + Files + AllocGlobal>(
+    rt: &HostRuntime,
+    handle: &T,
+) -> Result<()> {
+    compare_sheets(rt)?;
+    compare_pages(rt)?;
+    compare_versions(rt)?;
+    compare_model(rt)?;
+    compare_scripts(rt)?;
+    compare_histories(rt)?;
+    compare_devices(rt)?;
+    show_offices(handle)?;
+    compare_threads(handle, FIRST, SETS)?;
+    compare_drawn(rt, FIRST, SCRIPTS)
+}
 
 fn main(rt: HostRuntime) -> Result<()> {
     let mut words = env::args(&rt)?.skip(1);
-    if let Some(part) = words.next() {
-        let (seed, count) = (number_of(words.next())?, number_of(words.next())?);
-        return compare(&rt, &rt, part.as_str(), seed, count);
-    }
-    for part in PARTS {
-        compare(&rt, &rt, part, None, None)?;
-    }
-    Ok(())
+    let Some(part) = words.next() else {
+        return compare_all(&rt, &rt);
+    };
+    let seed = number_of(words.next())?.unwrap_or(FIRST);
+    let count = number_of(words.next())?;
+    compare(&rt, &rt, part.as_str(), seed, count)
 }

@@ -1,30 +1,53 @@
-//! Takes steps at desks of offices and opens reviews beside them, and writes what each is answered, which `stdout` has as it is to be: the same whatever the schedule.
+//! Offices: what their desks and reviewers are answered, in turn and in threads of their own.
 //!
-//! `steps` makes the steps. `rounds` takes them at one desk after the other, `meeting` at two desks that wait for one another, and `crowd` at four desks in threads of their own, whose answers are compared with the history. `ends` opens offices and ends them, and `places` makes something of each value at its place.
+//! `stage` plays the acts of `data/offices.rows`, each sheet in an office of two desks and two reviewers: `acts` has their parts, `readers` what reviewers do, and `ends` how offices end. `crowd` lets four desks take the steps of `rounds` in threads, and compares what `entered` says they were told with the history; at a `meeting` they wait for one another. `places` makes something of each value at its place.
 
+mod acts;
 mod crowd;
 mod ends;
+mod entered;
 mod meeting;
 mod places;
+mod readers;
 mod rounds;
-mod steps;
+mod stage;
 
+use crate::sheet::{Answers, Sheet, compare_rows};
 use anyhow::Result;
-use crowd::Way;
+use crowd::{Way, take_rounds};
 use filing_office::Press;
+use stage::play;
+use std::alloc::Global;
 use std::marker::{Brand, Sync};
+use std::rt::Files;
 use std::sync::Wait;
 use std::sync::ledger::Blank;
 use std::thread::Threads;
 
-/// Opens offices, and writes what is answered there.
-pub(crate) fn show_offices<R: Threads + Wait + Sync + Print + AllocGlobal>(rt: &R) -> Result<()> {
-    ends::one_desk::<Brand, Brand, _>(rt, Press::new(), Blank::new(1), Blank::new(1))?;
-    ends::two_desks::<Brand, Brand, _>(rt, Press::new(), Blank::new(2), Blank::new(2))?;
-    ends::two_at_once::<Brand, Brand, _>(rt, Press::new(), Blank::new(2), Blank::new(2))?;
-    for way in [Way::Steps, Way::Lists] {
-        let (steps, receipts) = (Blank::new(4), Blank::new(4));
-        ends::four_desks::<Brand, Brand, _>(rt, Press::new(), steps, receipts, way)?;
+/// What plays sheets of acts.
+#[derive(Drop)]
+struct Player<'a, R: Wait + AllocGlobal> {
+    rt: &'a R,
+}
+
+impl<R: Wait + AllocGlobal> Answers for Player<'_, R> {
+    fn told(&self, _alloc: Global, sheet: &Sheet) -> Result<Vec<u8>> {
+        let (steps, receipts) = (Blank::new(2), Blank::new(2));
+        play::<Brand, Brand, _>(self.rt, Press::new(), steps, receipts, &sheet.lines)
     }
-    Ok(())
+}
+
+/// Lets desks take rounds in threads.
+fn run_crowd<R: Threads + Wait + Sync + Print + AllocGlobal>(rt: &R, way: Way) -> Result<()> {
+    let (steps, receipts) = (Blank::new(4), Blank::new(4));
+    take_rounds::<Brand, Brand, _>(rt, Press::new(), steps, receipts, way)
+}
+
+/// Plays the acts of offices, and lets desks take rounds in threads, in both ways.
+pub(crate) fn show_offices<R: Threads + Wait + Sync + Print + Files + AllocGlobal>(
+    rt: &R,
+) -> Result<()> {
+    compare_rows(rt, "offices", &Player { rt })?;
+    run_crowd(rt, Way::Steps)?;
+    run_crowd(rt, Way::Lists)
 }

@@ -1,24 +1,23 @@
 //! Worked rows of scripts, steps, reports and facts, and what they are answered beside what is written with them.
 //!
-//! A file NAME.rows has scripts. A line that begins with `# ` begins one and is its title; a line that begins with `=> ` is the reply that is expected to the line before it; one that begins with `= ` is the number of steps that the script takes; every other line is a line of the script. `sheet` reads them, and `beside` compares the replies with those of the program.
+//! A file NAME.rows has scripts. A line that begins with `# ` begins one and is its title; a line that begins with `=> ` is the reply that is expected to the line before it; one that begins with `= ` is the number of steps that the script takes; every other line is a line of the script. `answers` has what the lines are answered.
 //!
-//! `scripts` runs scripts over memory. The lines of other files are questions: `steps` takes the steps of a core that `asked_steps` makes, loads and commits in two parts too, `tables` and `reports` read texts and write them again, `infos` sets what a report declares, `facts` reads and writes with one fact, and `dimensions` has dimension sets and prefixes. `question` has the parts of a question. `drawn_numbers` and `drawn_scripts` are of another part, since they are many: what is written there was computed by `tools/draw_rows`, by all pairs of facts and by lists of all that was touched.
+//! `scripts` runs scripts over memory. The lines of other files are questions: `steps` takes the steps of a core that `asked_steps` makes, loads and commits in two parts too, `tables` and `reports` read texts and write them again, `infos` sets what a report declares, `facts` reads and writes with one fact, and `dimensions` has dimension sets and prefixes. `drawn_numbers` and `drawn_scripts` are of another part, since they are many: what is written there was computed by `tools/draw_rows`, by all pairs of facts and by lists of all that was touched.
 
+mod answers;
 mod asked_steps;
-mod beside;
 mod dimensions;
 mod facts;
 mod infos;
-mod question;
 mod reports;
 mod scripts;
-mod sheet;
 mod steps;
 mod tables;
 
 use crate::lines::read_numeric;
+use crate::sheet::compare_rows;
+use answers::{Asking, Table};
 use anyhow::Result;
-use beside::{Table, compare_file};
 use oim_report::read_report;
 use std::rt::Files;
 use steps::Taking;
@@ -106,7 +105,7 @@ fn compare_by<R: Files + Print + AllocGlobal>(
     files: &[(&str, Kind)],
 ) -> Result<()> {
     for (name, kind) in files {
-        compare_file(rt, table, name, *kind)?;
+        compare_rows(rt, name, &Asking { table, kind: *kind })?;
     }
     Ok(())
 }

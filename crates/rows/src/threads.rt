@@ -12,6 +12,7 @@ mod sheet;
 mod told;
 
 use crate::lines::{read_data, read_numeric};
+use crate::pool::Pool;
 use anyhow::{Result, anyhow};
 use drawn::drawn_set;
 use judge::{Finding, explanation};
@@ -127,12 +128,12 @@ fn judge_written<R: Print + AllocGlobal + Files>(rt: &R, table: &Arc<NumericTabl
 /// Runs a drawn set, and judges what it is told.
 fn try_set<R: Print + AllocGlobal + Threads + Wait + Sync>(
     rt: &R,
-    table: &Arc<NumericTable>,
+    (table, pool): (&Arc<NumericTable>, &Pool<'_>),
     seed: u64,
     number: u64,
     seen: Seen,
 ) -> Result<Seen> {
-    let scripts = drawn_set(rt.alloc(), seed, number)?;
+    let scripts = drawn_set(rt.alloc(), pool, seed, number)?;
     let replies = replies_in_threads(rt, table, &scripts)?;
     let finding = explanation(rt.alloc(), table, &scripts, &replies)?;
     let Finding::Explained(order) = finding else {
@@ -152,7 +153,7 @@ fn try_set<R: Print + AllocGlobal + Threads + Wait + Sync>(
 /// Runs so many drawn sets.
 fn try_sets<R: Print + AllocGlobal + Threads + Wait + Sync>(
     rt: &R,
-    table: &Arc<NumericTable>,
+    (table, pool): (&Arc<NumericTable>, &Pool<'_>),
     seed: u64,
     sets: u64,
 ) -> Result<()> {
@@ -162,7 +163,7 @@ fn try_sets<R: Print + AllocGlobal + Threads + Wait + Sync>(
         replies: 0,
     };
     for number in 0..sets {
-        seen = try_set(rt, table, seed, number, seen)?;
+        seen = try_set(rt, (table, pool), seed, number, seen)?;
     }
     let Seen {
         explained,
@@ -190,7 +191,9 @@ fn compare_by<R: Print + AllocGlobal + Files + Threads + Wait + Sync>(
     compare_worked(rt, table)?;
     judge_written(rt, table)?;
     compare_long(rt, table)?;
-    try_sets(rt, table, seed, sets)
+    let lines = read_data(rt, "meeting_lines", "txt")?;
+    let pool = Pool::read(rt.alloc(), &lines)?;
+    try_sets(rt, (table, &pool), seed, sets)
 }
 
 /// Runs and judges worked scripts, and so many sets that are drawn from a seed.

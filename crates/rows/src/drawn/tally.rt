@@ -2,9 +2,10 @@
 
 ghost use Rattle.std.specs.Prelude.{◌<◌};
 
-use crate::drawn::draft::SESSIONS;
-use crate::drawn::words::{text_at, words_of};
+use crate::draft::SESSIONS;
+use crate::drawn::words::words_of;
 use crate::lines::is_end;
+use crate::question::text_at;
 use filing_cli::is_blank;
 use filing_text::line_of;
 use oim_report::json_value;

@@ -1,15 +1,8 @@
 //! The words of replies, without names and facts.
 
+use crate::question::text_at;
 use serde_json::Value;
 use std::alloc::{AllocError, Global};
-
-/// The text at a place of an array, or nothing.
-pub(crate) fn text_at(value: &Value, place: usize) -> &str {
-    match value.get(place) {
-        Some(part) => part.as_str().unwrap_or(""),
-        None => "",
-    }
-}
 
 /// Whether there is something else than null at a place of an array.
 fn is_some_at(value: &Value, place: usize) -> bool {

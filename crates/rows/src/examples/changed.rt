@@ -1,7 +1,8 @@
 //! Histories of which one reply is changed.
 
-use crate::examples::answered::push_told;
+use crate::examples::worked::push_told;
 use crate::lines::{is_end, push_line};
+use crate::question::with_reply;
 use anyhow::Result;
 use oim_fact::NumericTable;
 use oim_report::json_value;
@@ -9,27 +10,12 @@ use serde_json::Value;
 use std::alloc::{AllocError, Global};
 use std::sync::Arc;
 
-/// Appends an array of the first two parts of a line and `["taken"]`.
-fn push_changed(alloc: Global, changed: &mut Vec<u8>, value: &Value) -> Result<(), AllocError> {
-    changed.extend_from_slice(b"[")?;
-    for place in 0..2usize {
-        if let Some(part) = value.get(place) {
-            changed.extend_from_slice(part.to_string(alloc)?.as_bytes())?;
-        }
-        changed.extend_from_slice(b",")?;
-    }
-    changed.extend_from_slice(b"[\"taken\"]]")
-}
-
 /// The line with `["taken"]` in place of its reply.
-fn changed_line(alloc: Global, line: &[u8]) -> Result<Vec<u8>> {
-    let mut changed = Vec::new(alloc);
-    if let Some(value) = json_value(alloc, line)? {
-        let pushed = push_changed(alloc, &mut changed, &value);
-        drop(value);
-        pushed?;
-    }
-    Ok(changed)
+fn changed_line(alloc: Global, line: &[u8]) -> Result<String, AllocError> {
+    let value = json_value(alloc, line)?.unwrap_or(Value::Null);
+    let changed = with_reply(alloc, &value, "[\"taken\"]");
+    drop(value);
+    changed
 }
 
 /// The lines, of which the one at a place is another.
@@ -50,7 +36,7 @@ fn with_line(
 /// A history of which the reply at a place is changed.
 fn with_change(alloc: Global, lines: &[u8], place: usize, line: &[u8]) -> Result<Vec<u8>> {
     let other = changed_line(alloc, line)?;
-    Ok(with_line(alloc, lines, place, &other)?)
+    Ok(with_line(alloc, lines, place, other.as_bytes())?)
 }
 
 /// Appends what is told of a history of which each reply is changed in turn.

@@ -1,6 +1,6 @@
 //! Runs the stored scripts, each with its replies and its history in files of their own, and tells which are not those; and judges a history of which a reply was changed.
 
-use crate::lines::read_data;
+use crate::lines::{read_data, read_text};
 use crate::memory::{Ran, history_of, run_over, verdict_on};
 use anyhow::Result;
 use filing_cli::ScriptFault;
@@ -9,22 +9,6 @@ use oim_fact::NumericTable;
 use std::alloc::Global;
 use std::rt::Files;
 use std::sync::Arc;
-
-/// Each is a script NAME.jsonl with the replies NAME.replies and the history NAME.history.
-const NAMES: [&str; 12] = [
-    "amendment",
-    "duplicates",
-    "numbers",
-    "refused",
-    "export",
-    "annual_report",
-    "review",
-    "write_skew",
-    "phantom",
-    "pages",
-    "declare",
-    "every_reply",
-];
 
 // So many bytes are read or written at once.
 const PIECE: usize = 65536;
@@ -143,12 +127,13 @@ fn try_forged<R: Files + Print + AllocGlobal>(rt: &R, table: &Arc<NumericTable>)
     Ok(())
 }
 
-/// Runs each stored script, and judges the forged history.
+/// Runs each script NAME.jsonl that `stored.txt` names, beside the replies NAME.replies and the history NAME.history, and judges the forged history.
 pub(crate) fn try_stored<R: Files + Print + AllocGlobal>(
     rt: &R,
     table: &Arc<NumericTable>,
 ) -> Result<()> {
-    for name in NAMES {
+    let names = read_text(rt, "stored", "txt")?;
+    for name in names.lines() {
         try_example(rt, table, name)?;
     }
     try_forged(rt, table)

@@ -1,81 +1,100 @@
-//! Compares the histories of worked scripts, and the verdicts on them and on changed ones, with what is written beside them.
+//! The histories of worked scripts, and the verdicts on them and on changed ones.
 //!
-//! A file of `data/` has sheets. A line that begins with `# ` begins one and is its title; one that begins with `| ` is a line of a script, whose history has to be the plain lines after it; a line that begins with `= ` is the verdict on the plain lines before it; one that is `~` asks that each entry whose reply is changed departs there. `sheet` reads them, `answered` runs scripts and judges, and `changed` changes replies.
+//! A file of `data/` has sheets, each under its title. A line that begins with `| ` is one of a script, whose history has to be the plain lines after it; a line that begins with `= ` is the verdict on the plain lines before it; one that is `~` asks that each entry whose reply is changed departs there. `changed` changes replies.
 
-use crate::examples::answered::Answered;
-use crate::examples::sheet::Sheet;
-use crate::lines::{is_end, read_data};
-use crate::seen::Seen;
+use crate::examples::changed::push_changes;
+use crate::lines::{is_end, push_line};
+use crate::memory::{history_of, left_by, verdict_on, verdict_told};
+use crate::sheet::{Answers, Sheet};
 use anyhow::Result;
+use filing_core::{Core, check_run};
 use oim_fact::NumericTable;
-use std::mem;
-use std::rt::Files;
+use std::alloc::{AllocError, Global};
 use std::sync::Arc;
 
-/// Tells what the sheet of a title is answered.
-fn tell_answered<R: Print + AllocGlobal>(rt: &R, title: &str, answered: &[u8]) -> Result<()> {
-    let told = String::from_utf8_lossy(rt.alloc(), answered)?;
-    println!(rt; "  {title}: {told}")?;
-    Ok(())
-}
+// So many bytes are read at once.
+const PIECE: usize = 7;
 
-/// Tells what a sheet is answered where it is not what is written in it.
-fn compare_sheet<R: Print + AllocGlobal>(
-    rt: &R,
+/// Appends the verdict on the lines of a history, as it is told.
+pub(crate) fn push_told(
+    alloc: Global,
     table: &Arc<NumericTable>,
-    sheet: &Sheet,
-    seen: &mut Seen,
+    lines: &[u8],
+    told: &mut Vec<u8>,
 ) -> Result<()> {
-    if sheet.title.is_empty() {
-        return Ok(());
-    }
-    let answered = Answered::of(rt.alloc(), table, sheet)?;
-    let is_same = answered.is_as_written(sheet);
-    if !is_same {
-        tell_answered(rt, sheet.title.as_str(), answered.told())?;
-    }
-    seen.count(is_same);
+    let verdict = verdict_on(alloc, table, lines, PIECE)?;
+    told.extend_from_slice(verdict_told(alloc, &verdict)?.as_bytes())?;
     Ok(())
 }
 
-/// Takes a line of a file. Where it is a title, the sheet is compared, and another one begun.
-fn take_line<R: Print + AllocGlobal>(
-    rt: &R,
+/// Appends the verdict on the entries of a core, where these are its lines.
+fn push_entries(alloc: Global, core: &Core, lines: &[u8], told: &mut Vec<u8>) -> Result<()> {
+    if history_of(alloc, core)?.as_slice() != lines {
+        return Ok(push_line(told, b"another history")?);
+    }
+    let verdict = check_run(alloc, core.history())?;
+    told.extend_from_slice(verdict_told(alloc, &verdict)?.as_bytes())?;
+    Ok(())
+}
+
+/// Appends the verdict on the entries of a script, where these are their lines.
+fn push_script(
+    alloc: Global,
     table: &Arc<NumericTable>,
-    line: &[u8],
-    sheet: &mut Sheet,
-    seen: &mut Seen,
+    script: &[u8],
+    lines: &[u8],
+    told: &mut Vec<u8>,
 ) -> Result<()> {
-    let Some(title) = line.strip_prefix(b"# ") else {
-        return Ok(sheet.take(line)?);
-    };
-    compare_sheet(rt, table, sheet, seen)?;
-    drop(mem::replace(sheet, Sheet::new(rt.alloc(), title)?));
-    Ok(())
+    let core = left_by(alloc, table, script, PIECE)?;
+    let pushed = push_entries(alloc, &core, lines, told);
+    drop(core);
+    pushed
 }
 
-/// Compares each sheet of a file.
-fn compare_sheets<R: Print + AllocGlobal>(
-    rt: &R,
-    table: &Arc<NumericTable>,
-    file: &[u8],
-) -> Result<Seen> {
-    let mut seen = Seen::new();
-    let mut sheet = Sheet::new(rt.alloc(), b"")?;
-    for line in file.split(is_end) {
-        take_line(rt, table, line, &mut sheet, &mut seen)?;
+/// The lines of a script.
+fn script_in(alloc: Global, lines: &[u8]) -> Result<Vec<u8>, AllocError> {
+    let mut script = Vec::new(alloc);
+    for line in lines.split(is_end) {
+        if let Some(line) = line.strip_prefix(b"| ") {
+            push_line(&mut script, line)?;
+        }
     }
-    compare_sheet(rt, table, &sheet, &mut seen)?;
-    Ok(seen)
+    Ok(script)
 }
 
-/// Compares the sheets of the file of this name.
-pub(crate) fn compare_worked<R: Files + Print + AllocGlobal>(
-    rt: &R,
-    table: &Arc<NumericTable>,
-    name: &str,
-) -> Result<()> {
-    let file = read_data(rt, name, "rows")?;
-    compare_sheets(rt, table, &file)?.tell(rt, name)?;
-    Ok(())
+/// The lines of a history, and whether each of its replies is changed in turn.
+fn history_in(alloc: Global, lines: &[u8]) -> Result<(Vec<u8>, bool), AllocError> {
+    let mut history = Vec::new(alloc);
+    let mut is_changed = false;
+    for line in lines.split(is_end) {
+        if line == b"~".as_slice() {
+            is_changed = true;
+        } else if !line.is_empty() && !line.starts_with(b"| ") {
+            push_line(&mut history, line)?;
+        }
+    }
+    Ok((history, is_changed))
+}
+
+/// Histories that are judged by a numeric table.
+#[derive(Drop)]
+pub(crate) struct Judged<'a> {
+    pub(crate) table: &'a Arc<NumericTable>,
+}
+
+impl Answers for Judged<'_> {
+    /// The verdict on the history, that on the entries of the script, and those on histories of which one reply is changed.
+    fn told(&self, alloc: Global, sheet: &Sheet) -> Result<Vec<u8>> {
+        let script = script_in(alloc, &sheet.lines)?;
+        let (history, is_changed) = history_in(alloc, &sheet.lines)?;
+        let mut told = Vec::new(alloc);
+        push_told(alloc, self.table, &history, &mut told)?;
+        if !script.is_empty() {
+            push_script(alloc, self.table, &script, &history, &mut told)?;
+        }
+        if is_changed {
+            push_changes(alloc, self.table, &history, &mut told)?;
+        }
+        Ok(told)
+    }
 }

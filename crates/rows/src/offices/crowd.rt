@@ -1,70 +1,40 @@
-//! Four desks that each take 25 rounds of steps in threads of their own, and whether the finished history has just these.
+//! Four desks that take rounds of steps in threads of their own, and whether the finished history has just these.
 
+ghost use Rattle.std.specs.Prelude.{◌≡◌, ◌<◌, ◌^◌};
+
+use crate::offices::acts::line_step;
+use crate::offices::ends::{all_came, give_up};
+use crate::offices::entered::Told;
+use crate::offices::meeting::Meeting;
 use crate::offices::places::made_of_each;
-use crate::offices::steps::{ROUND, desk_step, round_line};
-use anyhow::Result;
-use filing_office::{Answer, Desk, DeskStep, Gate, Naming, Office, Outcome, Ran, Work, run_desks};
-use filing_step::{Entry, Reply};
-use filing_text::reply_text;
-use history_text::entry_text;
+use crate::offices::readers::Readers;
+use crate::offices::rounds::work_of;
+use anyhow::{Result, anyhow};
+use filing_office::{
+    Core, Desk, DeskStep, Naming, Office, Opened, Outcome, Press, Ran, Work, run_desks,
+};
+use filing_step::Entry;
 use std::alloc::{AllocError, Global};
 use std::marker::{Send, Sync};
 use std::sync::Wait;
-use std::sync::ledger::Ledger;
+use std::sync::ledger::{Blank, Ledger};
 use std::thread;
 use std::thread::Threads;
-
-/// So many rounds each desk takes.
-const ROUNDS: usize = 25;
 
 /// How desks take their rounds.
 #[derive(Clone, Copy)]
 pub(crate) enum Way {
     /// One step after the other, each with the session that the step before it was told.
     Steps,
-    /// As a list of steps under a name.
+    /// As a list of steps under a name, where each waits until all have a session open.
     Lists,
 }
 
-/// The lines of the entries that a desk was told of, in order.
-#[derive(Drop)]
-pub(crate) struct Told {
-    sessions: Vec<Option<u64>>,
-    lines: Vec<String>,
-}
+// The load of a report without facts.
+const LOAD: &str =
+    r#"["load","r1",{"documentInfo":{"documentType":"https://xbrl.org/2021/xbrl-json","namespaces":{"ex":"http://e.org/t"}}}]"#;
 
-/// The steps of all rounds of a desk.
-fn steps_of(alloc: Global, place: usize) -> Result<Vec<DeskStep>> {
-    let mut steps = Vec::with_capacity(alloc, ROUNDS * ROUND)?;
-    for turn in 0..ROUNDS * ROUND {
-        let line = round_line(alloc, place, turn)?;
-        steps.push(desk_step(alloc, &line)?)?;
-    }
-    Ok(steps)
-}
-
-/// A desk with the steps of all its rounds.
-fn work_of<L: Ledger + Naming, M: Ledger>(
-    alloc: Global,
-    place: usize,
-    desk: Desk<L, M>,
-) -> Result<Work<L, M>> {
-    let steps = steps_of(alloc, place)?;
-    Ok(Work {
-        desk,
-        reviewer: None,
-        steps,
-    })
-}
-
-fn works_of<L: Ledger + Naming, M: Ledger>(
-    alloc: Global,
-    desks: Vec<Desk<L, M>>,
-) -> Result<Vec<Work<L, M>>> {
-    made_of_each(alloc, desks, work_of::<L, M>)
-}
-
-/// Takes steps one after the other, each with the session that the step before it was told.
+/// Takes steps one after the other, each with the session that the step before it was told. Where one fails, there are fewer outcomes.
 fn take_all<L: Ledger + Naming, M: Ledger, R: Wait + AllocGlobal>(
     rt: &R,
     office: &Office<L, M>,
@@ -85,7 +55,7 @@ fn take_all<L: Ledger + Naming, M: Ledger, R: Wait + AllocGlobal>(
     Ok(())
 }
 
-/// What comes back of a work whose steps are taken one after the other. Where one fails, there are fewer outcomes.
+/// What comes back of a work whose steps are taken one after the other.
 fn worked<L: Ledger + Naming, M: Ledger, R: Wait + AllocGlobal>(
     rt: &R,
     office: &Office<L, M>,
@@ -101,101 +71,61 @@ fn worked<L: Ledger + Naming, M: Ledger, R: Wait + AllocGlobal>(
     (desk, reviewer, outcomes)
 }
 
-/// A gate that holds nobody up.
-struct NoGate;
-
-impl Gate for NoGate {
-    fn before(&self, _desk: usize, _step: usize) {}
-
-    fn after(&self, _desk: usize, _step: usize) {}
-}
-
-/// Lets each desk take its rounds in a thread of its own.
-pub(crate) fn run_rounds<
+/// Lets each desk take its rounds in a thread of its own, and tells whether one waited for the others in vain.
+fn run_lists<
     L: Ledger + Naming + Send + Sync,
     M: Ledger + Send + Sync,
-    R: Threads + Wait + Sync + AllocGlobal,
+    R: Threads + Wait + Sync + Print + AllocGlobal,
+>(rt: &R, office: &Office<L, M>, works: Vec<Work<L, M>>) -> Result<Vec<Ran<L, M>>> {
+    let meeting = Meeting::new();
+    let ran = run_desks(rt, office, rt.alloc(), works, &meeting)?;
+    match meeting.tell(rt) {
+        Ok(()) => Ok(ran),
+        Err(error) => {
+            drop(ran);
+            Err(error)
+        }
+    }
+}
+
+/// Loads the report.
+fn load<L: Ledger + Naming, M: Ledger, R: Wait + AllocGlobal>(
+    rt: &R,
+    office: &Office<L, M>,
+    desks: &mut Vec<Desk<L, M>>,
+) -> Result<()> {
+    let step = line_step(rt.alloc(), LOAD)?;
+    match desks.last_mut() {
+        Some(desk) => {
+            drop(desk.step(rt, office, rt.alloc(), None, step)?);
+            Ok(())
+        }
+        None => {
+            drop(step);
+            Err(anyhow!("a desk is wanted"))
+        }
+    }
+}
+
+/// Loads the report, and lets desks take their rounds.
+fn run_rounds<
+    L: Ledger + Naming + Send + Sync,
+    M: Ledger + Send + Sync,
+    R: Threads + Wait + Sync + Print + AllocGlobal,
 >(rt: &R, office: &Office<L, M>, desks: Vec<Desk<L, M>>, way: Way) -> Result<Vec<Ran<L, M>>> {
-    let works = works_of(rt.alloc(), desks)?;
+    let mut desks = desks;
+    if let Err(error) = load(rt, office, &mut desks) {
+        drop(desks);
+        return Err(error);
+    }
+    let works = made_of_each(rt.alloc(), desks, work_of::<L, M>)?;
     match way {
         Way::Steps => {
             let run = |work: Work<L, M>| -> Ran<L, M> { worked(rt, office, work) };
             Ok(thread::map_vec(rt, works, &run)?)
         }
-        Way::Lists => Ok(run_desks(rt, office, rt.alloc(), works, &NoGate)?),
+        Way::Lists => run_lists(rt, office, works),
     }
-}
-
-/// The line of an entry of a step and a reply.
-fn line_of(
-    alloc: Global,
-    session: Option<u64>,
-    step: &str,
-    reply: &Reply,
-) -> Result<String, AllocError> {
-    let reply = reply_text(alloc, reply)?;
-    let number = session.unwrap_or(0);
-    format!(in alloc; "[{number},{step},{reply}]")
-}
-
-impl Told {
-    /// Notes that the step at a turn of a desk was answered.
-    fn note<J: Naming>(
-        &mut self,
-        alloc: Global,
-        place: usize,
-        turn: usize,
-        answer: &Answer<J>,
-    ) -> Result<(), AllocError> {
-        let step = round_line(alloc, place, turn)?;
-        let line = line_of(alloc, answer.session, &step, &answer.reply)?;
-        self.sessions.push(answer.session)?;
-        Ok(self.lines.push(line)?)
-    }
-
-    /// What a desk was told by outcomes, up to the first that is no answer.
-    fn of<J: Naming>(
-        alloc: Global,
-        place: usize,
-        outcomes: &[Outcome<J>],
-    ) -> Result<Told, AllocError> {
-        let (sessions, lines) = (Vec::new(alloc), Vec::new(alloc));
-        let mut told = Told { sessions, lines };
-        for (outcome, turn) in outcomes.iter().zip(0usize..) {
-            let Outcome::Answered(answer) = outcome else {
-                return Ok(told);
-            };
-            told.note(alloc, place, turn, answer)?;
-        }
-        Ok(told)
-    }
-
-    /// Whether the entries of its sessions are those that it was told of, in order.
-    fn is_entered(&self, alloc: Global, history: &[Entry]) -> Result<bool, AllocError> {
-        let mut turn = 0usize;
-        for entry in history {
-            if self.sessions.contains(&entry.session) {
-                let line = entry_text(alloc, entry)?;
-                if self.lines.get(turn) != Some(&line) {
-                    return Ok(false);
-                }
-                turn = turn.saturating_add(1);
-            }
-        }
-        Ok(turn == self.lines.len())
-    }
-}
-
-/// What each desk was told.
-pub(crate) fn told_of_all<L: Ledger + Naming, M: Ledger>(
-    alloc: Global,
-    ran: &[Ran<L, M>],
-) -> Result<Vec<Told>> {
-    let mut all = Vec::with_capacity(alloc, ran.len())?;
-    for (one, place) in ran.iter().zip(0usize..) {
-        all.push(Told::of(alloc, place, &one.2)?)?;
-    }
-    Ok(all)
 }
 
 /// The desk that comes back.
@@ -210,20 +140,43 @@ fn desk_of<L: Ledger + Naming, M: Ledger>(
     Ok(desk)
 }
 
-/// The desks that come back.
-pub(crate) fn desks_of<L: Ledger + Naming, M: Ledger>(
+/// What each desk was told, whose receipts a reviewer learns.
+fn told_of_all<L: Ledger + Naming, M: Ledger>(
+    alloc: Global,
+    ran: &[Ran<L, M>],
+    readers: &mut Readers<L>,
+) -> Result<Vec<Told>> {
+    let mut all = Vec::with_capacity(alloc, ran.len())?;
+    for (one, place) in ran.iter().zip(0usize..) {
+        readers.learn_all(&one.2)?;
+        all.push(Told::of(alloc, place, &one.2)?)?;
+    }
+    Ok(all)
+}
+
+/// The desks that come back, and what each was told.
+fn come_back<L: Ledger + Naming, M: Ledger>(
     alloc: Global,
     ran: Vec<Ran<L, M>>,
-) -> Result<Vec<Desk<L, M>>> {
-    made_of_each(alloc, ran, desk_of::<L, M>)
+    readers: &mut Readers<L>,
+) -> Result<(Vec<Desk<L, M>>, Vec<Told>)> {
+    match told_of_all(alloc, &ran, readers) {
+        Ok(told) => match made_of_each(alloc, ran, desk_of::<L, M>) {
+            Ok(desks) => Ok((desks, told)),
+            Err(error) => {
+                drop(told);
+                Err(error)
+            }
+        },
+        Err(error) => {
+            drop(ran);
+            Err(error)
+        }
+    }
 }
 
 /// Writes of each desk how many answers it got, and whether the entries of its sessions are those, in order.
-pub(crate) fn compare_all<R: Print + AllocGlobal>(
-    rt: &R,
-    history: &[Entry],
-    all_told: &[Told],
-) -> Result<()> {
+fn compare_all<R: Print + AllocGlobal>(rt: &R, history: &[Entry], all_told: &[Told]) -> Result<()> {
     for (told, place) in all_told.iter().zip(0usize..) {
         let answers = told.lines.len();
         let is_same = told.is_entered(rt.alloc(), history)?;
@@ -232,4 +185,62 @@ pub(crate) fn compare_all<R: Print + AllocGlobal>(
         )?;
     }
     Ok(())
+}
+
+/// Compares what desks were told with the history of their office, and writes what it made, and which version a reviewer has learnt.
+fn compare_end<J: Naming, R: Print + AllocGlobal>(
+    rt: &R,
+    core: &Core,
+    told: &[Told],
+    readers: &Readers<J>,
+) -> Result<()> {
+    compare_all(rt, core.history(), told)?;
+    let (entries, number) = (core.history().len(), core.current().number());
+    let seen = readers.seen(rt.alloc(), 0)?;
+    println!(rt; "{entries} entries, {number} versions, {seen} learnt")?;
+    Ok(())
+}
+
+/// Ends the office of desks that came back, and compares what they were told with the history.
+fn end_crowd<L: Ledger + Naming, M: Ledger, R: Wait + Print + AllocGlobal>(
+    rt: &R,
+    office: Office<L, M>,
+    ran: Vec<Ran<L, M>>,
+    readers: &mut Readers<L>,
+) -> Result<()> {
+    match come_back(rt.alloc(), ran, readers) {
+        Ok((desks, told)) => {
+            let core = all_came(rt, office.finish(rt, desks))?;
+            let compared = compare_end(rt, &core, &told, readers);
+            drop(core);
+            drop(told);
+            compared
+        }
+        Err(error) => give_up(rt, office, error),
+    }
+}
+
+/// Four desks that take their rounds in an office of their own.
+pub(crate) fn take_rounds<
+    L: Ledger + Naming + Send + Sync,
+    M: Ledger + Send + Sync,
+    R: Threads + Wait + Sync + Print + AllocGlobal,
+>(rt: &R, press: Press, steps: Blank, receipts: Blank, way: Way) -> Result<()>
+    requires book { press.seen.book ≡ L.book }
+    requires steps { (steps.name ≡ L.name) × (steps.parts ≡ L.parts) × (steps.parts ≡ 4) }
+    requires receipts { (receipts.name ≡ M.name) × (receipts.parts ≡ M.parts) × (receipts.parts ≡ 4) }
+{
+    let opened = Office::<L, M>::open(rt, rt.alloc(), press, 4, 1, steps, receipts)?;
+    let Opened {
+        office,
+        desks,
+        reviewers,
+    } = opened;
+    let mut readers = Readers::of(rt.alloc(), reviewers);
+    let ended = match run_rounds(rt, &office, desks, way) {
+        Ok(ran) => end_crowd(rt, office, ran, &mut readers),
+        Err(error) => give_up(rt, office, error),
+    };
+    drop(readers);
+    ended
 }

@@ -1,7 +1,7 @@
 //! Lists in pages beside plain ones.
 
 use crate::pages::item::Item;
-use crate::pages::lists::{Edit, change, changes_of, filled, is_found, make_edits, spaced};
+use crate::pages::lists::{built, change, spaced};
 use crate::seen::Seen;
 use anyhow::Result;
 use sorted_pages::{Change, Paged};
@@ -105,7 +105,7 @@ impl Both {
     /// Both of the keys up to a number.
     fn filled(alloc: Global, count: u64) -> Result<Both, AllocError> {
         let plain = spaced(alloc, 0, 1, count)?;
-        let list = filled(alloc, count)?;
+        let list = built(alloc, spaced(alloc, 0, 1, count)?)?;
         Ok(Both { list, plain })
     }
 
@@ -121,24 +121,6 @@ impl Both {
         change_all(&mut self.plain, &changes)?;
         change(alloc, &mut self.list, &changes)?;
         self.is_same(alloc)
-    }
-
-    /// Changes the list, once more where want of memory refused it. Whether that left it as it was.
-    fn change_list(&mut self, alloc: Global, changes: &[Change<Item>]) -> Result<bool, AllocError> {
-        if change(alloc, &mut self.list, changes).is_ok() {
-            return Ok(true);
-        }
-        let is_left = self.is_same(alloc)?;
-        change(alloc, &mut self.list, changes)?;
-        Ok(is_left)
-    }
-
-    /// Removes keys of both, and compares them.
-    fn remove(&mut self, alloc: Global, edits: &[Edit]) -> Result<bool, AllocError> {
-        let changes = changes_of(alloc, edits)?;
-        let is_left = self.change_list(alloc, &changes)?;
-        change_all(&mut self.plain, &changes)?;
-        Ok(is_left && self.is_same(alloc)?)
     }
 }
 
@@ -157,35 +139,4 @@ pub(crate) fn compare_rounds<R: Print + AllocGlobal>(rt: &R) -> Result<u64> {
     let differing = take_rounds(rt, &mut both);
     drop(both);
     differing
-}
-
-/// Whether a refused change leaves the list, and is made when it is asked for again.
-fn is_removed(alloc: Global) -> Result<bool, AllocError> {
-    let mut both = Both::filled(alloc, 200)?;
-    let is_removed = both.remove(alloc, &[Edit::Remove(100, 180)]);
-    drop(both);
-    is_removed
-}
-
-/// Puts a new key in place of an old one. Whether the new one is found then, and the old one is not.
-fn move_key(alloc: Global, list: &mut Paged<Item>) -> Result<bool, AllocError> {
-    make_edits(alloc, list, &[Edit::Remove(0, 1), Edit::Put(1, 2)])?;
-    Ok(is_found(list, 1) && list.get(&Item::new(0)).is_none())
-}
-
-/// Whether a new key is found, and a removed one is not.
-fn is_moved(alloc: Global) -> Result<bool, AllocError> {
-    let mut list = filled(alloc, 1)?;
-    let is_moved = move_key(alloc, &mut list);
-    drop(list);
-    is_moved
-}
-
-pub(crate) fn compare_removals<R: Print + AllocGlobal>(rt: &R) -> Result<u64> {
-    let mut seen = Seen::new();
-    let is_same = is_moved(rt.alloc())?;
-    seen.note(rt, "a new key in place of an old one", is_same)?;
-    let is_same = is_removed(rt.alloc())?;
-    seen.note(rt, "a removal of many keys", is_same)?;
-    seen.tell(rt, "removals")
 }

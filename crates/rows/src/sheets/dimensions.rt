@@ -1,6 +1,6 @@
 //! Dimension sets, and the prefixes of a report.
 
-use crate::sheets::question::{named, owned_at, parts};
+use crate::question::{named, owned_at, parts};
 use anyhow::Result;
 use filing_cli::bad_fact_reply;
 use oim_fact::{DimSet, Names, NumericTable};

@@ -1,8 +1,8 @@
 //! Reports that are read, and written again.
 
+use crate::question::{parts, text_at};
 use crate::sheets::dimensions::lookups;
 use crate::sheets::facts::push_value;
-use crate::sheets::question::{parts, text_at};
 use anyhow::Result;
 use filing_cli::bad_report_reply;
 use oim_fact::{Allowed, NumericTable};
@@ -15,10 +15,7 @@ use std::alloc::{AllocError, Global};
 use std::sync::Arc;
 
 /// Whether a report was read, or the reply that refuses it.
-pub(crate) fn told(
-    alloc: Global,
-    answer: Result<Report, ReportFault>,
-) -> Result<String, AllocError> {
+fn told(alloc: Global, answer: Result<Report, ReportFault>) -> Result<String, AllocError> {
     match answer {
         Ok(report) => {
             drop(report);
@@ -33,42 +30,41 @@ pub(crate) fn told(
 }
 
 /// The same of a value, looked at and taken apart.
-pub(crate) fn both_told(
+fn both_told(
     alloc: Global,
-    value: Value,
+    value: &Value,
     table: &Arc<NumericTable>,
 ) -> Result<(String, String), AllocError> {
-    match told(alloc, report_of(alloc, &value, table)) {
-        Ok(looked_at) => Ok((looked_at, told(alloc, report_from(alloc, value, table))?)),
-        Err(error) => {
-            drop(value);
-            Err(error)
-        }
-    }
+    let looked_at = told(alloc, report_of(alloc, value, table))?;
+    let taken_apart = told(alloc, report_from(alloc, value.clone()?, table))?;
+    Ok((looked_at, taken_apart))
 }
 
-/// The same of the value of a text. Nothing is told where both are as they were of the text.
+/// What was told of a text, and what is told of its value where that is something else.
 fn told_by_value(
     alloc: Global,
-    value: Value,
+    by_text: String,
+    value: &Value,
     table: &Arc<NumericTable>,
-    by_text: &str,
 ) -> Result<String, AllocError> {
     let (looked_at, taken_apart) = both_told(alloc, value, table)?;
-    if looked_at.as_str() == by_text && taken_apart.as_str() == by_text {
-        return Ok(String::new(alloc));
+    if looked_at == by_text && taken_apart == by_text {
+        return Ok(by_text);
     }
-    format!(in alloc; ", but {looked_at} and {taken_apart} by its value")
+    format!(in alloc; "{by_text}, but {looked_at} and {taken_apart} by its value")
 }
 
 /// How a text is read: whole, and by its value, where it is JSON.
 fn reading(alloc: Global, text: &[u8], table: &Arc<NumericTable>) -> Result<String, AllocError> {
-    let mut all = told(alloc, read_report(alloc, text, table))?;
-    if let Some(value) = json_value(alloc, text)? {
-        let others = told_by_value(alloc, value, table, &all)?;
-        all.push_str(&others)?;
+    let by_text = told(alloc, read_report(alloc, text, table))?;
+    match json_value(alloc, text)? {
+        Some(value) => {
+            let told = told_by_value(alloc, by_text, &value, table);
+            drop(value);
+            told
+        }
+        None => Ok(by_text),
     }
-    Ok(all)
 }
 
 /// How a report is read, which is the line or the text that the line is.
@@ -137,54 +133,37 @@ fn is_written_as(alloc: Global, report: Report, text: &str) -> Result<bool, Allo
     Ok(written?.as_str() == text)
 }
 
-/// Whether a text is written of the report that is made of the parts of a clone.
-fn is_written_so(alloc: Global, text: &str, report: &Report) -> Result<bool, AllocError> {
+/// Whether a text is what is written of the report that its value is, looked at and taken apart.
+fn is_read_so(alloc: Global, text: &str, value: &Value, table: &Arc<NumericTable>) -> Result<bool> {
+    let looked_at = report_of(alloc, value, table)?;
+    if !is_written_as(alloc, looked_at, text)? {
+        return Ok(false);
+    }
+    let taken_apart = report_from(alloc, value.clone()?, table)?;
+    Ok(is_written_as(alloc, taken_apart, text)?)
+}
+
+/// Whether a text is written of the parts of a report's clone, and of the report that its own value is.
+fn is_written_again(
+    alloc: Global,
+    text: &str,
+    report: &Report,
+    table: &Arc<NumericTable>,
+) -> Result<bool> {
     let again = Report::of(report.clone()?.into_parts());
-    is_written_as(alloc, again, text)
-}
-
-/// Whether a text is what is written of the report that a value is.
-fn is_of_value(
-    alloc: Global,
-    text: &str,
-    value: &Value,
-    table: &Arc<NumericTable>,
-) -> Result<bool> {
-    let report = report_of(alloc, value, table)?;
-    Ok(is_written_as(alloc, report, text)?)
-}
-
-/// The same, where the value is taken apart too.
-fn is_from_value(
-    alloc: Global,
-    text: &str,
-    value: Value,
-    table: &Arc<NumericTable>,
-) -> Result<bool> {
-    match is_of_value(alloc, text, &value, table) {
-        Ok(true) => {
-            let report = report_from(alloc, value, table)?;
-            Ok(is_written_as(alloc, report, text)?)
-        }
-        other => {
-            drop(value);
-            other
-        }
+    if !is_written_as(alloc, again, text)? {
+        return Ok(false);
     }
-}
-
-/// Whether a text is what is written of the report that its value is.
-fn is_read_so(alloc: Global, text: &str, table: &Arc<NumericTable>) -> Result<bool> {
-    match json_value(alloc, text.as_bytes())? {
-        Some(value) => is_from_value(alloc, text, value, table),
-        None => Ok(false),
-    }
+    let value = json_value(alloc, text.as_bytes())?.unwrap_or(Value::Null);
+    let is_read_so = is_read_so(alloc, text, &value, table);
+    drop(value);
+    is_read_so
 }
 
 /// What is written of a report, where the same is written of its parts, and of the report that its own value is.
 fn written_again(alloc: Global, report: &Report, table: &Arc<NumericTable>) -> Result<String> {
     let text = write_report(alloc, report)?;
-    if is_written_so(alloc, &text, report)? && is_read_so(alloc, &text, table)? {
+    if is_written_again(alloc, &text, report, table)? {
         return Ok(text);
     }
     Ok(String::from_str(alloc, "another text the second time")?)

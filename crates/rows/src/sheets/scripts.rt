@@ -2,7 +2,7 @@
 
 use crate::lines::{ends_in, is_end, push_line};
 use crate::memory::{Ran, run_over};
-use crate::sheets::sheet::Sheet;
+use crate::sheet::Sheet;
 use anyhow::Result;
 use filing_cli::{ScriptFault, is_blank};
 use filing_core::Core;

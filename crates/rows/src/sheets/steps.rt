@@ -5,8 +5,8 @@ ghost use Rattle.filing_step.specs.Steps.{step_of};
 ghost use Rattle.filing_core.specs.Prepared.{is_load_or_commit};
 
 use crate::lines::is_end;
+use crate::question::{number_at, text_at};
 use crate::sheets::asked_steps::{step_of, step_word};
-use crate::sheets::question::text_at;
 use anyhow::Result;
 use filing_cli::reply_text;
 use filing_core::{Core, CoreFault, Entry, Reply, Step};
@@ -28,9 +28,12 @@ pub(crate) enum Taking {
 /// What a question is answered as a step; none where it is no step.
 type Answer = Option<Result<Reply, CoreFault>>;
 
-/// What a step that is not taken leaves as it was, as far as it is told in numbers.
-fn state(core: &Core) -> (usize, u64) {
-    (core.history().len(), core.current().number())
+/// A core that answers questions, and the numeric table by which they are read.
+#[derive(Drop)]
+struct Asked<'a> {
+    core: Core,
+    table: &'a Arc<NumericTable>,
+    taking: Taking,
 }
 
 fn is_load_or_commit(step: &Step) -> bool
@@ -39,84 +42,9 @@ fn is_load_or_commit(step: &Step) -> bool
     matches!(step, Step::Load(_, _) | Step::Commit)
 }
 
-/// Whether a version was made ready exactly where the reply tells of one, and is current.
-fn is_as_told(core: &Core, made: Option<u64>, reply: &Reply) -> bool {
-    match reply {
-        Reply::Loaded(number) | Reply::Committed(number) => {
-            made == Some(*number) && core.current().number() == *number
-        }
-        _ => made.is_none(),
-    }
-}
-
-/// Takes a load or a commit in two parts. The reply is one that neither has where the version made ready is not as it tells.
-fn take_parts(
-    alloc: Global,
-    core: &mut Core,
-    session: Option<u64>,
-    step: Step,
-) -> Result<Reply, CoreFault>
-    requires { is_load_or_commit (step_of step) ≡ true }
-{
-    let prepared = core.prepare(alloc, session, step)?;
-    let made = prepared.next().map(|version| version.number());
-    let reply = core.settle(prepared);
-    if is_as_told(core, made, &reply) {
-        Ok(reply)
-    } else {
-        drop(reply);
-        Ok(Reply::Absent)
-    }
-}
-
-fn take(
-    alloc: Global,
-    core: &mut Core,
-    taking: Taking,
-    session: Option<u64>,
-    step: Step,
-) -> Result<Reply, CoreFault> {
-    if taking == Taking::InParts && is_load_or_commit(&step) {
-        take_parts(alloc, core, session, step)
-    } else {
-        core.step(alloc, session, step)
-    }
-}
-
 /// The session of a question.
 fn session_of(question: &Value) -> Option<u64> {
     question.get(0usize)?.as_u64()
-}
-
-/// Takes the step of a question.
-fn once(
-    alloc: Global,
-    core: &mut Core,
-    table: &Arc<NumericTable>,
-    taking: Taking,
-    question: &Value,
-) -> Result<Answer> {
-    match step_of(alloc, table, question)? {
-        Some(step) => Ok(Some(take(alloc, core, taking, session_of(question), step))),
-        None => Ok(None),
-    }
-}
-
-/// Makes a load or a commit ready, and lets it go.
-fn let_go(
-    alloc: Global,
-    core: &mut Core,
-    table: &Arc<NumericTable>,
-    question: &Value,
-) -> Result<()> {
-    if let Some(step) = step_of(alloc, table, question)? {
-        if is_load_or_commit(&step) {
-            drop(core.prepare(alloc, session_of(question), step));
-        } else {
-            drop(step);
-        }
-    }
-    Ok(())
 }
 
 /// The line of a reply, which is let go.
@@ -136,78 +64,12 @@ fn told(alloc: Global, answer: Answer) -> Result<String> {
     }
 }
 
-/// Takes the step of a question. Where it is not taken it is to change nothing, and where memory was wanted for it, it is taken again.
-fn answer_once_more(
-    alloc: Global,
-    core: &mut Core,
-    table: &Arc<NumericTable>,
-    taking: Taking,
-    question: &Value,
-) -> Result<String> {
-    let before = state(core);
-    let answer = once(alloc, core, table, taking, question)?;
-    if !matches!(answer, Some(Ok(_))) && state(core) != before {
-        drop(answer);
-        return Ok(String::from_str(alloc, "changed where nothing was to change")?);
-    }
-    if matches!(answer, Some(Err(CoreFault::NoMemory))) {
-        drop(answer);
-        return told(alloc, once(alloc, core, table, taking, question)?);
-    }
-    told(alloc, answer)
-}
-
-/// The answer to a step. What is made ready and let go is to change nothing.
-fn step_answer(
-    alloc: Global,
-    core: &mut Core,
-    table: &Arc<NumericTable>,
-    taking: Taking,
-    question: &Value,
-) -> Result<String> {
-    if taking == Taking::InParts {
-        let before = state(core);
-        let_go(alloc, core, table, question)?;
-        if state(core) != before {
-            return Ok(String::from_str(alloc, "changed by what was let go")?);
-        }
-    }
-    answer_once_more(alloc, core, table, taking, question)
-}
-
 /// The session, the step and the reply of an entry.
 fn entry_text(alloc: Global, entry: &Entry) -> Result<String> {
     let word = step_word(&entry.step);
     let session = entry.session;
     let reply = reply_text(alloc, &entry.reply)?;
     Ok(format!(in alloc; "{session:?} {word} {reply}")?)
-}
-
-/// The fact of a report under an identifier, as it is written.
-fn held(alloc: Global, core: &Core, report: &str, id: &str) -> Result<String> {
-    match core.current().get(report, id) {
-        Got::NoReport => Ok(String::from_str(alloc, "no report")?),
-        Got::Absent => Ok(String::from_str(alloc, "none")?),
-        Got::Found(fact) => Ok(write_fact(alloc, fact)?),
-    }
-}
-
-/// What a core tells of itself.
-fn look(alloc: Global, core: &Core, question: &Value) -> Result<String> {
-    match text_at(question, 0) {
-        "entry" => {
-            let place = question.get(1usize).and_then(Value::as_u64).unwrap_or(0) as usize;
-            match core.history().get(place) {
-                Some(entry) => entry_text(alloc, entry),
-                None => Ok(String::from_str(alloc, "none")?),
-            }
-        }
-        "held" => held(alloc, core, text_at(question, 1), text_at(question, 2)),
-        _ => {
-            let (entries, number) = state(core);
-            Ok(format!(in alloc; "{entries} entries, version {number}")?)
-        }
-    }
 }
 
 /// The line of a reply with this number.
@@ -217,53 +79,143 @@ fn numbered(alloc: Global, number: u64) -> Result<String> {
     Ok(format!(in alloc; "{committed} {loaded}")?)
 }
 
-/// The answer to a question, which is a step, a word by which the core is looked at, or a number of a version.
-fn answer_to(
-    alloc: Global,
-    core: &mut Core,
-    table: &Arc<NumericTable>,
-    taking: Taking,
-    question: &Value,
-) -> Result<String> {
-    match (question.as_u64(), question.get(0usize)) {
-        (Some(number), _) => numbered(alloc, number),
-        (None, Some(Value::String(_))) => look(alloc, core, question),
-        _ => step_answer(alloc, core, table, taking, question),
+impl Asked<'_> {
+    /// What a step that is not taken leaves as it was, as far as it is told in numbers.
+    fn state(&self) -> (usize, u64) {
+        (self.core.history().len(), self.core.current().number())
     }
-}
 
-/// The answer to the question of a line, where it is one.
-fn line_answer(
-    alloc: Global,
-    core: &mut Core,
-    table: &Arc<NumericTable>,
-    taking: Taking,
-    line: &[u8],
-) -> Result<Option<String>> {
-    let Some(question) = json_value(alloc, line)? else {
-        return Ok(None);
-    };
-    let answer = answer_to(alloc, core, table, taking, &question);
-    drop(question);
-    Ok(Some(answer?))
-}
-
-/// The answers of a core to questions.
-fn answers_of(
-    alloc: Global,
-    core: &mut Core,
-    table: &Arc<NumericTable>,
-    taking: Taking,
-    lines: &[u8],
-) -> Result<String> {
-    let mut told = String::new(alloc);
-    for line in lines.split(is_end) {
-        if let Some(answer) = line_answer(alloc, core, table, taking, line)? {
-            told.push_str(&answer)?;
-            told.push_str("\n")?;
+    /// Whether a version was made ready exactly where the reply tells of one, and is current.
+    fn is_as_told(&self, made: Option<u64>, reply: &Reply) -> bool {
+        match reply {
+            Reply::Loaded(number) | Reply::Committed(number) => {
+                made == Some(*number) && self.core.current().number() == *number
+            }
+            _ => made.is_none(),
         }
     }
-    Ok(told)
+
+    /// Takes a load or a commit in two parts. The reply is one that neither has where the version made ready is not as it tells.
+    fn take_parts(
+        &mut self,
+        alloc: Global,
+        session: Option<u64>,
+        step: Step,
+    ) -> Result<Reply, CoreFault>
+        requires { is_load_or_commit (step_of step) ≡ true }
+    {
+        let prepared = self.core.prepare(alloc, session, step)?;
+        let made = prepared.next().map(|version| version.number());
+        let reply = self.core.settle(prepared);
+        if self.is_as_told(made, &reply) {
+            Ok(reply)
+        } else {
+            drop(reply);
+            Ok(Reply::Absent)
+        }
+    }
+
+    /// Takes the step of a question.
+    fn take(&mut self, alloc: Global, question: &Value) -> Result<Answer> {
+        let session = session_of(question);
+        match step_of(alloc, self.table, question)? {
+            Some(step) if self.taking == Taking::InParts && is_load_or_commit(&step) => {
+                Ok(Some(self.take_parts(alloc, session, step)))
+            }
+            Some(step) => Ok(Some(self.core.step(alloc, session, step))),
+            None => Ok(None),
+        }
+    }
+
+    /// Makes a load or a commit ready, and lets it go.
+    fn let_go(&mut self, alloc: Global, question: &Value) -> Result<()> {
+        match step_of(alloc, self.table, question)? {
+            Some(step) if is_load_or_commit(&step) => {
+                drop(self.core.prepare(alloc, session_of(question), step));
+            }
+            other => drop(other),
+        }
+        Ok(())
+    }
+
+    /// The answer to a step. Where it is not taken it is to change nothing, and where memory was wanted for it, it is taken again.
+    fn once_more(&mut self, alloc: Global, question: &Value) -> Result<String> {
+        let before = self.state();
+        let answer = self.take(alloc, question)?;
+        if !matches!(answer, Some(Ok(_))) && self.state() != before {
+            drop(answer);
+            return Ok(String::from_str(alloc, "changed where nothing was to change")?);
+        }
+        if matches!(answer, Some(Err(CoreFault::NoMemory))) {
+            drop(answer);
+            return told(alloc, self.take(alloc, question)?);
+        }
+        told(alloc, answer)
+    }
+
+    /// The answer to a step. What is made ready and let go is to change nothing.
+    fn step(&mut self, alloc: Global, question: &Value) -> Result<String> {
+        if self.taking == Taking::InParts {
+            let before = self.state();
+            self.let_go(alloc, question)?;
+            if self.state() != before {
+                return Ok(String::from_str(alloc, "changed by what was let go")?);
+            }
+        }
+        self.once_more(alloc, question)
+    }
+
+    /// The fact of a report under an identifier, as it is written.
+    fn held(&self, alloc: Global, report: &str, id: &str) -> Result<String> {
+        match self.core.current().get(report, id) {
+            Got::NoReport => Ok(String::from_str(alloc, "no report")?),
+            Got::Absent => Ok(String::from_str(alloc, "none")?),
+            Got::Found(fact) => Ok(write_fact(alloc, fact)?),
+        }
+    }
+
+    /// The entry at a place, as it is written.
+    fn entry(&self, alloc: Global, place: usize) -> Result<String> {
+        match self.core.history().get(place) {
+            Some(entry) => entry_text(alloc, entry),
+            None => Ok(String::from_str(alloc, "none")?),
+        }
+    }
+
+    /// What a core tells of itself.
+    fn look(&self, alloc: Global, question: &Value) -> Result<String> {
+        match text_at(question, 0) {
+            "entry" => self.entry(alloc, number_at(question, 1)),
+            "held" => self.held(alloc, text_at(question, 1), text_at(question, 2)),
+            _ => {
+                let (entries, number) = self.state();
+                Ok(format!(in alloc; "{entries} entries, version {number}")?)
+            }
+        }
+    }
+
+    /// The answer to a question, which is a step, a word by which the core is looked at, or a number of a version.
+    fn answer(&mut self, alloc: Global, question: &Value) -> Result<String> {
+        match (question.as_u64(), question.get(0usize)) {
+            (Some(number), _) => numbered(alloc, number),
+            (None, Some(Value::String(_))) => self.look(alloc, question),
+            _ => self.step(alloc, question),
+        }
+    }
+
+    /// The answers to the questions of lines.
+    fn answers(&mut self, alloc: Global, lines: &[u8]) -> Result<String> {
+        let mut told = String::new(alloc);
+        for line in lines.split(is_end) {
+            if let Some(question) = json_value(alloc, line)? {
+                let answer = self.answer(alloc, &question);
+                drop(question);
+                told.push_str(&answer?)?;
+                told.push_str("\n")?;
+            }
+        }
+        Ok(told)
+    }
 }
 
 /// The answers of a new core to questions.
@@ -273,8 +225,13 @@ pub(crate) fn steps_answers(
     taking: Taking,
     lines: &[u8],
 ) -> Result<String> {
-    let mut core = Core::new(alloc)?;
-    let told = answers_of(alloc, &mut core, table, taking, lines);
-    drop(core);
+    let core = Core::new(alloc)?;
+    let mut asked = Asked {
+        core,
+        table,
+        taking,
+    };
+    let told = asked.answers(alloc, lines);
+    drop(asked);
     told
 }

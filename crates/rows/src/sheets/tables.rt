@@ -1,6 +1,6 @@
 //! Numeric tables of their texts.
 
-use crate::sheets::question::{parts, text_at};
+use crate::question::{parts, text_at};
 use anyhow::Result;
 use oim_fact::NumericTable;
 use oim_report::{TableFault, read_table};

@@ -6,7 +6,7 @@
 
 ghost use Rattle.std.specs.Prelude.{◌≡◌};
 
-use crate::lines::is_end;
+use crate::lines::{is_end, push_line};
 use crate::threads::runs::replies_alone;
 use anyhow::Result;
 use filing_cli::is_blank;
@@ -210,98 +210,117 @@ fn last_reply(replies: &[u8]) -> &[u8] {
     whole.rsplit(is_end).next().unwrap_or(whole)
 }
 
-/// All lines up to this one, where it is told after them what it is told.
-fn lines_up_to(
-    alloc: Global,
-    table: &Arc<NumericTable>,
-    taken: &[Taken],
-    told: &Told<'_>,
-) -> Result<Option<Vec<u8>>> {
-    let mut lines = match taken.last() {
-        Some(last) => Vec::from_slice(alloc, &last.lines)?,
-        None => Vec::new(alloc),
-    };
-    lines.extend_from_slice(&told.line)?;
-    lines.extend_from_slice(b"\n")?;
-    let replies = replies_alone(alloc, table, &lines)?;
-    if last_reply(&replies) == told.reply {
-        Ok(Some(lines))
-    } else {
-        Ok(None)
-    }
-}
-
-/// How many lines of a script were taken.
-fn count_taken(taken: &[Taken], script: usize) -> usize {
-    let mut count = 0usize;
-    for one in taken {
-        if one.script == script {
-            count = count.saturating_add(1);
-        }
-    }
-    count
-}
-
-/// The first line of a script that was not taken.
-fn line_left<'a, 'b>(
-    all: &'a [Vec<Told<'b>>],
-    taken: &[Taken],
-    script: usize,
-) -> Option<&'a Told<'b>> {
-    all.get(script)?.get(count_taken(taken, script))
-}
-
 /// How the line that is told so meets others.
 fn meeting_in(told: Option<&Told<'_>>) -> Option<Meeting> {
     Some(told?.meeting)
 }
 
-/// The scripts from a place on from which the next line may be: one alone where its line meets no other script's.
-fn next_scripts(all: &[Vec<Told<'_>>], taken: &[Taken], from: usize) -> Range<usize> {
-    for script in 0..all.len() {
-        if meeting_in(line_left(all, taken, script)) == Some(Meeting::Never) {
-            return script.max(from)..script.saturating_add(1);
-        }
-    }
-    from..all.len()
+/// A search for an order of all lines: those that were taken, the script from which on the next may be, and the states after which nothing could follow.
+#[derive(Drop)]
+struct Search<'a> {
+    table: &'a Arc<NumericTable>,
+    all: Vec<Vec<Told<'a>>>,
+    taken: Vec<Taken>,
+    from: usize,
+    dead: Vec<Vec<u64>>,
 }
 
-/// The next line, of the first script from a place on of which one can be taken.
-fn next_taken(
-    alloc: Global,
-    table: &Arc<NumericTable>,
-    all: &[Vec<Told<'_>>],
-    taken: &[Taken],
-    from: usize,
-) -> Result<Option<Taken>> {
-    for script in next_scripts(all, taken, from) {
-        if let Some(told) = line_left(all, taken, script) {
-            if let Some(lines) = lines_up_to(alloc, table, taken, told)? {
-                let place = count_taken(taken, script);
-                return Ok(Some(Taken {
-                    script,
-                    place,
-                    lines,
-                }));
+impl<'a> Search<'a> {
+    /// A search among the lines of scripts that has taken none.
+    fn of(alloc: Global, table: &'a Arc<NumericTable>, all: Vec<Vec<Told<'a>>>) -> Search<'a> {
+        Search {
+            table,
+            all,
+            taken: Vec::new(alloc),
+            from: 0,
+            dead: Vec::new(alloc),
+        }
+    }
+
+    /// How many lines there are.
+    fn count(&self) -> usize {
+        let mut count = 0usize;
+        for lines in &self.all {
+            count = count.saturating_add(lines.len());
+        }
+        count
+    }
+
+    /// How many lines of a script were taken.
+    fn count_taken(&self, script: usize) -> usize {
+        let mut count = 0usize;
+        for one in &self.taken {
+            if one.script == script {
+                count = count.saturating_add(1);
             }
         }
+        count
     }
-    Ok(None)
-}
 
-/// How a line that was taken meets others.
-fn meeting_at(all: &[Vec<Told<'_>>], one: &Taken) -> Option<Meeting> {
-    meeting_in(all.get(one.script)?.get(one.place))
-}
+    /// The first line of a script that was not taken.
+    fn line_left(&self, script: usize) -> Option<&Told<'a>> {
+        self.all.get(script)?.get(self.count_taken(script))
+    }
 
-/// How far each script is, and at which version each of its sessions was opened.
-fn state_of(alloc: Global, all: &[Vec<Told<'_>>], taken: &[Taken]) -> Result<Vec<u64>, AllocError> {
-    let mut state = Vec::new(alloc);
-    for script in 0..all.len() {
-        let mut own = 0usize;
+    /// The scripts from which the next line may be: one alone where its line meets no other script's.
+    fn next_scripts(&self) -> Range<usize> {
+        for script in 0..self.all.len() {
+            if meeting_in(self.line_left(script)) == Some(Meeting::Never) {
+                return script.max(self.from)..script.saturating_add(1);
+            }
+        }
+        self.from..self.all.len()
+    }
+
+    /// All lines that were taken, and this one.
+    fn lines_with(&self, alloc: Global, told: &Told<'_>) -> Result<Vec<u8>, AllocError> {
+        let mut lines = match self.taken.last() {
+            Some(last) => Vec::from_slice(alloc, &last.lines)?,
+            None => Vec::new(alloc),
+        };
+        push_line(&mut lines, &told.line)?;
+        Ok(lines)
+    }
+
+    /// All lines up to this one, where it is told after them what it is told.
+    fn lines_up_to(&self, alloc: Global, told: &Told<'_>) -> Result<Option<Vec<u8>>> {
+        let lines = self.lines_with(alloc, told)?;
+        let replies = replies_alone(alloc, self.table, &lines)?;
+        if last_reply(&replies) == told.reply {
+            Ok(Some(lines))
+        } else {
+            Ok(None)
+        }
+    }
+
+    /// The next line, of the first script of which one can be taken.
+    fn next_taken(&self, alloc: Global) -> Result<Option<Taken>> {
+        for script in self.next_scripts() {
+            if let Some(told) = self.line_left(script) {
+                if let Some(lines) = self.lines_up_to(alloc, told)? {
+                    let place = self.count_taken(script);
+                    return Ok(Some(Taken {
+                        script,
+                        place,
+                        lines,
+                    }));
+                }
+            }
+        }
+        Ok(None)
+    }
+
+    /// How a line that was taken meets others.
+    fn meeting_at(&self, one: &Taken) -> Option<Meeting> {
+        meeting_in(self.all.get(one.script)?.get(one.place))
+    }
+
+    /// Appends at which version each session of a script was opened, and how far the script is.
+    fn push_state(&self, state: &mut Vec<u64>, script: usize) -> Result<(), AllocError> {
+        let mut own = 0u64;
         let mut version = 0u64;
-        for one in taken {
-            let meeting = meeting_at(all, one);
+        for one in &self.taken {
+            let meeting = self.meeting_at(one);
             if meeting == Some(Meeting::Makes) {
                 version = version.saturating_add(1);
             }
@@ -313,41 +332,30 @@ fn state_of(alloc: Global, all: &[Vec<Told<'_>>], taken: &[Taken]) -> Result<Vec
             }
         }
         // How far it is ends what is known of a script, and is no number of a version.
-        state.push(u64::MAX - own as u64)?;
+        Ok(state.push(u64::MAX - own)?)
     }
-    Ok(state)
-}
 
-/// The order in which lines were taken.
-fn order_of(alloc: Global, taken: &[Taken]) -> Result<Order, AllocError> {
-    let mut scripts = Vec::with_capacity(alloc, taken.len())?;
-    for one in taken {
-        scripts.push(one.script)?;
+    /// How far each script is, and at which version each of its sessions was opened.
+    fn state(&self, alloc: Global) -> Result<Vec<u64>, AllocError> {
+        let mut state = Vec::new(alloc);
+        for script in 0..self.all.len() {
+            self.push_state(&mut state, script)?;
+        }
+        Ok(state)
     }
-    Ok(Order { scripts })
-}
 
-/// How many lines there are.
-fn count_of(all: &[Vec<Told<'_>>]) -> usize {
-    let mut count = 0usize;
-    for lines in all {
-        count = count.saturating_add(lines.len());
+    /// The order in which lines were taken.
+    fn order(&self, alloc: Global) -> Result<Order, AllocError> {
+        let mut scripts = Vec::with_capacity(alloc, self.taken.len())?;
+        for one in &self.taken {
+            scripts.push(one.script)?;
+        }
+        Ok(Order { scripts })
     }
-    count
-}
 
-/// A search for an order: the lines that were taken, the script from which on the next may be, and the states after which nothing could follow.
-#[derive(Drop)]
-struct Search {
-    taken: Vec<Taken>,
-    from: usize,
-    dead: Vec<Vec<u64>>,
-}
-
-impl Search {
     /// Whether something may follow the lines that were taken, as far as it is known.
-    fn is_alive(&self, alloc: Global, all: &[Vec<Told<'_>>]) -> Result<bool, AllocError> {
-        let state = state_of(alloc, all, &self.taken)?;
+    fn is_alive(&self, alloc: Global) -> Result<bool, AllocError> {
+        let state = self.state(alloc)?;
         for one in &self.dead {
             if *one == state {
                 return Ok(false);
@@ -368,58 +376,37 @@ impl Search {
     }
 
     /// Takes a line, and gives it back where nothing can follow it.
-    fn take(&mut self, alloc: Global, all: &[Vec<Told<'_>>], next: Taken) -> Result<bool> {
+    fn take(&mut self, alloc: Global, next: Taken) -> Result<bool> {
         self.taken.push(next)?;
         self.from = 0;
-        Ok(self.is_alive(alloc, all)? || self.give_back())
+        Ok(self.is_alive(alloc)? || self.give_back())
     }
 
     /// Takes the next line, or gives the last one back. Whether the search goes on.
-    fn turn(
-        &mut self,
-        alloc: Global,
-        table: &Arc<NumericTable>,
-        all: &[Vec<Told<'_>>],
-    ) -> Result<bool> {
-        match next_taken(alloc, table, all, &self.taken, self.from)? {
-            Some(next) => self.take(alloc, all, next),
+    fn turn(&mut self, alloc: Global) -> Result<bool> {
+        match self.next_taken(alloc)? {
+            Some(next) => self.take(alloc, next),
             None => {
-                self.dead.push(state_of(alloc, all, &self.taken)?)?;
+                let state = self.state(alloc)?;
+                self.dead.push(state)?;
                 Ok(self.give_back())
             }
         }
     }
 
     /// Looks through orders.
-    fn find(
-        &mut self,
-        alloc: Global,
-        table: &Arc<NumericTable>,
-        all: &[Vec<Told<'_>>],
-    ) -> Result<Finding> {
-        let count = count_of(all);
+    fn find(&mut self, alloc: Global) -> Result<Finding> {
+        let count = self.count();
         for _ in 0..MOST_TRIES {
             if self.taken.len() == count {
-                return Ok(Finding::Explained(order_of(alloc, &self.taken)?));
+                return Ok(Finding::Explained(self.order(alloc)?));
             }
-            if !self.turn(alloc, table, all)? {
+            if !self.turn(alloc)? {
                 return Ok(Finding::Unexplained);
             }
         }
         Ok(Finding::Undecided)
     }
-}
-
-/// Looks for an order that explains what the lines of scripts are told.
-fn found(alloc: Global, table: &Arc<NumericTable>, all: &[Vec<Told<'_>>]) -> Result<Finding> {
-    let mut search = Search {
-        taken: Vec::new(alloc),
-        from: 0,
-        dead: Vec::new(alloc),
-    };
-    let finding = search.find(alloc, table, all);
-    drop(search);
-    finding
 }
 
 /// Looks for an order that explains what scripts are told.
@@ -431,8 +418,9 @@ pub(crate) fn explanation(
 ) -> Result<Finding> {
     match told_lines(alloc, scripts, replies)? {
         Some(all) => {
-            let finding = found(alloc, table, &all);
-            drop(all);
+            let mut search = Search::of(alloc, table, all);
+            let finding = search.find(alloc);
+            drop(search);
             finding
         }
         None => Ok(Finding::Unexplained),

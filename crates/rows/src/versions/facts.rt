@@ -1,6 +1,6 @@
 //! The facts of which rows and drawn lines speak, by their names.
 
-use anyhow::Result;
+use anyhow::{Result, anyhow};
 use oim_fact::{Fact, Names, NumericTable, RawFact, fit};
 use oim_report::{json_value, raw_fact, read_report, read_table};
 use serde_json::Value;
@@ -80,12 +80,12 @@ impl Pool {
     }
 
     /// The fact of this name.
-    pub(crate) fn find(&self, name: &str) -> Option<&Named> {
+    pub(crate) fn find(&self, name: &str) -> Result<&Named> {
         for named in &self.facts {
             if named.name.as_str() == name {
-                return Some(named);
+                return Ok(named);
             }
         }
-        None
+        Err(anyhow!("there is no fact {name}"))
     }
 }

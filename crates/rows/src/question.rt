@@ -28,6 +28,11 @@ pub(crate) fn owned_at(
     String::from_str(alloc, text_at(question, place))
 }
 
+/// The number at a place, or 0.
+pub(crate) fn number_at(question: &Value, place: usize) -> usize {
+    question.get(place).and_then(Value::as_u64).unwrap_or(0) as usize
+}
+
 /// The whole number at a place.
 pub(crate) fn whole_at(question: &Value, place: usize) -> Option<i64> {
     question.get(place)?.as_i64()
@@ -67,4 +72,23 @@ pub(crate) fn named(
         }
     }
     Ok(all)
+}
+
+/// The text of the part at a place, or the empty text.
+pub(crate) fn part_text(
+    alloc: Global,
+    question: &Value,
+    place: usize,
+) -> Result<String, AllocError> {
+    match question.get(place) {
+        Some(part) => part.to_string(alloc),
+        None => Ok(String::new(alloc)),
+    }
+}
+
+/// The line of an entry, with another reply.
+pub(crate) fn with_reply(alloc: Global, entry: &Value, reply: &str) -> Result<String, AllocError> {
+    let session = part_text(alloc, entry, 0)?;
+    let step = part_text(alloc, entry, 1)?;
+    format!(in alloc; "[{session},{step},{reply}]")
 }

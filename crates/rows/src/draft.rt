@@ -1,0 +1,240 @@
+//! A script that grows by what is drawn: lines of every kind, with few names and many sessions at once, so that they meet.
+
+ghost use Rattle.std.specs.Prelude.{◌<◌};
+
+use crate::pool::{Pool, When};
+use rand_core::Rng;
+use rand_pcg::Pcg32;
+use std::alloc::{AllocError, Global};
+
+/// The names of sessions.
+pub(crate) const SESSIONS: [&str; 4] = ["s1", "s2", "s 3", "\"é\\"];
+
+// The same as JSON texts.
+const NAMES: [&str; 4] = [r#""s1""#, r#""s2""#, r#""s 3""#, r#""\"\u00e9\\""#];
+
+/// The bytes so far, the generator of what comes next, which names of sessions are in use, and how much was asked of each session.
+#[derive(Drop)]
+pub(crate) struct Draft {
+    rng: Pcg32,
+    text: Vec<u8>,
+    used: [bool; 4],
+    asked: [u32; 4],
+}
+
+impl Draft {
+    /// The draft of this number in those of a seed.
+    pub(crate) fn new(alloc: Global, seed: u64, number: u64) -> Draft {
+        Draft {
+            rng: Pcg32::new(seed, number),
+            text: Vec::new(alloc),
+            used: [false; 4],
+            asked: [0; 4],
+        }
+    }
+
+    pub(crate) fn text(&self) -> &[u8] {
+        self.text.as_slice()
+    }
+
+    /// The bytes, of which nothing more is drawn.
+    pub(crate) fn into_text(self) -> Vec<u8> {
+        self.text
+    }
+
+    /// A number below a bound.
+    pub(crate) fn below(&mut self, bound: u32) -> u32
+        requires { 0 < bound }
+        ensures { result < bound }
+    {
+        self.rng.next_u32() % bound
+    }
+
+    fn one_in(&mut self, bound: u32) -> bool
+        requires { 0 < bound }
+    {
+        self.below(bound) == 0
+    }
+
+    /// A place below a bound.
+    pub(crate) fn place_below(&mut self, bound: usize) -> usize
+        requires { 0 < bound }
+        ensures { result < bound }
+    {
+        self.rng.next_u32() as usize % bound
+    }
+
+    /// The place of a name that is in use, or that is not, as is wanted; now and then, or where there is none, of any.
+    fn place_of_name(&mut self, wanted: bool) -> usize
+        ensures { result < 4 }
+    {
+        let start = self.below(4);
+        if self.one_in(24) {
+            return start as usize;
+        }
+        for turn in 0..4 {
+            let place = ((start + turn) % 4) as usize;
+            if self.used[place] == wanted {
+                return place;
+            }
+        }
+        start as usize
+    }
+
+    /// Whether at most two names are in use.
+    fn is_calm(&self) -> bool {
+        let mut names = 0u32;
+        for place in 0..4 {
+            if self.used[place] {
+                names = names.saturating_add(1);
+            }
+        }
+        names < 3
+    }
+
+    /// The place of a session, mostly of one that is in use, of which something is asked.
+    fn asked_place(&mut self) -> usize
+        ensures { result < 4 }
+    {
+        let place = self.place_of_name(true);
+        self.asked[place] = self.asked[place].saturating_add(1);
+        place
+    }
+
+    /// The place of a session, mostly of one that is in use and of which much was asked. From here on it is not in use.
+    fn ended_place(&mut self) -> usize
+        ensures { result < 4 }
+    {
+        let mut place = self.place_of_name(true);
+        let other = self.place_of_name(true);
+        if self.asked[other] > self.asked[place] {
+            place = other;
+        }
+        self.used[place] = false;
+        self.asked[place] = 0;
+        place
+    }
+
+    /// The place of a name that is mostly not in use, and is so from here on.
+    fn opened_place(&mut self) -> usize
+        ensures { result < 4 }
+    {
+        let place = self.place_of_name(false);
+        self.used[place] = true;
+        place
+    }
+
+    /// Appends a line, in which the name at a place stands for each `%`, and its end.
+    fn put_line(&mut self, line: &[u8], place: usize) -> Result<(), AllocError>
+        requires { place < 4 }
+    {
+        for byte in line {
+            if *byte == b'%' {
+                self.text.extend_from_slice(NAMES[place].as_bytes())?;
+            } else {
+                self.text.push(*byte)?;
+            }
+        }
+        let end: &[u8] = if self.one_in(16) { b"\r\n" } else { b"\n" };
+        self.text.extend_from_slice(end)
+    }
+
+    /// Drops the last byte.
+    fn cut(&mut self) {
+        self.text.pop();
+    }
+
+    /// The place of the name that a line of this kind is about.
+    fn place_for(&mut self, when: When) -> usize
+        ensures { result < 4 }
+    {
+        match when {
+            When::Open => self.opened_place(),
+            When::End => self.ended_place(),
+            When::Ask | When::Large => self.asked_place(),
+            When::First | When::Load | When::Apart | When::LargeLoad => 0,
+        }
+    }
+
+    /// One of the lines of a kind.
+    fn put(&mut self, pool: &Pool<'_>, when: When) -> Result<(), AllocError> {
+        let Some(lines) = pool.lines(when) else {
+            return Ok(());
+        };
+        if lines.is_empty() {
+            return Ok(());
+        }
+        let line = lines[self.place_below(lines.len())];
+        let place = self.place_for(when);
+        self.put_line(line, place)
+    }
+
+    /// So many of them.
+    fn put_some(&mut self, pool: &Pool<'_>, when: When, count: u32) -> Result<(), AllocError> {
+        for _ in 0..count {
+            self.put(pool, when)?;
+        }
+        Ok(())
+    }
+
+    /// Which line comes next. Where few sessions are open, more are opened.
+    fn next_kind(&mut self, asking: When) -> When {
+        if self.is_calm() && self.one_in(2) {
+            return When::Open;
+        }
+        match self.below(64) {
+            0..6 => When::Open,
+            6..12 => When::End,
+            12..14 => When::Load,
+            14..17 => When::Apart,
+            _ => asking,
+        }
+    }
+
+    /// The lines behind the first load: loads, openings, so many lines, and commits of sessions that are still open.
+    fn put_all(&mut self, pool: &Pool<'_>, asking: When, count: u32) -> Result<(), AllocError> {
+        self.put_some(pool, When::First, 3)?;
+        let loads = self.below(3);
+        self.put_some(pool, When::Load, loads)?;
+        let openings = self.below(5);
+        self.put_some(pool, When::Open, openings)?;
+        for _ in 0..count {
+            let when = self.next_kind(asking);
+            self.put(pool, when)?;
+        }
+        let endings = 2 + self.below(3);
+        self.put_some(pool, When::End, endings)
+    }
+
+    /// A script. Of one in four the last line has no end.
+    pub(crate) fn put_script(&mut self, pool: &Pool<'_>) -> Result<(), AllocError> {
+        let count = 22 + self.below(33);
+        self.put_all(pool, When::Ask, count)?;
+        if self.one_in(4) {
+            self.cut();
+        }
+        Ok(())
+    }
+
+    /// A script of one large report, and small ones beside it.
+    pub(crate) fn put_large_script(&mut self, pool: &Pool<'_>) -> Result<(), AllocError> {
+        self.put(pool, When::LargeLoad)?;
+        self.put_all(pool, When::Large, 100)
+    }
+
+    /// A script that meets others in threads: a load, openings, some lines, mostly of those that ask something of a session, and ends of sessions.
+    pub(crate) fn put_meeting_script(&mut self, pool: &Pool<'_>) -> Result<(), AllocError> {
+        self.put(pool, When::First)?;
+        self.put_some(pool, When::Open, 2)?;
+        for _ in 0..3 + self.below(5) {
+            let when = match self.below(12) {
+                0 => When::Open,
+                1..3 => When::End,
+                3 => When::Apart,
+                _ => When::Ask,
+            };
+            self.put(pool, when)?;
+        }
+        self.put_some(pool, When::End, 2)
+    }
+}
