@@ -9,7 +9,7 @@ use std::io::{Error, ErrorKind};
 use std::process::ExitCode;
 
 /// Why the program ends with another status than 0.
-#[derive(Clone, Copy, Debug, PartialEq, Eq)]
+#[derive(Clone, Copy)]
 pub(crate) enum Fault {
     /// The words were refused, and that was told.
     Words,

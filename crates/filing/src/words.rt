@@ -11,7 +11,7 @@ use std::alloc::{AllocError, Global};
 use std::{env, io};
 
 /// What the words of the command line ask for.
-#[derive(Debug, Drop, PartialEq, Eq)]
+#[derive(Drop)]
 pub(crate) enum Order<'a> {
     /// Run the script that comes on standard input, by the numeric table of a file, if one is named. Its history goes to another, if that is named.
     Run {
