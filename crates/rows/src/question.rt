@@ -34,7 +34,7 @@ pub(crate) fn number_at(question: &Value, place: usize) -> usize {
 }
 
 /// The whole number at a place.
-pub(crate) fn whole_at(question: &Value, place: usize) -> Option<i64> {
+fn whole_at(question: &Value, place: usize) -> Option<i64> {
     question.get(place)?.as_i64()
 }
 
