@@ -1,6 +1,6 @@
 //! Worked rows of lists in pages: the lengths of pages, which no contract says, and the entries of ranges.
 //!
-//! A line is JSON. `["spaced",FIRST,STEP,COUNT]` builds a list; `["change",["put",FROM,UNTIL],["remove",FROM,UNTIL]]` puts and removes the keys of such ranges at once, which have to rise; `["sizes"]` asks for the lengths of its pages, and `["range",FROM,UNTIL]` for the first key of a range, how many rise from it by one, and the greatest.
+//! A line is JSON. `["spaced",FIRST,STEP,COUNT]` builds a list; `["change",["put",FROM,UNTIL],["remove",FROM,UNTIL]]` puts and removes the keys of such ranges at once, which have to rise; `["sizes"]` asks for the lengths of its pages, and `["range",FROM,UNTIL]` for the first key of a range, how many entries it has, how many of them do not rise from the first by one, and the greatest.
 
 use crate::lines::is_end;
 use crate::pages::item::Item;
@@ -45,22 +45,23 @@ fn edit(alloc: Global, list: &mut Paged<Item>, edits: &[Value]) -> Result<(), Al
     change(alloc, list, &changes)
 }
 
-/// The first key of a range, how many rise from it by one, and the greatest.
+/// The first key of a range, how many entries it has, how many of them do not rise from the first by one, and the greatest.
 fn range_told(alloc: Global, list: &Paged<Item>, line: &Value) -> Result<String, AllocError> {
     let (from, until) = (number_at(line, 1) as u64, number_at(line, 2) as u64);
     let span = Between {
         from: &Item::new(from),
         until: &Item::new(until),
     };
-    let mut next = from;
-    for entry in list.range(&span) {
-        if entry.key == next {
-            next = next.wrapping_add(1);
-        }
-    }
     let first = list.first_in(&span).map(|entry| entry.key);
-    let (count, greatest) = (next.wrapping_sub(from), list.range(&span).greatest());
-    format!(in alloc; "{first:?} {count} {greatest}\n")
+    let mut next = first.unwrap_or(from);
+    let (mut count, mut strays) = (0u64, 0u64);
+    for entry in list.range(&span) {
+        count = count.saturating_add(1);
+        strays = strays.saturating_add(u64::from(entry.key != next));
+        next = next.wrapping_add(1);
+    }
+    let greatest = list.range(&span).greatest();
+    format!(in alloc; "{first:?} {count} {strays} {greatest}\n")
 }
 
 /// What is told of a line, if it asks.
