@@ -177,6 +177,37 @@ fn add_from(
     }
 }
 
+/// The step that an array asks of a session, by its first text. Dimensions and a fact move out of it.
+fn step_in(
+    alloc: Global,
+    value: &mut Value,
+    place: usize,
+) -> Result<Option<Result<Step, String>>, AllocError>
+    requires { place + 6 < 2 ^ 64 }
+    ensures { IfOk result (λ asked. AreAsked asked (asking_in place (view value.old))) }
+{
+    let Some(word) = text_at(value, 0) else {
+        return Ok(None);
+    };
+    let Some(asking) = asking_at(word, value, place) else {
+        return Ok(None);
+    };
+    match asking {
+        Asking::Cell { report, .. } => {
+            let report = String::from_str(alloc, report)?;
+            let dims = taken_at(value, place + 1);
+            Ok(Some(cell_from(alloc, report, dims)?))
+        }
+        Asking::Add { report, id, .. } => {
+            let report = String::from_str(alloc, report)?;
+            let id = String::from_str(alloc, id)?;
+            let fact = taken_at(value, place + 2);
+            Ok(Some(add_from(alloc, report, id, fact)?))
+        }
+        asking => Ok(Some(step_asked(alloc, &asking)?)),
+    }
+}
+
 /// As `step_asked` of what `asking_at` reads, by the first text of an array, which is given up: dimensions and a fact move out of it.
 pub fn step_from(
     alloc: Global,
@@ -187,24 +218,7 @@ pub fn step_from(
     ensures { IfOk result (λ asked. AreAsked asked (asking_in place (view value))) }
 {
     let mut value = value;
-    let Some(word) = text_at(&value, 0) else {
-        return Ok(None);
-    };
-    let Some(asking) = asking_at(word, &value, place) else {
-        return Ok(None);
-    };
-    match asking {
-        Asking::Cell { report, .. } => {
-            let report = String::from_str(alloc, report)?;
-            let dims = taken_at(&mut value, place + 1);
-            Ok(Some(cell_from(alloc, report, dims)?))
-        }
-        Asking::Add { report, id, .. } => {
-            let report = String::from_str(alloc, report)?;
-            let id = String::from_str(alloc, id)?;
-            let fact = taken_at(&mut value, place + 2);
-            Ok(Some(add_from(alloc, report, id, fact)?))
-        }
-        asking => Ok(Some(step_asked(alloc, &asking)?)),
-    }
+    let step = step_in(alloc, &mut value, place);
+    drop(value);
+    step
 }

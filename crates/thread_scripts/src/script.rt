@@ -32,13 +32,14 @@ impl Batch {
 
     /// Adds what one more line comes to.
     fn push(&mut self, judged: Judged) -> Result<(), AllocError> {
-        match judged {
-            Judged::Told(text) => Ok(self.told.push(Some(text))?),
+        let told = match judged {
+            Judged::Told(text) => Some(text),
             Judged::Due(step) => {
-                self.told.push(None)?;
-                Ok(self.steps.push(step)?)
+                self.steps.push(step)?;
+                None
             }
-        }
+        };
+        Ok(self.told.push(told)?)
     }
 
     /// Judges lines.

@@ -2,16 +2,16 @@ use Rattle.std.proofs.Common.{◌∙◌, ap, sym, Some, string_bytes}
 use Rattle.serde_json.specs.View.{view}
 use Rattle.filing_text.specs.LineView.{asking_view}
 use Rattle.filing_text.proofs.AskedParts.{cell_has_part, addition_has_part, cell_is_asked, addition_is_asked}
-use Rattle.filing_text.proofs.asked_step.step_from.Goals as goal
+use Rattle.filing_text.proofs.asked_step.step_in.Goals as goal
 
 pub taken_at-dims-requires : goal.taken_at-dims-requires
 taken_at-dims-requires c =
-    cell_has_part c.in-Some.word.now c.args.place (view c.args.value) c.in-Cell.report.now (view c.in-Cell.dims.now)
+    cell_has_part c.in-Some.word.now c.args.place (view c.args.value.now) c.in-Cell.report.now (view c.in-Cell.dims.now)
     (ap (λ a. Some (asking_view a)) (sym c.in-Cell.is) ∙ c.in-Some-asking_at.ensures)
 
-pub returns-in-Cell : goal.returns-in-Cell
-returns-in-Cell c =
-    cell_is_asked c.args.place (view c.args.value) c.in_ok-cell_from-in-Cell.field-0 c.in-Some.word.now c.in-Cell.report.now
+pub returns-in_ok-cell_from-in-Cell : goal.returns-in_ok-cell_from-in-Cell
+returns-in_ok-cell_from-in-Cell c =
+    cell_is_asked c.args.place (view c.args.value.now) c.in_ok-cell_from-in-Cell.field-0 c.in-Some.word.now c.in-Cell.report.now
     (string_bytes c.in_ok-report-in-Cell.report) (view c.in-Cell.dims.now) (view c.taken_at-dims.result)
     c.in-Some.ensures
     (ap (λ a. Some (asking_view a)) (sym c.in-Cell.is) ∙ c.in-Some-asking_at.ensures)
@@ -19,12 +19,12 @@ returns-in-Cell c =
 
 pub taken_at-fact-requires : goal.taken_at-fact-requires
 taken_at-fact-requires c =
-    addition_has_part c.in-Some.word.now c.args.place (view c.args.value) c.in-Add.report.now c.in-Add.id.now (view c.in-Add.fact.now)
+    addition_has_part c.in-Some.word.now c.args.place (view c.args.value.now) c.in-Add.report.now c.in-Add.id.now (view c.in-Add.fact.now)
     (ap (λ a. Some (asking_view a)) (sym c.in-Add.is) ∙ c.in-Some-asking_at.ensures)
 
-pub returns-in-Add : goal.returns-in-Add
-returns-in-Add c =
-    addition_is_asked c.args.place (view c.args.value) c.in_ok-add_from-in-Add.field-0 c.in-Some.word.now c.in-Add.report.now c.in-Add.id.now
+pub returns-in_ok-add_from-in-Add : goal.returns-in_ok-add_from-in-Add
+returns-in_ok-add_from-in-Add c =
+    addition_is_asked c.args.place (view c.args.value.now) c.in_ok-add_from-in-Add.field-0 c.in-Some.word.now c.in-Add.report.now c.in-Add.id.now
     (string_bytes c.in_ok-report-in-Add.report) (string_bytes c.in_ok-id-in-Add.id) (view c.in-Add.fact.now) (view c.taken_at-fact.result)
     c.in-Some.ensures
     (ap (λ a. Some (asking_view a)) (sym c.in-Add.is) ∙ c.in-Some-asking_at.ensures)
