@@ -62,19 +62,13 @@ fn with_fact(
         allowed,
         facts,
     } = report.into_parts();
-    match put(alloc, facts, id, fact) {
-        Ok(facts) => Ok(Report::of(ReportParts {
-            info,
-            names,
-            allowed,
-            facts,
-        })),
-        Err(error) => {
-            drop(info);
-            drop(names);
-            Err(error)
-        }
-    }
+    let facts = put(alloc, facts, id, fact)?;
+    Ok(Report::of(ReportParts {
+        info,
+        names,
+        allowed,
+        facts,
+    }))
 }
 
 /// A copy of a report with one fact put in.
@@ -101,19 +95,13 @@ fn without_fact(alloc: Global, report: Report, id: &str) -> Result<Report, Alloc
         allowed,
         facts,
     } = report.into_parts();
-    match without(alloc, facts, id) {
-        Ok(facts) => Ok(Report::of(ReportParts {
-            info,
-            names,
-            allowed,
-            facts,
-        })),
-        Err(error) => {
-            drop(info);
-            drop(names);
-            Err(error)
-        }
-    }
+    let facts = without(alloc, facts, id)?;
+    Ok(Report::of(ReportParts {
+        info,
+        names,
+        allowed,
+        facts,
+    }))
 }
 
 /// A copy of a report with no fact under an identifier.

@@ -7,11 +7,11 @@ use Rattle.history_oracle.proofs.books.without_fact.Goals as goal
 
 pub of-requires : goal.of-requires
 of-requires c =
-    parts_without _ c.into_parts.result c.args.id.now (facts_view c.in-Ok.facts.items) c.info.view_is c.into_parts.ensures.again
-    (where_shared (λ k. not (text_eq c.args.id.now k)) c.info.inside.facts.items c.in-Ok.facts.items c.in-Ok.ensures)
+    parts_without _ c.into_parts.result c.args.id.now (facts_view c.in_ok-facts.facts.items) c.info.view_is c.into_parts.ensures.again
+    (where_shared (λ k. not (text_eq c.args.id.now k)) c.info.inside.facts.items c.in_ok-facts.facts.items c.in_ok-facts.ensures)
 
-pub returns-in-Ok : goal.returns-in-Ok
-returns-in-Ok c =
+pub returns : goal.returns
+returns c =
     c.of.ensures
-    ∙ whole_without _ c.args.report c.args.id.now (facts_view c.in-Ok.facts.items) (c.info.view_is ∙ c.into_parts.ensures.parts)
-    (where_shared (λ k. not (text_eq c.args.id.now k)) c.info.inside.facts.items c.in-Ok.facts.items c.in-Ok.ensures)
+    ∙ whole_without _ c.args.report c.args.id.now (facts_view c.in_ok-facts.facts.items) (c.info.view_is ∙ c.into_parts.ensures.parts)
+    (where_shared (λ k. not (text_eq c.args.id.now k)) c.info.inside.facts.items c.in_ok-facts.facts.items c.in_ok-facts.ensures)
