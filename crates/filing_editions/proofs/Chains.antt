@@ -2,7 +2,7 @@
 use Rattle.std.proofs.Common.{◌≡◌, ◌∙◌, ap, sym, subst, refl, arith, ℕ, ◌+◌, List, [], ◌∷◌, ◌++◌, length, length-append}
 use Rattle.filing_model.specs.Repository.{Repository, nothing}
 use Rattle.filing_model.specs.Versions.{Follows, FollowsAll, IsChain}
-use Rattle.filing_editions.specs.Lists.{EndsWith, Listed, IsEdition}
+use Rattle.filing_editions.specs.Lists.{EndsWith, Listed, IsEdition, IsLastCount}
 
 -- the last of some that follow one another
 followed : (c : Repository) (cs before : List Repository) (last : Repository) → FollowsAll c cs → c ∷ cs ≡ before ++ last ∷ [] → length cs + c.count ≡ last.count
@@ -22,6 +22,17 @@ counted_chain (c ∷ cs) last chain newest = omega (arith, followed c cs newest.
 
 pub counted : (e : Listed) (last : Repository) → IsEdition e last → last.count + 1 ≡ length e.versions
 counted e last is = counted_chain e.versions last is.chain is.newest
+
+-- the number of an edition's version, told of its list
+pub last_count : (e f : Listed) (last : Repository) (n : ℕ) → IsEdition e last → e ≡ f → n ≡ last.count → IsLastCount f.versions n
+last_count e f last n is same counts = record {
+  last = last;
+  newest = subst (λ (l : Listed). EndsWith l.versions last) same is.newest;
+  number_is = counts;
+}
+
+pub chained : (e f : Listed) (last : Repository) → IsEdition e last → e ≡ f → IsChain f.versions
+chained e f last is same = subst (λ (l : Listed). IsChain l.versions) same is.chain
 
 -- the number of a version that is added is how many there were
 pub added : (versions : List Repository) (next : Repository) → IsChain (versions ++ next ∷ []) → length versions ≡ next.count

@@ -9,6 +9,12 @@ use Rattle.filing_model.specs.Versions.{IsChain}
 abbrev pub EndsWith : List Repository → Repository → Type 0
 EndsWith versions last = (before : List Repository) × (versions ≡ before ++ last ∷ [])
 
+-- the number is the count of the last version of the list
+pub record IsLastCount (versions : List Repository) (number : ℕ) : Type 0 where
+  pub last : Repository
+  pub newest : EndsWith versions last
+  pub number_is : number ≡ last.count
+
 -- of two lists one begins the other, and this is the longer
 pub record IsLonger (one two longer : List Repository) : Type 0 where
   pub either_is : (longer ≡ one) ⊎ (longer ≡ two)

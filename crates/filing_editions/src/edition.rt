@@ -3,7 +3,7 @@
 ghost use Rattle.std.specs.Prelude.{◌≡◌, ◌+◌, length, IfOk};
 ghost use Rattle.std.specs.Arc.{arc_value};
 ghost use Rattle.filing_version.specs.Filed.{repository_in};
-ghost use Rattle.filing_editions.specs.Lists.{IsEdition, IsLonger, EndsWith};
+ghost use Rattle.filing_editions.specs.Lists.{IsEdition, IsLastCount, IsLonger, EndsWith};
 
 use crate::law::{Law, Version};
 use crate::review::Review;
@@ -45,9 +45,10 @@ impl Edition {
     }
 
     /// The number of its version, which is one less than how many versions the list has.
-    #[tactic(auto, using(crate::proofs::Chains::counted))]
     pub fn number(&self) -> u64
-        ensures { result + 1 ≡ length self.now.versions }
+        ensures count { IsLastCount self.now.versions result }
+        ensures chain { IsChain self.now.versions }
+        ensures length { result + 1 ≡ length self.now.versions }
     {
         self.version.number()
     }
@@ -67,6 +68,7 @@ impl Edition {
         requires { other.now.book ≡ self.now.book }
         ensures book { IfOk result (λ e. e.book ≡ self.now.book) }
         ensures longer { IfOk result (λ e. IsLonger self.now.versions other.now.versions e.versions) }
+        ensures chain { IfOk result (λ e. IsChain e.versions) }
     {
         let mut both = self.seen.again();
         both.learn(&other.seen);

@@ -16,7 +16,7 @@ mod review;
 mod reviewer;
 
 pub use edition::Edition;
-pub use fault::OpenFault;
+pub use fault::OfficeFault;
 pub use law::{Law, Naming, Version};
 pub use press::Press;
 pub use publisher::{Issue, Publisher};

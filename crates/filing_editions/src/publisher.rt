@@ -7,7 +7,7 @@ ghost use Rattle.filing_model.specs.Repository.{nothing};
 ghost use Rattle.filing_version.specs.Filed.{repository_in};
 
 use crate::edition::Edition;
-use crate::fault::OpenFault;
+use crate::fault::OfficeFault;
 use crate::law::{Add, Law, Naming, Nothing, Version};
 use crate::press::Press;
 use crate::published::{Known, Looks, Published};
@@ -100,7 +100,7 @@ impl<J: Naming> Publisher<J> {
         alloc: Global,
         press: Press,
         reviewers: usize,
-    ) -> Result<(Publisher<J>, Vec<Reviewer<J>>), OpenFault>
+    ) -> Result<(Publisher<J>, Vec<Reviewer<J>>), OfficeFault>
         requires book { press.seen.book ≡ J.book }
         requires some { (0 < reviewers) × (reviewers < 2 ^ 32) }
         ensures begins { IfOk result (λ o. o.0 ≡ nothing ∷ []) }
@@ -127,7 +127,7 @@ impl<J: Naming> Publisher<J> {
         alloc: Global,
         beginning: &Edition,
         reviewers: usize,
-    ) -> Result<Vec<Reviewer<J>>, OpenFault>
+    ) -> Result<Vec<Reviewer<J>>, OfficeFault>
         requires { beginning.now.book ≡ J.book }
         ensures reviewers { IfOk result (λ v. vec_len v ≡ reviewers) }
         ensures seen { IfOk result (λ v. All (λ r. r ≡ beginning.now.versions) v.items) }
@@ -136,7 +136,7 @@ impl<J: Naming> Publisher<J> {
         for _ in 0..reviewers {
             let newest = beginning.again()?;
             let Ok(place) = self.writer.factory().reader() else {
-                return Err(OpenFault::NoPlace);
+                return Err(OfficeFault::NoPlace);
             };
             places.push(Reviewer {
                 place: Some(place),

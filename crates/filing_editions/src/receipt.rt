@@ -1,6 +1,7 @@
 //! `Receipt`: what a load or a commit is given that made a version.
 
 ghost use Rattle.std.specs.Prelude.{◌≡◌, ◌+◌, length};
+ghost use Rattle.filing_editions.specs.Lists.{IsLastCount};
 
 use crate::edition::Edition;
 use crate::law::Naming;
@@ -25,9 +26,13 @@ impl<J: Naming> Model for Receipt<J> {
 }
 
 impl<J: Naming> Receipt<J> {
-    /// The number of the version, which is one less than how many versions the list has. It takes no memory.
+    ghost use Rattle.filing_model.specs.Versions.{IsChain};
+
+    /// The number of the version: the count of the last of the list, which is a chain. It is one less than how many versions the list has. It takes no memory.
     pub fn number(&self) -> u64
-        ensures { result + 1 ≡ length self.now }
+        ensures count { IsLastCount self.now result }
+        ensures chain { IsChain self.now }
+        ensures length { result + 1 ≡ length self.now }
     {
         self.edition.number()
     }

@@ -2,7 +2,7 @@
 
 ghost use Rattle.std.specs.Prelude.{◌≡◌, ◌+◌, length, OnErr, OnOk, IfOk};
 ghost use mathlib.Core.List.{IsPrefix};
-ghost use Rattle.filing_editions.specs.Lists.{EndsWith, IsLonger};
+ghost use Rattle.filing_editions.specs.Lists.{EndsWith, IsLastCount, IsLonger};
 
 use crate::edition::Edition;
 use crate::law::Naming;
@@ -73,15 +73,18 @@ impl<J: Naming> Reviewer<J> {
     /// Takes in the versions of a receipt: no later review is of an older one. Where memory is refused nothing is changed.
     pub fn learn(&mut self, receipt: &Receipt<J>) -> Result<(), AllocError>
         ensures longer { OnOk result (IsLonger self.old receipt.now self.new) }
+        ensures chain { OnOk result (IsChain self.new) }
         ensures err { OnErr result (self.new ≡ self.old) }
     {
         self.newest = self.newest.longer(&receipt.edition)?;
         Ok(())
     }
 
-    /// The number of the last version seen or learnt, which is one less than how many versions the list has. It takes no memory.
+    /// The number of the last version seen or learnt: the count of the last of the list, which is a chain. It is one less than how many versions the list has. It takes no memory.
     pub fn seen(&self) -> u64
-        ensures { result + 1 ≡ length self.now }
+        ensures count { IsLastCount self.now result }
+        ensures chain { IsChain self.now }
+        ensures length { result + 1 ≡ length self.now }
     {
         self.newest.number()
     }

@@ -100,6 +100,7 @@ module _ {J E : Type 0} (s t : Turning) (told : List (Outcome J)) (seen learned 
     now,
     record {
       goes_on = subst (λ xs. IsPrefix xs now) (same_Some seen was (sym had ∙ is)) (prefix_trans seen learned now begins goes_on);
+      chain = chain;
       newest = newest;
       not_older = all_within_more (length learned) (last.count + 1) told (omega (arith, prefix_length learned now goes_on, last_number now last chain newest)) all;
     },

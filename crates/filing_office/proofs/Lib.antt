@@ -1,4 +1,5 @@
 pub mod Numbered
+pub mod NothingCounted
 pub mod Publishing
 pub mod ToldSteps
 pub mod TurnNames

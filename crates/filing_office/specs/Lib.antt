@@ -3,3 +3,4 @@ pub mod Answers
 pub mod Tallies
 pub mod Runs
 pub mod Rans
+pub mod Ends

@@ -5,6 +5,7 @@ use mathlib.Core.List.{IsPrefix}
 use Rattle.filing_model.specs.Text.{Text}
 use Rattle.filing_model.specs.TextMap.{TextMap, get, insert, remove}
 use Rattle.filing_model.specs.Repository.{Repository}
+use Rattle.filing_model.specs.Versions.{IsChain}
 use Rattle.filing_model.specs.Replies as reply
 use Rattle.filing_model.specs.Replies.{Reply}
 use Rattle.filing_model.specs.Sessions.{answer}
@@ -64,10 +65,11 @@ Loads s t _ = ⊥
 
 -- ---- openings
 
--- the review is of the last version that the reviewer has then seen, which no receipt told before is newer than
+-- the review is of the last version of the chain that the reviewer has then seen, which no receipt told before is newer than
 pub record Reviews {J : Type 0} (seen now_seen : List Repository) (told : List (Outcome J))
     (last : Repository) : Type 0 where
   pub goes_on : IsPrefix seen now_seen
+  pub chain : IsChain now_seen
   pub newest : EndsWith now_seen last
   pub not_older : All (IsWithin (last.count + 1)) told
 

@@ -35,8 +35,8 @@ pub trait Access<L: Ledger + Naming, M: Ledger> {
 #[derive(Drop)]
 pub struct EachStep<'a, L: Ledger + Naming, M: Ledger, R: Wait> {
     pub rt: &'a R,
-    pub office: &'a Office<L, M>,
     pub alloc: Global,
+    pub office: &'a Office<L, M>,
 }
 
 impl<'a, L: Ledger + Naming, M: Ledger, R: Wait> Access<L, M> for EachStep<'a, L, M, R> {
@@ -46,7 +46,7 @@ impl<'a, L: Ledger + Naming, M: Ledger, R: Wait> Access<L, M> for EachStep<'a, L
         session: Option<u64>,
         step: Step,
     ) -> Result<Answer<L>, CoreFault> {
-        desk.step(self.rt, self.office, self.alloc, session, step)
+        desk.step(self.rt, self.alloc, self.office, session, step)
     }
 
     fn leave(&mut self) {}
@@ -55,8 +55,8 @@ impl<'a, L: Ledger + Naming, M: Ledger, R: Wait> Access<L, M> for EachStep<'a, L
 /// The lock is taken for the first of several steps, and held from one to the next. It is not `Drop`, as what it holds is not: end it by `end`.
 pub struct Visit<'a, L: Ledger + Naming, M: Ledger, R: Wait> {
     rt: &'a R,
-    office: &'a Office<L, M>,
     alloc: Global,
+    office: &'a Office<L, M>,
     held: Option<MutexGuard<'a, Locked<L, M>>>,
 }
 
@@ -69,11 +69,11 @@ fn unlock<L: Ledger + Naming, M: Ledger>(held: Option<MutexGuard<'_, Locked<L, M
 
 impl<'a, L: Ledger + Naming, M: Ledger, R: Wait> Visit<'a, L, M, R> {
     /// Before the first step. The lock is not taken yet.
-    pub fn new(rt: &'a R, office: &'a Office<L, M>, alloc: Global) -> Visit<'a, L, M, R> {
+    pub fn new(rt: &'a R, alloc: Global, office: &'a Office<L, M>) -> Visit<'a, L, M, R> {
         Visit {
             rt,
-            office,
             alloc,
+            office,
             held: None,
         }
     }
@@ -82,8 +82,8 @@ impl<'a, L: Ledger + Naming, M: Ledger, R: Wait> Visit<'a, L, M, R> {
     pub fn end(self) {
         let Visit {
             rt: _rt,
-            office: _office,
             alloc: _alloc,
+            office: _office,
             held,
         } = self;
         unlock(held);

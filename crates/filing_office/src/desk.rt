@@ -38,8 +38,8 @@ impl<L: Ledger + Naming, M: Ledger> Desk<L, M> {
     pub fn step<R: Wait>(
         &mut self,
         rt: &R,
-        office: &Office<L, M>,
         alloc: Global,
+        office: &Office<L, M>,
         session: Option<u64>,
         step: Step,
     ) -> Result<Answer<L>, CoreFault>

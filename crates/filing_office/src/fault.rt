@@ -7,10 +7,13 @@ use std::alloc::{AllocError, AllocFailed};
 use std::sync::ledger::Ledger;
 use thiserror::Error;
 
-/// Why an office was not ended: the desks are not exactly all of it. Office and desks come back.
-pub struct FinishFault<L: Ledger + Naming, M: Ledger> {
-    pub office: Office<L, M>,
-    pub desks: Vec<Desk<L, M>>,
+/// Why an office was not ended. It is not `Drop`, as an office is not.
+pub enum FinishFault<L: Ledger + Naming, M: Ledger> {
+    /// The desks are not exactly all of it. Office and desks come back.
+    DeskMissing {
+        office: Office<L, M>,
+        desks: Vec<Desk<L, M>>,
+    },
 }
 
 /// Why desks were not run: memory for a thread, or for the outcomes. The desks are gone.

@@ -77,7 +77,7 @@ impl<L: Ledger + Naming, M: Ledger> Locked<L, M> {
         ensures counted { Counted desk.old desk.new result }
         ensures told { StepTold session (step_of step) result }
     {
-        let answer = apply_in(rt, &mut self.shared, alloc, session, step)?;
+        let answer = apply_in(rt, alloc, &mut self.shared, session, step)?;
         let received = answer.receipt.is_some();
         count(&mut self.steps, &mut self.receipts, desk, received);
         Ok(answer)

@@ -5,15 +5,16 @@ ghost use Rattle.filing_model.specs.Repository.{nothing};
 ghost use Rattle.filing_model.specs.History.{repository};
 ghost use Rattle.filing_office.specs.Tallies.{nothing_taken};
 
+use crate::blanks::Blanks;
 use crate::desk::Desk;
 use crate::fault::FinishFault;
 use crate::locked::Locked;
 use crate::roster::Roster;
 use crate::shared::Shared;
 use filing_core::Core;
-use filing_editions::{Naming, OpenFault, Press, Publisher, Reviewer};
+use filing_editions::{Naming, OfficeFault, Reviewer};
 use std::alloc::{AllocError, Global};
-use std::sync::ledger::{Blank, Ledger, Share};
+use std::sync::ledger::{Ledger, Share};
 use std::sync::{Mutex, Wait};
 
 /// A repository that many threads use: desks take steps under its lock, and reviewers read what is published under none. It is not `Drop`: end it by `finish` or `give_up`.
@@ -24,66 +25,53 @@ pub struct Office<L: Ledger + Naming, M: Ledger> {
     ghost alike: { steps.desks ≡ receipts.desks },
 }
 
-/// What an office is opened with: itself, its desks and its reviewers.
-pub struct Opened<L: Ledger + Naming, M: Ledger> {
-    pub office: Office<L, M>,
-    pub desks: Vec<Desk<L, M>>,
-    pub reviewers: Vec<Reviewer<L>>,
-}
-
 impl<L: Ledger + Naming, M: Ledger> Office<L, M> {
-    /// Opens an office over an empty history. Steps and receipts are counted in two ledgers, each of one part a desk.
+    ghost use Rattle.filing_office.specs.Ends.{gives_back};
+
+    /// Opens an office over the empty history of `Shared::open`. Steps and receipts are counted in two ledgers, each of one part a desk.
     pub fn open<R: Wait>(
         rt: &R,
         alloc: Global,
-        press: Press,
         desks: usize,
         reviewers: usize,
-        steps: Blank,
-        receipts: Blank,
-    ) -> Result<Opened<L, M>, OpenFault>
-        requires book { press.seen.book ≡ L.book }
+        blanks: Blanks,
+    ) -> Result<(Office<L, M>, Vec<Desk<L, M>>, Vec<Reviewer<L>>), OfficeFault>
+        requires book { blanks.press.seen.book ≡ L.book }
         requires some_desks { (0 < desks) × (desks ≤ 16) }
         requires some_reviewers { (0 < reviewers) × (reviewers ≤ 16) }
-        requires steps { (steps.name ≡ L.name) × (steps.parts ≡ L.parts) × (steps.parts ≡ desks) }
-        requires receipts { (receipts.name ≡ M.name) × (receipts.parts ≡ M.parts) × (receipts.parts ≡ desks) }
-        ensures desks { IfOk result (λ o. (vec_len o.desks ≡ desks) × All (λ d. d ≡ nothing_taken) o.desks.items) }
-        ensures reviewers { IfOk result (λ o. (vec_len o.reviewers ≡ reviewers)
-            × All (λ r. r ≡ nothing ∷ []) o.reviewers.items) }
+        requires steps { (blanks.steps.name ≡ L.name) × (blanks.steps.parts ≡ L.parts) × (blanks.steps.parts ≡ desks) }
+        requires receipts { (blanks.receipts.name ≡ M.name) × (blanks.receipts.parts ≡ M.parts)
+            × (blanks.receipts.parts ≡ desks) }
+        ensures desks { IfOk result (λ o. (vec_len o.1 ≡ desks) × All (λ d. d ≡ nothing_taken) o.1.items) }
+        ensures reviewers { IfOk result (λ o. (vec_len o.2 ≡ reviewers) × All (λ r. r ≡ nothing ∷ []) o.2.items) }
     {
+        let Blanks {
+            press,
+            steps,
+            receipts,
+        } = blanks;
         let (steps, mut all_steps) = steps.open::<L>();
         let (receipts, mut all_receipts) = receipts.open::<M>();
         let seats = hand_out(alloc, desks, &mut all_steps, &mut all_receipts)?;
-        let core = Core::new(alloc)?;
-        let (publisher, reviewers) = match Publisher::open(rt, alloc, press, reviewers) {
-            Ok(opened) => opened,
-            Err(fault) => {
-                drop(core);
-                return Err(fault);
-            }
-        };
-        let shared = Shared { core, publisher };
+        let (shared, reviewers) = Shared::open(rt, alloc, press, reviewers)?;
         let locked = Locked::new(shared, steps, receipts, all_steps, all_receipts);
-        Ok(Opened {
-            office: Office {
-                locked: Mutex::new(locked),
-                steps: Roster::of(desks),
-                receipts: Roster::of(desks),
-            },
-            desks: seats,
-            reviewers,
-        })
+        let office = Office {
+            locked: Mutex::new(locked),
+            steps: Roster::of(desks),
+            receipts: Roster::of(desks),
+        };
+        Ok((office, seats, reviewers))
     }
 
     /// Ends the office with all its desks. It waits for the readers of reviews that are being opened; reviews that are kept go on answering.
     pub fn finish<R: Wait>(self, rt: &R, desks: Vec<Desk<L, M>>) -> Result<Core, FinishFault<L, M>>
         ensures counted { MatchResult result (λ c. length c.history ≡ sum (map (λ d. d.steps) desks.items))
-            (λ f. f.desks ≡ desks) }
+            (λ f. gives_back f desks) }
         ensures numbered { IfOk result (λ c. (repository c.history).count ≡ sum (map (λ d. d.receipts) desks.items)) }
         ensures missing { MatchResult result (λ c. vec_len desks ≡ L.parts) (λ f. vec_len desks ≢ L.parts) }
     {
         if desks.len() != self.steps.desks() {
-            return Err(FinishFault {
+            return Err(FinishFault::DeskMissing {
                 office: self,
                 desks,
             });

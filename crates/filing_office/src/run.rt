@@ -64,8 +64,8 @@ fn jobs_of<L: Ledger + Naming, M: Ledger>(
 /// Does the work of one desk.
 fn run_desk<L: Ledger + Naming, M: Ledger, G: Gate, R: Wait>(
     rt: &R,
-    office: &Office<L, M>,
     alloc: Global,
+    office: &Office<L, M>,
     gate: &G,
     job: Job<L, M>,
 ) -> Ran<L, M>
@@ -82,7 +82,7 @@ fn run_desk<L: Ledger + Naming, M: Ledger, G: Gate, R: Wait>(
         steps,
     } = work;
     let mut turn = Turn::new(alloc, desk, reviewer);
-    let mut access = EachStep { rt, office, alloc };
+    let mut access = EachStep { rt, alloc, office };
     take_steps(&mut access, gate, place, &mut turn, steps, &mut outcomes);
     let (desk, reviewer) = turn.into_parts();
     (desk, reviewer, outcomes)
@@ -96,8 +96,8 @@ pub fn run_desks<
     R: Threads + Wait + Sync,
 >(
     rt: &R,
-    office: &Office<L, M>,
     alloc: Global,
+    office: &Office<L, M>,
     works: Vec<Work<L, M>>,
     gate: &G,
 ) -> Result<Vec<Ran<L, M>>, RunFault>
@@ -107,6 +107,6 @@ pub fn run_desks<
     let run = |job: Job<L, M>| -> Ran<L, M>
         requires { IsSync R.row }
         ensures { RanOf job.work result }
-    { run_desk(rt, office, alloc, gate, job) };
+    { run_desk(rt, alloc, office, gate, job) };
     Ok(thread::map_vec(rt, jobs, &run)?)
 }

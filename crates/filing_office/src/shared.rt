@@ -1,7 +1,8 @@
 //! `Shared`: what the lock lends to a step, and the step on it.
 
-ghost use Rattle.std.specs.Prelude.{◌≡◌, ◌∷◌, ◌++◌, [], true, false, Some, option_map, IfOk, OnOk, OnErr};
+ghost use Rattle.std.specs.Prelude.{◌≡◌, ◌<◌, ◌^◌, ◌∷◌, ◌++◌, [], true, false, Some, option_map, vec_len, All, IfOk, OnOk, OnErr};
 ghost use Rattle.std.specs.Option.{option_map_or};
+ghost use Rattle.filing_model.specs.Repository.{nothing};
 ghost use Rattle.filing_model.specs.History.{Entry, History};
 ghost use Rattle.filing_model.specs.Versions.{IsChain};
 ghost use Rattle.filing_version.specs.Filed.{StampedReports, repository_in};
@@ -10,12 +11,12 @@ ghost use Rattle.filing_office.specs.Answers.{ApplyAnswers};
 
 use crate::answer::Answer;
 use filing_core::{Core, CoreFault, Prepared, Step};
-use filing_editions::{Issue, Naming, Publisher, Receipt};
+use filing_editions::{Issue, Naming, OfficeFault, Press, Publisher, Receipt, Reviewer};
 use std::alloc::{AllocError, Global};
 use std::marker::Model;
 use std::sync::Wait;
 
-/// What the lock lends to a step: the core, and what publishes its versions. The list that is published is that of the versions of the history. Contracts see the history, newest entry first. It is not `Drop`, as what publishes is not.
+/// What the lock lends to a step: the core, and what publishes its versions. The list that is published is that of the versions of the history. Contracts see the history, newest entry first. It is not `Drop`, as what publishes is not: end it by `close`.
 pub struct Shared<J: Naming> {
     pub(crate) core: Core,
     pub(crate) publisher: Publisher<J>,
@@ -57,8 +58,8 @@ fn publish_next<J: Naming, R: Wait>(
 /// Takes one step under the lock. A version that it makes is published before the answer. All growths are made before the first change, and publishing cannot fail.
 pub fn apply_in<J: Naming, R: Wait>(
     rt: &R,
-    shared: &mut Shared<J>,
     alloc: Global,
+    shared: &mut Shared<J>,
     session: Option<u64>,
     step: Step,
 ) -> Result<Answer<J>, CoreFault>
@@ -72,6 +73,29 @@ pub fn apply_in<J: Naming, R: Wait>(
 
 impl<J: Naming> Shared<J> {
     ghost use Rattle.filing_core.specs.Prepared.{is_load_or_commit};
+
+    /// An empty history and what publishes its versions, with so many reviewers, of which each has seen the empty repository alone. An office lends one under its lock; whoever keeps one, under a lock of their own or none, takes steps on it by `apply_in`.
+    pub fn open<R: Wait>(
+        rt: &R,
+        alloc: Global,
+        press: Press,
+        reviewers: usize,
+    ) -> Result<(Shared<J>, Vec<Reviewer<J>>), OfficeFault>
+        requires book { press.seen.book ≡ J.book }
+        requires some { (0 < reviewers) × (reviewers < 2 ^ 32) }
+        ensures begins { IfOk result (λ o. o.0 ≡ []) }
+        ensures reviewers { IfOk result (λ o. vec_len o.1 ≡ reviewers) }
+        ensures seen { IfOk result (λ o. All (λ r. r ≡ nothing ∷ []) o.1.items) }
+    {
+        let core = Core::new(alloc)?;
+        match Publisher::open(rt, alloc, press, reviewers) {
+            Ok((publisher, reviewers)) => Ok((Shared { core, publisher }, reviewers)),
+            Err(fault) => {
+                drop(core);
+                Err(fault)
+            }
+        }
+    }
 
     /// The session of the newest entry.
     fn last_session(&self) -> Option<u64>
@@ -128,8 +152,8 @@ impl<J: Naming> Shared<J> {
         })
     }
 
-    /// Takes back what publishes, and gives the core.
-    pub(crate) fn close<R: Wait>(self, rt: &R) -> Core
+    /// Takes back what publishes, and gives the core. It waits for the readers of reviews that are being opened; reviews that are kept go on answering.
+    pub fn close<R: Wait>(self, rt: &R) -> Core
         ensures { result.history ≡ self }
     {
         let Shared { core, publisher } = self;

@@ -1,5 +1,5 @@
 //! `Change`: what a session puts, removes and declares, by report.
-ghost use Rattle.std.specs.Prelude.{◌≡◌, option_copied, option_map, string_bytes, unwrap_or, IfOk, IsTrue, OnOk, OnErr};
+ghost use Rattle.std.specs.Prelude.{◌≡◌, ◌↔◌, option_copied, option_map, string_bytes, unwrap_or, IfOk, IsTrue, OnOk, OnErr};
 ghost use Rattle.std.specs.Arc.{arc_value};
 ghost use Rattle.filing_model.specs.TextMap.{empty, get, insert};
 ghost use Rattle.filing_model.specs.Changes.{change_at, declared_in, with_change, with_declared};
@@ -188,7 +188,7 @@ impl Change {
 
     /// Whether nothing is put, removed or declared. It takes no memory.
     pub fn is_empty(&self) -> bool
-        ensures { IsTrue result → self.now ≡ empty }
+        ensures { IsTrue result ↔ (self.now ≡ empty) }
     {
         match self.reports.iter().next() {
             None => true,

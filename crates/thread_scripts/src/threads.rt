@@ -7,7 +7,7 @@ use crate::fault::ThreadsFault;
 use crate::office::run_at_office;
 use crate::watch::Watch;
 use crate::written::write_replies;
-use filing_office::{OpenFault, Press};
+use filing_office::{OfficeFault, Press};
 use line_run::Sink;
 use oim_fact::NumericTable;
 use std::alloc::Global;
@@ -41,7 +41,7 @@ pub fn run_threads<W: Sink, R: Threads + Wait + Sync, V: Watch>(
         Blank::new(parts),
     ) {
         Ok(all_replies) => write_replies(all_replies, output),
-        Err(OpenFault::NoMemory) => Err(ThreadsFault::NoMemory),
-        Err(OpenFault::NoPlace) => Err(ThreadsFault::NoPlace),
+        Err(OfficeFault::NoMemory) => Err(ThreadsFault::NoMemory),
+        Err(OfficeFault::NoPlace) => Err(ThreadsFault::NoPlace),
     }
 }

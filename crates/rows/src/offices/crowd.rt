@@ -10,14 +10,12 @@ use crate::offices::places::made_of_each;
 use crate::offices::readers::Readers;
 use crate::offices::rounds::work_of;
 use anyhow::{Result, anyhow};
-use filing_office::{
-    Core, Desk, DeskStep, Naming, Office, Opened, Outcome, Press, Ran, Work, run_desks,
-};
+use filing_office::{Blanks, Core, Desk, DeskStep, Naming, Office, Outcome, Ran, Work, run_desks};
 use filing_step::Entry;
 use std::alloc::{AllocError, Global};
 use std::marker::{Send, Sync};
 use std::sync::Wait;
-use std::sync::ledger::{Blank, Ledger};
+use std::sync::ledger::Ledger;
 use std::thread;
 use std::thread::Threads;
 
@@ -46,7 +44,7 @@ fn take_all<L: Ledger + Naming, M: Ledger, R: Wait + AllocGlobal>(
     for one in steps {
         let DeskStep { name, step } = one;
         drop(name);
-        let Ok(answer) = desk.step(rt, office, rt.alloc(), session, step) else {
+        let Ok(answer) = desk.step(rt, rt.alloc(), office, session, step) else {
             return Ok(());
         };
         session = answer.session;
@@ -78,7 +76,7 @@ fn run_lists<
     R: Threads + Wait + Sync + Print + AllocGlobal,
 >(rt: &R, office: &Office<L, M>, works: Vec<Work<L, M>>) -> Result<Vec<Ran<L, M>>> {
     let meeting = Meeting::new();
-    let ran = run_desks(rt, office, rt.alloc(), works, &meeting)?;
+    let ran = run_desks(rt, rt.alloc(), office, works, &meeting)?;
     match meeting.tell(rt) {
         Ok(()) => Ok(ran),
         Err(error) => {
@@ -97,7 +95,7 @@ fn load<L: Ledger + Naming, M: Ledger, R: Wait + AllocGlobal>(
     let step = line_step(rt.alloc(), LOAD)?;
     match desks.last_mut() {
         Some(desk) => {
-            drop(desk.step(rt, office, rt.alloc(), None, step)?);
+            drop(desk.step(rt, rt.alloc(), office, None, step)?);
             Ok(())
         }
         None => {
@@ -225,17 +223,13 @@ pub(crate) fn take_rounds<
     L: Ledger + Naming + Send + Sync,
     M: Ledger + Send + Sync,
     R: Threads + Wait + Sync + Print + AllocGlobal,
->(rt: &R, press: Press, steps: Blank, receipts: Blank, way: Way) -> Result<()>
-    requires book { press.seen.book ≡ L.book }
-    requires steps { (steps.name ≡ L.name) × (steps.parts ≡ L.parts) × (steps.parts ≡ 4) }
-    requires receipts { (receipts.name ≡ M.name) × (receipts.parts ≡ M.parts) × (receipts.parts ≡ 4) }
+>(rt: &R, blanks: Blanks, way: Way) -> Result<()>
+    requires book { blanks.press.seen.book ≡ L.book }
+    requires steps { (blanks.steps.name ≡ L.name) × (blanks.steps.parts ≡ L.parts) × (blanks.steps.parts ≡ 4) }
+    requires receipts { (blanks.receipts.name ≡ M.name) × (blanks.receipts.parts ≡ M.parts)
+        × (blanks.receipts.parts ≡ 4) }
 {
-    let opened = Office::<L, M>::open(rt, rt.alloc(), press, 4, 1, steps, receipts)?;
-    let Opened {
-        office,
-        desks,
-        reviewers,
-    } = opened;
+    let (office, desks, reviewers) = Office::<L, M>::open(rt, rt.alloc(), 4, 1, blanks)?;
     let mut readers = Readers::of(rt.alloc(), reviewers);
     let ended = match run_rounds(rt, &office, desks, way) {
         Ok(ran) => end_crowd(rt, office, ran, &mut readers),

@@ -45,7 +45,7 @@ pub(crate) fn give_up<T: Drop, L: Ledger + Naming, M: Ledger, R: Wait>(
 }
 
 /// How many entries and versions an office made.
-fn told(alloc: Global, core: Core) -> Result<String, AllocError> {
+pub(crate) fn core_text(alloc: Global, core: Core) -> Result<String, AllocError> {
     let (entries, number) = (core.history().len(), core.current().number());
     drop(core);
     format!(in alloc; "{entries} entries, {number} versions")
@@ -57,17 +57,16 @@ fn end_at_last<L: Ledger + Naming, M: Ledger, R: Wait + AllocGlobal>(
     fault: FinishFault<L, M>,
     aside: Option<Desk<L, M>>,
 ) -> Result<String> {
-    let FinishFault { office, desks } = fault;
+    let FinishFault::DeskMissing { office, desks } = fault;
     let mut desks = desks;
     let came = desks.len();
     let _ = desks.extend(aside);
     match office.finish(rt, desks) {
         Ok(core) => {
-            let ended = told(rt.alloc(), core)?;
+            let ended = core_text(rt.alloc(), core)?;
             Ok(format!(in rt.alloc(); "{came} came, and then all: {ended}")?)
         }
-        Err(fault) => {
-            let FinishFault { office, desks } = fault;
+        Err(FinishFault::DeskMissing { office, desks }) => {
             drop(desks);
             office.give_up(rt);
             Ok(format!(in rt.alloc(); "{came} came")?)
@@ -85,7 +84,7 @@ pub(crate) fn end<L: Ledger + Naming, M: Ledger, R: Wait + AllocGlobal>(
     match office.finish(rt, here) {
         Ok(core) => {
             drop(aside);
-            Ok(told(rt.alloc(), core)?)
+            Ok(core_text(rt.alloc(), core)?)
         }
         Err(fault) => end_at_last(rt, fault, aside),
     }
@@ -98,8 +97,7 @@ pub(crate) fn all_came<L: Ledger + Naming, M: Ledger, R: Wait>(
 ) -> Result<Core> {
     match ended {
         Ok(core) => Ok(core),
-        Err(fault) => {
-            let FinishFault { office, desks } = fault;
+        Err(FinishFault::DeskMissing { office, desks }) => {
             drop(desks);
             give_up(rt, office, anyhow!("a desk is missing"))
         }

@@ -10,13 +10,13 @@ use crate::offices::ends::{Desks, end, give_up};
 use crate::offices::readers::Readers;
 use crate::question::{number_at, text_at};
 use anyhow::{Result, anyhow};
-use filing_office::{Desk, Naming, Office, Opened, Press};
+use filing_office::{Blanks, Desk, Naming, Office};
 use filing_step::Step;
 use oim_report::json_value;
 use serde_json::Value;
 use std::alloc::Global;
 use std::sync::Wait;
-use std::sync::ledger::{Blank, Ledger};
+use std::sync::ledger::Ledger;
 
 // The act after which there is no office any more.
 const END: &str = "[\"end\"]\n";
@@ -29,7 +29,7 @@ fn taken<L: Ledger + Naming, M: Ledger, R: Wait + AllocGlobal>(
     readers: &mut Readers<L>,
     step: Step,
 ) -> Result<String> {
-    let answer = desk.step(rt, office, rt.alloc(), readers.session, step)?;
+    let answer = desk.step(rt, rt.alloc(), office, readers.session, step)?;
     readers.note(rt.alloc(), answer)
 }
 
@@ -115,21 +115,15 @@ fn play_in<L: Ledger + Naming, M: Ledger, R: Wait + AllocGlobal>(
 /// What is told of acts in an office of their own.
 pub(crate) fn play<L: Ledger + Naming, M: Ledger, R: Wait + AllocGlobal>(
     rt: &R,
-    press: Press,
-    steps: Blank,
-    receipts: Blank,
+    blanks: Blanks,
     acts: &[u8],
 ) -> Result<Vec<u8>>
-    requires book { press.seen.book ≡ L.book }
-    requires steps { (steps.name ≡ L.name) × (steps.parts ≡ L.parts) × (steps.parts ≡ 2) }
-    requires receipts { (receipts.name ≡ M.name) × (receipts.parts ≡ M.parts) × (receipts.parts ≡ 2) }
+    requires book { blanks.press.seen.book ≡ L.book }
+    requires steps { (blanks.steps.name ≡ L.name) × (blanks.steps.parts ≡ L.parts) × (blanks.steps.parts ≡ 2) }
+    requires receipts { (blanks.receipts.name ≡ M.name) × (blanks.receipts.parts ≡ M.parts)
+        × (blanks.receipts.parts ≡ 2) }
 {
-    let opened = Office::<L, M>::open(rt, rt.alloc(), press, 2, 2, steps, receipts)?;
-    let Opened {
-        office,
-        desks,
-        reviewers,
-    } = opened;
+    let (office, desks, reviewers) = Office::<L, M>::open(rt, rt.alloc(), 2, 2, blanks)?;
     let mut readers = Readers::of(rt.alloc(), reviewers);
     let mut all_told = Vec::new(rt.alloc());
     let acts = str::from_utf8(acts).unwrap_or("");

@@ -1,6 +1,7 @@
 use Rattle.std.proofs.Common.{◌∙◌, ap, subst, arith, List}
 use mathlib.Core.List.{IsPrefix}
 use Rattle.filing_model.specs.Repository.{Repository}
+use Rattle.filing_model.specs.Versions.{IsChain}
 use Rattle.filing_editions.specs.Lists.{Listed, IsLonger}
 use Rattle.filing_editions.proofs.Longer.{first_longer, second_longer, of_clone}
 use Rattle.filing_editions.proofs.edition.Edition.longer.Goals as goal
@@ -13,7 +14,7 @@ returns-then-number-clause-longer c =
     let theirs : IsPrefix c.args.other.now.versions both =
     subst (λ (l : List Repository). IsPrefix l both) (ap (λ (e : Listed). e.versions) c.other.view_is) c.learn.ensures.3 in
     of_clone (λ (e : Listed). IsLonger c.args.self.now.versions c.args.other.now.versions e.versions) c.again.result c.args.other.now c.again.ensures
-    (second_longer _ _ both mine theirs (omega (arith, c.number.ensures, c.number-2.ensures, c.if-number.true)))
+    (second_longer _ _ both mine theirs (omega (arith, c.number.ensures.length, c.number-2.ensures.length, c.if-number.true)))
 
 pub returns-clause-longer : goal.returns-clause-longer
 returns-clause-longer c =
@@ -23,4 +24,12 @@ returns-clause-longer c =
     let theirs : IsPrefix c.args.other.now.versions both =
     subst (λ (l : List Repository). IsPrefix l both) (ap (λ (e : Listed). e.versions) c.other.view_is) c.learn.ensures.3 in
     of_clone (λ (e : Listed). IsLonger c.args.self.now.versions c.args.other.now.versions e.versions) c.again-else-number.result c.args.self.now c.again-else-number.ensures
-    (first_longer _ _ both mine theirs (omega (arith, c.number.ensures, c.number-2.ensures, c.if-number.false)))
+    (first_longer _ _ both mine theirs (omega (arith, c.number.ensures.length, c.number-2.ensures.length, c.if-number.false)))
+
+pub returns-then-number-clause-chain : goal.returns-then-number-clause-chain
+returns-then-number-clause-chain c =
+    of_clone (λ (e : Listed). IsChain e.versions) c.again.result c.args.other.now c.again.ensures c.number-2.ensures.chain
+
+pub returns-clause-chain : goal.returns-clause-chain
+returns-clause-chain c =
+    of_clone (λ (e : Listed). IsChain e.versions) c.again-else-number.result c.args.self.now c.again-else-number.ensures c.number.ensures.chain

@@ -2,10 +2,10 @@ use Rattle.rows.proofs.offices.PlayerAnswers.told.Given as goal
 
 -- the book and the ledgers that were just opened
 abbrev pub ghosts-play-L-Ledger : goal.ghosts-play-L-Ledger
-ghosts-play-L-Ledger g a = record { name = a.steps.name; parts = a.steps.parts }
+ghosts-play-L-Ledger g a = record { name = a.blanks.steps.name; parts = a.blanks.steps.parts }
 
 abbrev pub ghosts-play-L-Naming : goal.ghosts-play-L-Naming
-ghosts-play-L-Naming g a = record { book = a.press.seen.book }
+ghosts-play-L-Naming g a = record { book = a.blanks.press.seen.book }
 
 abbrev pub ghosts-play-M-Ledger : goal.ghosts-play-M-Ledger
-ghosts-play-M-Ledger g a = record { name = a.receipts.name; parts = a.receipts.parts }
+ghosts-play-M-Ledger g a = record { name = a.blanks.receipts.name; parts = a.blanks.receipts.parts }
