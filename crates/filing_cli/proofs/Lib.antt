@@ -1,5 +1,5 @@
 -- ---- lines of scripts
-pub mod AskedLines
+pub mod JudgedReplies
 -- ---- whole scripts
 pub mod Scripts
 -- ---- histories

@@ -2,7 +2,7 @@
 //!
 //! `script` runs a script: `script_machine` is what answers its lines, each by the step that it takes.
 //!
-//! `run_threads`, which runs several scripts at once, is handed on from `thread_scripts`.
+//! `run_threads`, which runs several scripts at once, and its watched form are handed on from `thread_scripts`.
 //!
 //! The crate knows nothing of how lines are cut and devices are read (`line_run`), of how a line or a reply is written (`filing_text`), of locks, or of files.
 #![tactic(auto)]
@@ -22,4 +22,4 @@ pub use line_run::{
     is_blank, run, write_all,
 };
 pub use script::{run_script, run_script_within};
-pub use thread_scripts::{ThreadsFault, Unwatched, Watch, run_threads};
+pub use thread_scripts::{ThreadsFault, Unwatched, Watch, run_threads, run_threads_watched};

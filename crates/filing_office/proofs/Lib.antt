@@ -5,3 +5,5 @@ pub mod ToldSteps
 pub mod TurnNames
 pub mod Learning
 pub mod RunsOn
+pub mod LearntBetween
+pub mod SeatedWorks

@@ -31,6 +31,15 @@ pub trait Access<L: Ledger + Naming, M: Ledger> {
     fn leave(&mut self);
 }
 
+/// When a desk takes the lock.
+#[derive(Clone, Copy, Debug, PartialEq, Eq)]
+pub enum LockUse {
+    /// For each step, as `EachStep`.
+    EachStep,
+    /// For the first of several steps, until it leaves, as `Visit`.
+    Visits,
+}
+
 /// The lock is taken for each step.
 #[derive(Drop)]
 pub struct EachStep<'a, L: Ledger + Naming, M: Ledger, R: Wait> {

@@ -4,7 +4,6 @@ use crate::desk::Desk;
 use crate::outcome::Outcome;
 use filing_core::Step;
 use filing_editions::{Naming, Reviewer};
-use std::marker::Sync;
 use std::sync::ledger::Ledger;
 
 /// A step under the name that the desk gives to its session. A load has none, and its name is not looked at.
@@ -26,7 +25,7 @@ pub struct Work<L: Ledger + Naming, M: Ledger> {
 pub type Ran<L, M> = (Desk<L, M>, Option<Reviewer<L>>, Vec<Outcome<L>>);
 
 /// What is called around each step of a desk, in the desk's thread: `before` and `after` it, with the desk's place among the works and the step's among its own, both from 0.
-pub trait Gate: Sync {
+pub trait Gate {
     fn before(&self, desk: usize, step: usize);
 
     fn after(&self, desk: usize, step: usize);

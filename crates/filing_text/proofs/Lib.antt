@@ -6,5 +6,6 @@ pub mod LinesByWord
 pub mod ReportOfLoad
 pub mod AskedOfLine
 pub mod ReadLoads
+pub mod JudgedLines
 -- ---- examples that compute
 pub mod Examples

@@ -9,3 +9,5 @@ pub mod Script
 pub mod Loads
 -- ---- the step that a line asks for
 pub mod AskedStep
+-- ---- what a line comes to before its step is taken
+pub mod Judging

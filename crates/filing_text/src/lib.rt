@@ -1,16 +1,18 @@
 //! The lines of a script and of its output: the kind of a line with its parts, the text of each reply, and, in `specs/`, what a script has as its output.
 //!
-//! `line` tells the kind of a line, `asked_step` makes the step that a line asks of a session, `load` reads the report of a load, and `texts` has the text of each reply.
+//! `line` tells the kind of a line, `asked_step` makes the step that a line asks of a session, `load` reads the report of a load, `judged` says what a line comes to before its step is taken, and `texts` has the text of each reply.
 //!
 //! The crate knows nothing of how a step is answered, nor of devices: nothing of a core or of versions.
 #![tactic(auto)]
 
 mod asked_step;
+mod judged;
 mod line;
 mod load;
 mod texts;
 
 pub use asked_step::{own_period, own_text, step_asked, step_from};
+pub use judged::{Judged, judge_line};
 pub use line::{
     Asking, Line, Period, allowed_at, asked_at, asking_at, kind_of_word, line_of, nullable_at,
     taken_at, text_at,

@@ -1,6 +1,7 @@
 -- ---- devices, and the lines and replies that pass through them
 pub mod DeviceSteps
 pub mod CutLines
+pub mod LinesInTurn
 pub mod SentReplies
 pub mod TakenLines
 pub mod RunByReads

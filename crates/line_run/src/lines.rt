@@ -1,8 +1,8 @@
-//! A line in a piece of text: where it ends, and whether it is blank.
+//! A line in a piece of text: where it ends, and whether it is blank; and the lines of a whole text, one after the other.
 
-ghost use Rattle.std.specs.Prelude.{◌≡◌, length, MatchOption};
+ghost use Rattle.std.specs.Prelude.{◌≡◌, ◌<◌, [], ◌∷◌, length, IfSome, MatchOption};
 ghost use Rattle.std.specs.List.{position, position_or_len};
-ghost use Rattle.line_run.specs.Lines.{is_blank as is_blank_line, is_line_feed};
+ghost use Rattle.line_run.specs.Lines.{is_blank as is_blank_line, is_line_feed, lines_of, spoken};
 ghost use Rattle.line_run.specs.Pieces.{IsCut};
 
 /// Whether a line has only spaces, tabs and carriage returns. Such a line is passed over.
@@ -30,4 +30,35 @@ pub(crate) fn split_line(text: &[u8]) -> Option<(&[u8], &[u8])>
     let (line, _) = text.split_at(end);
     let (_, others) = text.split_at(end + 1);
     Some((line, others))
+}
+
+/// The first line of a text and what follows it; none of an empty text.
+fn first_line(text: &[u8]) -> Option<(&[u8], &[u8])>
+    ensures lines { MatchOption result (lines_of text.now ≡ [])
+        (λ cut. lines_of text.now ≡ cut.0.now ∷ lines_of cut.1.now) }
+    ensures shorter { IfSome result (λ cut. length cut.1.now < length text.now) }
+{
+    if let Some((line, others)) = split_line(text) {
+        return Some((line, others));
+    }
+    if text.is_empty() {
+        return None;
+    }
+    Some(text.split_at(text.len()))
+}
+
+/// The first line of a text that is not blank, and what follows it; none where there is no such line. The lines are those that a run over the text answers.
+pub fn next_line(text: &[u8]) -> Option<(&[u8], &[u8])>
+    ensures lines { MatchOption result (spoken (lines_of text.now) ≡ [])
+        (λ cut. spoken (lines_of text.now) ≡ cut.0.now ∷ spoken (lines_of cut.1.now)) }
+    ensures shorter { IfSome result (λ cut. length cut.1.now < length text.now) }
+{
+    let mut rest = text;
+    while let Some((line, others)) = first_line(rest) {
+        if !is_blank(line) {
+            return Some((line, others));
+        }
+        rest = others;
+    }
+    None
 }

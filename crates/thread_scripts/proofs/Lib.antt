@@ -1,5 +1,8 @@
--- ---- lines
-pub mod JudgedLines
 -- ---- replies
 mod ToldReplies
 mod WrittenReplies
+-- ---- scripts, batch by batch
+mod JudgedScripts
+mod JudgedBatches
+mod UnderWay
+mod SeatedScripts

@@ -50,7 +50,7 @@ none_next (Some reply) rest os left text text' next = absurd (true≢false (sym 
 none_next None rest [] left text text' next = (next.1, refl, refl)
 none_next None rest (o ∷ os) left text text' next = outcome_untold rest os text text' (outcome_text o) next.0
 
-lines_of_none : lines_text [] ≡ []
+pub lines_of_none : lines_text [] ≡ []
 unfolding lines_text
 lines_of_none = refl
 

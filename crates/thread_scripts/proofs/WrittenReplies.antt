@@ -1,13 +1,14 @@
 -- Replies of scripts that are written one after another.
-use Rattle.std.proofs.Common.{◌≡◌, ◌∙◌, sym, refl, subst, Bool, true, false, ◌&&◌, List, [], ◌∷◌, ◌++◌, append_assoc, append-nil, Result, Ok, Err, string_bytes}
+use Rattle.std.proofs.Common.{◌≡◌, ◌∙◌, ap, cond, sym, refl, subst, Bool, true, false, ◌&&◌, List, [], ◌∷◌, ◌++◌, append_assoc, append-nil, Result, Ok, Err, string_bytes}
 use Rattle.std.specs.declared.alloc.AllocError.{AllocError}
 use Rattle.filing_model.specs.Text.{Text}
 use Rattle.line_run.specs.Devices.{SinkState, Took, TookPart}
 use Rattle.line_run.proofs.DeviceSteps.{took_none, took_more, part_after}
 use Rattle.line_run.proofs.SentReplies.{part_longer}
 use Rattle.thread_scripts.specs.declared.fault.ThreadsFault.TheVariants.{Write, NoMemory}
+use Rattle.thread_scripts.specs.declared.told.Ending.TheVariants.{LineStarved}
 use Rattle.thread_scripts.specs.declared.told.Replies.{Replies}
-use Rattle.thread_scripts.specs.Writing.{texts_of, all_whole, Writes}
+use Rattle.thread_scripts.specs.Writing.{is_last, is_whole, texts_of, all_whole, Writes}
 
 -- what is written, and the replies that are left, are all of them; so of whether they are whole
 pub record IsWrittenTo (all rest : List (Result Replies AllocError)) (whole : Bool) (start now : SinkState) : Type 0 where
@@ -23,22 +24,39 @@ and_assoc : (a b c : Bool) → (a && (b && c)) ≡ ((a && b) && c)
 and_assoc true b c = refl
 and_assoc false b c = refl
 
-module _ (all rest : List (Result Replies AllocError)) (whole : Bool) (start now next : SinkState) (replies : Replies)
-    (is : IsWrittenTo all (Ok replies ∷ rest) whole start now) where
-  pub one_written : Took now next (string_bytes replies.text) 0 → IsWrittenTo all rest (whole && replies.whole) start next
-  one_written took = record {
-    written = is.written ++ string_bytes replies.text;
-    took = took_more is.took took;
-    parts = is.parts ∙ sym (append_assoc is.written (string_bytes replies.text) (texts_of rest));
-    whole_is = is.whole_is ∙ and_assoc whole replies.whole (all_whole rest);
-  }
-
-  pub one_failed : TookPart now next (string_bytes replies.text) → Writes all (Err Write) start next
-  one_failed part = subst (λ text. TookPart start next text) (sym is.parts) (part_after is.took (part_longer (texts_of rest) part))
-
 pub and_false : (a : Bool) → (a && false) ≡ false
 and_false true = refl
 and_false false = refl
+
+module _ (all rest : List (Result Replies AllocError)) (whole : Bool) (start now next : SinkState) (replies : Replies)
+    (is : IsWrittenTo all (Ok replies ∷ rest) whole start now) where
+  -- the replies of a script behind which others may be written
+  pub one_written : is_last replies.ending ≡ false → Took now next (string_bytes replies.text) 0
+      → IsWrittenTo all rest (whole && is_whole replies.ending) start next
+  one_written more took = record {
+    written = is.written ++ string_bytes replies.text;
+    took = took_more is.took took;
+    parts = is.parts
+        ∙ ap (λ b. is.written ++ (string_bytes replies.text ++ cond b [] (texts_of rest))) more
+        ∙ sym (append_assoc is.written (string_bytes replies.text) (texts_of rest));
+    whole_is = is.whole_is ∙ and_assoc whole (is_whole replies.ending) (all_whole rest);
+  }
+
+  -- and of one behind which nothing is written
+  pub one_stopped : replies.ending ≡ LineStarved → Took now next (string_bytes replies.text) 0 → Writes all (Err NoMemory) start next
+  one_stopped starved took = (
+    subst (λ text. Took start next text 0)
+        (sym (is.parts
+        ∙ ap (λ e. is.written ++ (string_bytes replies.text ++ cond (is_last e) [] (texts_of rest))) starved
+        ∙ ap (λ text. is.written ++ text) (append-nil (string_bytes replies.text))))
+        (took_more is.took took),
+    is.whole_is ∙ ap (λ e. whole && (is_whole e && all_whole rest)) starved ∙ and_false whole,
+  )
+
+  pub one_failed : TookPart now next (string_bytes replies.text) → Writes all (Err Write) start next
+  one_failed part =
+      subst (λ text. TookPart start next text) (sym is.parts)
+      (part_after is.took (part_longer (cond (is_last replies.ending) [] (texts_of rest)) part))
 
 pub and_true : (a : Bool) → (a && true) ≡ a
 and_true true = refl

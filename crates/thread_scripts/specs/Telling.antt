@@ -6,6 +6,7 @@ use Rattle.std.specs.Option.{option_map_or}
 use Rattle.filing_model.specs.Text.{Text}
 use Rattle.filing_step.specs.Steps.{reply_of}
 use Rattle.filing_text.specs.ReplyText.{reply_text, name_in_use_text, no_session_text}
+use Rattle.filing_office.specs.Runs.{is_no_memory}
 use Rattle.filing_office.specs.declared.outcome.Outcome.{Outcome}
 use Rattle.filing_office.specs.declared.outcome.Outcome.TheVariants.{Answered, NameInUse, NoSession, NoMemory}
 
@@ -41,3 +42,10 @@ abbrev pub NextReply : {J : Type 0} → Option (String Global) → List (Outcome
 NextReply (Some at_once) os left there text text' = GrowsBy (Some (string_bytes at_once)) there text text' × (left ≡ os)
 NextReply None [] left there text text' = GrowsBy None there text text'
 NextReply None (o ∷ os) left there text text' = GrowsBy (outcome_text o) there text text' × (left ≡ os)
+
+-- each line has its reply, and each outcome is told
+abbrev pub AllUsed : {J : Type 0} → List (Option (String Global)) → List (Outcome J) → Type 0
+AllUsed [] os = os ≡ []
+AllUsed (Some text ∷ told) os = AllUsed told os
+AllUsed (None ∷ told) [] = ⊥
+AllUsed (None ∷ told) (o ∷ os) = (is_no_memory o ≡ false) × AllUsed told os

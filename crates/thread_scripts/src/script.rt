@@ -1,8 +1,13 @@
 //! The lines of a script, some at a time.
 
-use crate::judged::{Judged, line_judged};
+ghost use Rattle.std.specs.Prelude.{◌≡◌, [], IfOk, MatchOption, OnOk};
+ghost use Rattle.std.specs.Arc.{arc_value};
+ghost use Rattle.line_run.specs.Lines.{lines_of, spoken};
+ghost use Rattle.thread_scripts.specs.Batches.{AddsJudged, AddsLine, AreBatch};
+
 use filing_office::DeskStep;
-use line_run::is_blank;
+use filing_text::{Judged, bad_line_reply, judge_line};
+use line_run::next_line;
 use oim_fact::NumericTable;
 use std::alloc::{AllocError, Global};
 use std::sync::Arc;
@@ -23,78 +28,74 @@ pub(crate) struct Batch {
 }
 
 impl Batch {
-    fn new(alloc: Global) -> Batch {
+    fn new(alloc: Global) -> Batch
+        ensures told { result.told.items ≡ [] }
+        ensures steps { result.steps.items ≡ [] }
+    {
         Batch {
             told: Vec::new(alloc),
             steps: Vec::new(alloc),
         }
     }
 
-    /// Adds what one more line comes to.
-    fn push(&mut self, judged: Judged) -> Result<(), AllocError> {
-        let told = match judged {
-            Judged::Told(text) => Some(text),
-            Judged::Due(step) => {
-                self.steps.push(step)?;
-                None
+    /// Adds what one more line comes to. Among threads an export is a bad line.
+    fn push(&mut self, alloc: Global, judged: Judged) -> Result<(), AllocError>
+        ensures { OnOk result (AddsJudged judged self.old self.new) }
+    {
+        match judged {
+            Judged::Told(text) => Ok(self.told.push(Some(text))?),
+            Judged::Export(name) => {
+                drop(name);
+                let text = String::from_str(alloc, bad_line_reply())?;
+                Ok(self.told.push(Some(text))?)
             }
-        };
-        Ok(self.told.push(told)?)
+            Judged::Due { name, step } => {
+                self.steps.push(DeskStep { name, step })?;
+                Ok(self.told.push(None)?)
+            }
+        }
     }
 
-    /// Judges lines.
-    pub(crate) fn read(
+    /// Judges one more line.
+    fn judge(
+        &mut self,
         alloc: Global,
-        lines: &[&[u8]],
+        line: &[u8],
         table: &Arc<NumericTable>,
-    ) -> Result<Batch, AllocError> {
+    ) -> Result<(), AllocError>
+        ensures { OnOk result (AddsLine (arc_value table.now) line.now self.old self.new) }
+    {
+        let judged = judge_line(alloc, line, table)?;
+        self.push(alloc, judged)
+    }
+
+    /// Judges the first lines of a text that are not blank, up to `MOST_LINES` lines and `MOST_BYTES` bytes, and gives what follows them; none where there is no such line.
+    pub(crate) fn read<'a>(
+        alloc: Global,
+        text: &'a [u8],
+        table: &Arc<NumericTable>,
+    ) -> Result<Option<(Batch, &'a [u8])>, AllocError>
+        ensures { IfOk result (λ read. MatchOption read (spoken (lines_of text.now) ≡ [])
+            (λ b. AreBatch (arc_value table.now) text.now b.1.now b.0)) }
+    {
+        let Some((line, others)) = next_line(text) else {
+            return Ok(None);
+        };
         let mut batch = Batch::new(alloc);
-        for line in lines {
-            batch.push(line_judged(alloc, line, table)?)?;
-        }
-        Ok(batch)
-    }
-}
-
-/// The lines of a script in lists.
-#[derive(Drop)]
-struct Lists<'a> {
-    lists: Vec<Vec<&'a [u8]>>,
-    /// So many bytes the lines of the last list have.
-    bytes: usize,
-}
-
-impl<'a> Lists<'a> {
-    /// Puts a line behind the others, in a list of its own where the last has no room for it.
-    fn push(&mut self, alloc: Global, line: &'a [u8]) -> Result<(), AllocError> {
-        let bytes = self.bytes.saturating_add(line.len());
-        match self.lists.last_mut() {
-            Some(lines) if lines.len() < MOST_LINES && bytes <= MOST_BYTES => {
-                lines.push(line)?;
-                self.bytes = bytes;
+        batch.judge(alloc, line, table)?;
+        let mut rest = others;
+        let mut bytes = line.len();
+        for _ in 1..MOST_LINES {
+            let Some((line, others)) = next_line(rest) else {
+                break;
+            };
+            bytes = bytes.saturating_add(line.len());
+            if bytes > MOST_BYTES {
+                break;
             }
-            _ => {
-                let mut lines = Vec::new(alloc);
-                lines.push(line)?;
-                self.lists.push(lines)?;
-                self.bytes = line.len();
-            }
+            batch.judge(alloc, line, table)?;
+            rest = others;
         }
-        Ok(())
+        Ok(Some((batch, rest)))
     }
-}
-
-/// The lines of a script that are not blank, in lists of up to `MOST_LINES` lines and `MOST_BYTES` bytes.
-pub(crate) fn batches_of(alloc: Global, text: &[u8]) -> Result<Vec<Vec<&[u8]>>, AllocError> {
-    let mut batches = Lists {
-        lists: Vec::new(alloc),
-        bytes: 0,
-    };
-    for line in text.split(|byte| *byte == b'\n') {
-        if !is_blank(line) {
-            batches.push(alloc, line)?;
-        }
-    }
-    let Lists { lists, .. } = batches;
-    Ok(lists)
 }

@@ -1,4 +1,4 @@
-//! `Replies`: what the lines of a script are told.
+//! `Replies`: what the lines of a script are told, and how its run ended.
 
 ghost use Rattle.std.specs.Prelude.{◌≡◌, ◌++◌, IfOk, OnOk, string_bytes};
 ghost use Rattle.std.specs.Slice.Iter.{iter_rest};
@@ -10,13 +10,23 @@ use filing_text::{name_in_use_reply, no_session_reply, push_reply};
 use std::alloc::AllocError;
 use std::slice::Iter;
 
+/// How the run of a script ended.
+#[derive(Clone, Copy, Drop)]
+pub(crate) enum Ending {
+    /// Each line has its reply.
+    Whole,
+    /// Memory was wanted for a step. The lines before it have their replies.
+    StepStarved,
+    /// Memory was wanted while lines were judged. The lines before them have their replies.
+    LineStarved,
+}
+
 /// What the lines of a script are told.
 #[derive(Drop)]
 pub(crate) struct Replies {
-    /// The replies in the order of the lines, each ended by a line feed, up to the first step, or the first lines to judge, for which memory was wanted.
+    /// The replies in the order of the lines, each ended by a line feed.
     pub(crate) text: String,
-    /// Whether each line has its reply.
-    pub(crate) whole: bool,
+    pub(crate) ending: Ending,
 }
 
 /// Appends the reply that an outcome is; nothing where memory was wanted. Whether there is one.

@@ -3,11 +3,11 @@
 ghost use Rattle.thread_scripts.specs.Writing.{Writes};
 
 use crate::fault::ThreadsFault;
-use crate::told::Replies;
+use crate::told::{Ending, Replies};
 use line_run::{Sink, write_all};
 use std::alloc::AllocError;
 
-/// Writes the replies of one script after the other, up to one for which memory was refused.
+/// Writes the replies of one script after the other. Behind those of a script for which memory was wanted otherwise than for a step, nothing is written.
 pub(crate) fn write_replies<W: Sink>(
     all_replies: Vec<Result<Replies, AllocError>>,
     output: &mut W,
@@ -16,12 +16,14 @@ pub(crate) fn write_replies<W: Sink>(
 {
     let mut whole = true;
     for replies in all_replies {
-        let Replies { text, whole: each } = replies?;
+        let Replies { text, ending } = replies?;
         let Ok(()) = write_all(output, text.as_bytes()) else {
             return Err(ThreadsFault::Write);
         };
-        if !each {
-            whole = false;
+        match ending {
+            Ending::Whole => {}
+            Ending::StepStarved => whole = false,
+            Ending::LineStarved => return Err(ThreadsFault::NoMemory),
         }
     }
     if whole {

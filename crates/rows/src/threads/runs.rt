@@ -4,7 +4,7 @@ ghost use Rattle.std.specs.Prelude.{◌≡◌, ◌≤◌, ◌<◌, length};
 
 use crate::memory::replies_to;
 use anyhow::{Result, anyhow};
-use filing_cli::{MemoryOut, Unwatched, run_threads};
+use filing_cli::{MemoryOut, run_threads};
 use oim_fact::NumericTable;
 use std::alloc::Global;
 use std::marker::{Brand, Sync};
@@ -35,7 +35,7 @@ fn written_in_threads<K: Ledger, R: AllocGlobal + Threads + Wait + Sync>(
     requires sink_some { 0 < blank.parts }
 {
     let mut sink: MemoryOut<K> = MemoryOut::new(rt.alloc(), ROOM, PIECE, blank)?;
-    run_threads(rt, rt.alloc(), scripts, &mut sink, table, &Unwatched)?;
+    run_threads(rt, rt.alloc(), scripts, &mut sink, table)?;
     Ok(Vec::from_slice(rt.alloc(), sink.written())?)
 }
 

@@ -1,8 +1,9 @@
 use Rattle.std.proofs.Common.{◌≡◌, ◌∙◌, ap, sym, subst, Bool, ◌&&◌, ◌∷◌, string_bytes}
 use Rattle.line_run.specs.Devices.{Took, TookPart}
+use Rattle.thread_scripts.specs.Writing.{is_last, is_whole}
 use Rattle.thread_scripts.proofs.WrittenReplies.{IsWrittenTo, and_false, and_true, one_written, one_failed}
 use Rattle.thread_scripts.proofs.written.write_replies.Goals as goal
-use Rattle.thread_scripts.proofs.written.write_replies.Goals.{then-not-each, else-not-each}
+use Rattle.thread_scripts.proofs.written.write_replies.Goals.{in-Whole, in-StepStarved}
 
 pub loop-replies-preserved : goal.loop-replies-preserved
 loop-replies-preserved g c =
@@ -16,12 +17,16 @@ loop-replies-preserved g c =
     let is : IsWrittenTo all (_ ∷ rest) whole start now =
     subst (λ xs. IsWrittenTo all xs whole start now) (c.in-Some.ensures.steps.0 ∙ ap (λ r. r ∷ rest) c.in_ok-text.was) c.loop-replies.invariant in
     let text : c.as_bytes.result.now ≡ string_bytes replies.text = c.as_bytes.ensures.value in
-    let more = one_written all rest whole start now next replies is (subst (λ t. Took now next t 0) text c.in-Ok.ensures) in
-    subst (λ (b : Bool). IsWrittenTo all rest b start next)
-    (elim c.if-not-each.branch [
-      | then-not-each w ↦ ap (λ b. whole && b) w.if-not-each.true ∙ and_false whole ∙ sym w.whole-is
-      | else-not-each w ↦ ap (λ b. whole && b) w.if-not-each.false ∙ and_true whole ∙ sym w.whole-is
-    ]) more
+    elim c.match-ending.branch [
+      | in-Whole w ↦
+          subst (λ (b : Bool). IsWrittenTo all rest b start next)
+          (ap (λ e. whole && is_whole e) w.in-Whole.is ∙ and_true whole ∙ sym w.whole-is)
+          (one_written all rest whole start now next replies is (ap is_last w.in-Whole.is) (subst (λ t. Took now next t 0) text c.in-Ok.ensures))
+      | in-StepStarved w ↦
+          subst (λ (b : Bool). IsWrittenTo all rest b start next)
+          (ap (λ e. whole && is_whole e) w.in-StepStarved.is ∙ and_false whole ∙ sym w.whole-is)
+          (one_written all rest whole start now next replies is (ap is_last w.in-StepStarved.is) (subst (λ t. Took now next t 0) text c.in-Ok.ensures))
+    ]
 
 pub returns-in_default : goal.returns-in_default
 returns-in_default g c =
