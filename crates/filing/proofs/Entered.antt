@@ -36,12 +36,9 @@ pub files_of_threads : (entered : Option (Text × List Row)) (name : Text) (rows
 files_of_threads entered name rows table files is named table_read files_read = rw (is, named, table_read, ← files_read) refl
 
 -- the words of refusals that were entered
-pub refusals_entered : (entered : Option (Text × List Row)) (name : Text) → option_map (λ (p : Text × List Row). p.0) entered ≡ Some name
-    → name ≡ codes "words" → asked entered ≡ Some ToExplain
-refusals_entered None name is named = cc
-refusals_entered (Some (entered_name, rows)) name is named =
-    let entered_is : entered_name ≡ name = ap (λ (o : Option Text). unwrap_or o entered_name) is in
-    rw (entered_is, named) refl
+pub refusals_entered : (entered : Option (Text × List Row)) (name : Text) (rows : List Row)
+    → entered ≡ Some (name, rows) → name ≡ codes "words" → asked entered ≡ Some ToExplain
+refusals_entered entered name rows is named = rw (is, named) refl
 
 -- words of which none is wrong ask for the command that a parse of them entered
 pub asks_command : (words : List Text) (r : Result Order Fault) → fault_of program words ≡ []
