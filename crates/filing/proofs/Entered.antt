@@ -3,10 +3,10 @@ use Rattle.std.proofs.Common.{◌≡◌, ◌⊎◌, refl, inl, inr, ap, ap₂, s
 use Rattle.clap.specs.Words.{Row, Text, IsAmong, all_of, fault_of, first_of, subcommand_of, takes}
 use Rattle.clap.specs.declared.error.kind.ErrorKind.{ErrorKind}
 use Rattle.clap.specs.declared.error.kind.ErrorKind.TheVariants.{DisplayHelp, DisplayVersion, OutOfMemory}
-use Rattle.filing.specs.Words.{Asks, IsOrdered, ToRun, ToCheck, ToThread, asked, program}
+use Rattle.filing.specs.Words.{Asks, IsOrdered, ToRun, ToCheck, ToThread, ToExplain, asked, program}
 use Rattle.filing.specs.declared.fault.Fault.{Fault}
 use Rattle.filing.specs.declared.words.Order.{Order}
-use Rattle.filing.specs.declared.words.Order.TheVariants.{Run, Check, Threads, Shown}
+use Rattle.filing.specs.declared.words.Order.TheVariants.{Run, Check, Threads, Explain, Shown}
 
 -- two values that are read of one, from each of them
 pub both_read : {A B C : Type 0} (f : A → B) (g : A → C) (o : Option A) (x : B) (y : C)
@@ -35,12 +35,18 @@ pub files_of_threads : (entered : Option (Text × List Row)) (name : Text) (rows
     → Some files ≡ all_of (codes "scripts") rows → asked entered ≡ Some (ToThread table files)
 files_of_threads entered name rows table files is named table_read files_read = rw (is, named, table_read, ← files_read) refl
 
+-- the words of refusals that were entered
+pub refusals_entered : (entered : Option (Text × List Row)) (name : Text) (rows : List Row)
+    → entered ≡ Some (name, rows) → name ≡ codes "words" → asked entered ≡ Some ToExplain
+refusals_entered entered name rows is named = rw (is, named) refl
+
 -- words of which none is wrong ask for the command that a parse of them entered
 pub asks_command : (words : List Text) (r : Result Order Fault) → fault_of program words ≡ []
     → IfOk r (IsOrdered (subcommand_of program words)) → IfOk r (Asks words)
 asks_command words (Ok (Run table file)) none ordered = (none, ordered)
 asks_command words (Ok (Check table file)) none ordered = (none, ordered)
 asks_command words (Ok (Threads table files)) none ordered = (none, ordered)
+asks_command words (Ok Explain) none ordered = (none, ordered)
 asks_command words (Ok Shown) none ordered = absurd ordered
 asks_command words (Err fault) none ordered = tt
 
@@ -66,6 +72,7 @@ pub asks_shown : (words : List Text) (kind : ErrorKind) (r : Result Order Fault)
 asks_shown words kind (Ok (Run table file)) passes fails shown help = cc
 asks_shown words kind (Ok (Check table file)) passes fails shown help = cc
 asks_shown words kind (Ok (Threads table files)) passes fails shown help = cc
+asks_shown words kind (Ok Explain) passes fails shown help = cc
 asks_shown words kind (Ok Shown) passes fails shown help =
     (not_taken kind (takes program words) passes help, answered words kind help fails)
 asks_shown words kind (Err fault) passes fails shown help = tt

@@ -10,6 +10,8 @@ use Rattle.thread_scripts.specs.declared.fault.ThreadsFault.{ThreadsFault}
 use Rattle.thread_scripts.specs.declared.fault.ThreadsFault.TheVariants as threads
 use Rattle.filing.specs.declared.fault.Fault.{Fault}
 use Rattle.filing.specs.declared.fault.Fault.TheVariants.{Words, TooManyScripts, Read, Write, TableLine, TableNotText, NoMemory}
+use Rattle.filing.specs.declared.misplaced.Misplaced.{Misplaced}
+use Rattle.filing.specs.declared.misplaced.Misplaced.TheVariants as misplaced
 
 -- a script without an end is one that could not be read
 abbrev pub fault_of : ScriptFault → Fault
@@ -23,6 +25,11 @@ abbrev pub threads_fault_of : ThreadsFault → Fault
 threads_fault_of threads.Write = Write
 threads_fault_of threads.NoMemory = NoMemory
 threads_fault_of threads.NoPlace = NoMemory
+
+-- a history that can be kept nowhere is one that could not be written
+abbrev pub misplaced_fault_of : Misplaced → Fault
+misplaced_fault_of misplaced.NoMemory = NoMemory
+misplaced_fault_of other = Write
 
 -- a bad line of a numeric table keeps its number
 abbrev pub table_fault_of : TableFault → Fault

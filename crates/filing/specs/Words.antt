@@ -5,7 +5,7 @@ use Rattle.clap.specs.Words.{App, Row, Rule, Text, IsAmong, all_of, fault_of, fi
 use Rattle.clap.specs.declared.builder.action.ArgAction.TheVariants.{Append, Set}
 use Rattle.clap.specs.declared.error.kind.ErrorKind.TheVariants.{DisplayHelp, DisplayVersion}
 use Rattle.filing.specs.declared.words.Order.{Order}
-use Rattle.filing.specs.declared.words.Order.TheVariants.{Run, Check, Threads, Shown}
+use Rattle.filing.specs.declared.words.Order.TheVariants.{Run, Check, Threads, Explain, Shown}
 
 -- `--numeric FILE`
 unfoldable pub numeric : Rule
@@ -51,19 +51,25 @@ check = with_rule (with_rule (new_app (codes "check")) numeric) judged
 unfoldable pub threads : App
 threads = with_rule (with_rule (new_app (codes "threads")) numeric) scripts
 
--- the program, which wants a command
+-- the command `words`
+unfoldable pub words : App
+words = new_app (codes "words")
+
+-- the program, which has a version and wants a command
 unfoldable pub program : App
 program = let bare = new_app (codes "filing") in
-    let wanting = record bare { top = record bare.top { subcommand_required = true } } in
-    with_subcommand (with_subcommand (with_subcommand wanting run.top) threads.top) check.top
+    let wanting = record bare { top = record bare.top { has_version = true; subcommand_required = true } } in
+    let running = with_subcommand (with_subcommand wanting run.top) threads.top in
+    with_subcommand (with_subcommand running check.top) words.top
 
 -- a run by the numeric table of a file, or by none, whose history goes to a file, or nowhere; or the history of a file that
 -- is to be judged by the numeric table of another, or by none; or the scripts of some files, in their order, that are to be run
--- in threads by such a table
+-- in threads by such a table; or the words by which lines are refused
 pub data Asked : Type 0 where
   ToRun : Option Text → Option Text → Asked
   ToCheck : Option Text → Text → Asked
   ToThread : Option Text → List Text → Asked
+  ToExplain : Asked
 
 -- what `run`, `check` and `threads` ask for with these arguments
 abbrev pub run_asked : List Row → Option Asked
@@ -80,7 +86,8 @@ abbrev pub asked : Option (Text × List Row) → Option Asked
 asked (Some entered) =
     if bytes_eq entered.0 (codes "run") then run_asked entered.1
     else (if bytes_eq entered.0 (codes "check") then check_asked entered.1
-    else (if bytes_eq entered.0 (codes "threads") then threads_asked entered.1 else None))
+    else (if bytes_eq entered.0 (codes "threads") then threads_asked entered.1
+    else (if bytes_eq entered.0 (codes "words") then Some ToExplain else None)))
 asked None = None
 
 -- the order is what was asked for
@@ -90,6 +97,7 @@ IsOrdered entered (Run table file) =
 IsOrdered entered (Check table file) = asked entered ≡ Some (ToCheck (option_map (λ s. s.now) table) file.now)
 IsOrdered entered (Threads table files) =
     asked entered ≡ Some (ToThread (option_map (λ s. s.now) table) (map (λ s. s.now) files.items))
+IsOrdered entered Explain = asked entered ≡ Some ToExplain
 IsOrdered entered Shown = ⊥
 
 -- The words, the program's name before them, ask for this. A command is asked for by words of which none is wrong, with the files that are the values of its arguments. What is shown is asked for by words that the program does not take, and that clap answers with help.
@@ -100,5 +108,6 @@ Asks words (Check table file) = (fault_of program words ≡ [])
     × IsOrdered (subcommand_of program words) (Check table file)
 Asks words (Threads table files) = (fault_of program words ≡ [])
     × IsOrdered (subcommand_of program words) (Threads table files)
+Asks words Explain = (fault_of program words ≡ []) × IsOrdered (subcommand_of program words) Explain
 Asks words Shown = (takes program words ≡ false)
     × (IsAmong DisplayHelp (fault_of program words) ⊎ IsAmong DisplayVersion (fault_of program words))

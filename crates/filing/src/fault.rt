@@ -2,6 +2,7 @@ ghost use Rattle.std.specs.Prelude.{◌≡◌};
 ghost use Rattle.std.specs.Process.{exit_status};
 ghost use Rattle.filing.specs.Faults.{status_of};
 
+use crate::misplaced::Misplaced;
 use filing_cli::{ScriptFault, ThreadsFault};
 use filing_model::TableFault;
 use std::alloc::{AllocError, AllocFailed};
@@ -133,6 +134,20 @@ impl From<ThreadsFault> for Fault {
         match fault {
             ThreadsFault::Write => Fault::Write,
             ThreadsFault::NoMemory | ThreadsFault::NoPlace => Fault::NoMemory,
+        }
+    }
+}
+
+impl From<Misplaced> for Fault {
+    ghost use Rattle.std.specs.Prelude.{◌≡◌};
+    ghost use Rattle.filing.specs.Faults.{misplaced_fault_of};
+
+    ghost from_gives = { λ misplaced e. e ≡ misplaced_fault_of misplaced };
+
+    fn from(misplaced: Misplaced) -> Fault {
+        match misplaced {
+            Misplaced::NoMemory => Fault::NoMemory,
+            _ => Fault::Write,
         }
     }
 }

@@ -1,75 +1,156 @@
-//! What `filing run --help` says of the lines of a script, `filing threads --help` of several scripts, and `filing check --help` of verdicts. It is a text that is shown as it stands; no code reads it.
+//! What `filing --help` says of how to begin, `filing run --help` of the lines of a script, `filing threads --help` of several scripts, `filing check --help` of verdicts, and `filing words` of refusals. It is a text that is shown as it stands, at most 80 columns wide; no code reads it.
+
+/// What `filing --help` says beside the commands.
+pub(crate) const BEGINNING: &str = r#"A script goes in, and a reply comes out for each of its lines:
+  filing run < script.jsonl > replies.jsonl
+  filing run --numeric concepts.txt --history history.jsonl < script.jsonl
+  filing check --numeric concepts.txt history.jsonl
+
+`filing run --help` has every line by an example, `filing words` every word by
+which a line is refused.
+
+The status is 0 where the script was read to its end, also where lines were
+refused; 1 after a fault in reading or writing; 2 where the words or the numeric
+table are wrong; 3 where memory was wanted; 4 where a history departs."#;
 
 /// Every line by an example, and how reports and replies go in and out.
 pub(crate) const LINES: &str =
-    r#"Each line of the script is a JSON array and gets one reply line, in the same order. Blank lines get none.
-r1 and f1 stand for the names of a report and of a fact, s1 and v1 for names that you give to sessions.
+    r#"Each line of the script is a JSON array and gets one reply line, in the same
+order. Blank lines get none. r1 and f1 stand for the names of a report and of a
+fact, s1 and v1 for names that you give to sessions.
 
 A report goes in, and comes out as it is now:
-  ["load","r1",REPORT]        REPORT is an object in xBRL-JSON 1.0, or a JSON string that holds the text of one
+  ["load","r1",REPORT]        REPORT is an object in xBRL-JSON 1.0, or a JSON
+                              string that holds the text of one
   ["export","r1"]
 
 A session opens at the current version. Any number may be open at once:
-  ["open","v1","review"]      reads that version, and goes on reading it, whatever is committed meanwhile
-  ["open","s1","amend"]       reads that version with its own changes laid over it
+  ["open","v1","review"]      reads that version, and goes on reading it,
+                              whatever is committed meanwhile
+  ["open","s1","amend"]       reads that version with its own changes laid over
 
 It reads:
-  ["get","s1","r1","f1"]                          the fact of an identifier
-  ["cell","s1","r1",{"concept":"ex:Name"}]        the facts with exactly these dimensions: class, identifiers
-  ["page","s1","r1","ex:Name",true,null,100]      the first 100 identifiers of a concept, whatever the period
-  ["page","s1","r1","ex:Name","2024","f7",100]    of the period "2024" (null: of none), those after f7 (null:
-                                                  all), at most 1000. The reply ends in whether there are more
-  ["declared","s1","r1"]                          the duplicates that the report allows
+  ["get","s1","r1","f1"]      the fact of an identifier
+  ["cell","s1","r1",{"concept":"ex:Name"}]
+                              the facts with exactly these dimensions: class,
+                              identifiers
+  ["page","s1","r1","ex:Name",true,null,100]
+                              the first 100 identifiers of a concept, whatever
+                              the period
+  ["page","s1","r1","ex:Name","2024","f7",100]
+                              of the period "2024" (null: of none), those after
+                              f7 (null: all), at most 1000. The reply ends in
+                              whether there are more
+  ["declared","s1","r1"]      the duplicates that the report allows
 
 It stages, where it was opened to amend, and nobody else sees it:
   ["add","s1","r1","f1",{"value":"Acme","dimensions":{"concept":"ex:Name"}}]
-  ["remove","s1","r1","f1"]                       to change a fact, remove it and add it
-  ["declare","s1","r1","none"]                    or complete, consistent, all
+  ["remove","s1","r1","f1"]   to change a fact, remove it and add it
+  ["declare","s1","r1","none"]
+                              or complete, consistent, all
 
 It ends, and its name is free:
-  ["commit","s1"]             all that it staged becomes the next version, or nothing does
+  ["commit","s1"]             all that it staged becomes the next version, or
+                              nothing does
   ["close","s1"]              nothing is left of it
 
 A commit is answered by one of
-  ["committed",4]                                 version 4 is the current one
-  ["conflict",3,["id","r1","f1"]]                 the commit or load numbered 3 touched what the session read.
-                                                  Open it again, read anew, and commit
-  ["disallowed","r1","inconsistent",["f1","f2"]]  these facts would be duplicates that r1 does not allow
-  ["closed"]                                      to a review
+  ["committed",4]             version 4 is the current one
+  ["conflict",3,["id","r1","f1"]]
+                              the commit or load numbered 3 touched what the
+                              session read. Open it again, read anew, and commit
+  ["disallowed","r1","inconsistent",["f1","f2"]]
+                              these facts would be duplicates that r1 does not
+                              allow
+  ["closed"]                  to a review
 
-A report's file becomes a load line, a script runs, and replies are picked out again, by jq:
+Other refusals are a word: `filing words` has each.
+
+A report's file becomes a load line, a script runs, and replies are picked out
+again, by jq:
   jq -c '["load","r1",.]' report.json > script.jsonl
-  jq -Rsc '["load","r1",.]' report.json > script.jsonl    the same, with the text kept as it is
+  jq -Rsc '["load","r1",.]' report.json > script.jsonl
+                              the same, with the text kept as it is
   filing run --numeric concepts.txt < script.jsonl > replies.jsonl
-  filing run --history history.jsonl < script.jsonl > replies.jsonl    and what `filing check` judges
+  filing run --history history.jsonl < script.jsonl > replies.jsonl
+                              and what `filing check` judges
   jq -c 'select(.[0] == "conflict" or .[0] == "disallowed")' replies.jsonl
   jq -r 'select(.[0] == "page") | .[1][]' replies.jsonl
   jq 'select(.[0] == "report") | .[1]' replies.jsonl
-  grep '[^[:space:]]' script.jsonl | paste -d '\n' - replies.jsonl    each line with its reply below it
+  grep '[^[:space:]]' script.jsonl | paste -d '\n' - replies.jsonl
+                              each line with its reply below it
 
-Without --numeric no concept is numeric, and a fact with a unit is refused as misplaced."#;
+Without --numeric no concept is numeric, and a fact with a unit is refused as
+misplaced.
+
+The file of --history is written once the script has ended without fault. A file
+that is there is replaced, with its rights, and a link is followed. A path that
+will not do is told at once, before the script is read, and is a fault at the
+end."#;
 
 /// What `filing check --help` says of histories and verdicts.
 pub(crate) const VERDICTS: &str =
-    r#"A history has a line for each step of a script, with its session's number and its reply:
+    r#"A history has a line for each step of a script, with its session's number and
+its reply:
   [null,["load","r1",REPORT],["loaded",1]]
   [1,["open","amend"],["opened"]]
   [1,["get","r1","f1"],["none"]]
 
-It is lawful where each reply is the one that the steps before it admit. One line tells the verdict:
+It is lawful where each reply is the one that the steps before it admit. One
+line tells the verdict:
   ["lawful"]         status 0
-  ["departs",2]      status 4: it departs at the third line, blank lines aside. Another reply is due there, or its
-                     session is not open, or the line stands for no step
+  ["departs",2]      status 4: it departs at the third line, blank lines aside.
+                     Another reply is due there, or its session is not open, or
+                     the line stands for no step
 
-The numeric table has to be that of the run. The spaces in a line and the order of members are free."#;
+The numeric table has to be that of the run. The spaces in a line and the order
+of members are free."#;
 
 /// What `filing threads --help` says of several scripts.
 pub(crate) const THREADS: &str =
-    r#"Each script has a thread of its own, and all use one repository. Lines and replies are those of `filing run --help`,
-but
+    r#"Each script has a thread of its own, and all use one repository. Lines and
+replies are those of `filing run --help`, but
   - names of sessions are each script's own: two scripts may both open "s1"
   - ["export","r1"] is a bad line
-  - a session opened to review sees at least what its own script has loaded and committed before
+  - a session opened to review sees at least what its own script has loaded and
+    committed before
 
-Which script's step comes first is not said. The replies come script by script, in the order of the files:
-  filing threads --numeric concepts.txt load.jsonl anna.jsonl ben.jsonl > replies.jsonl"#;
+Which script's step comes first is not said. The replies come script by script,
+in the order of the files:
+  filing threads --numeric concepts.txt load.jsonl anna.jsonl ben.jsonl"#;
+
+/// Every word by which a line is refused.
+pub(crate) const REFUSALS: &str = r#"A line of a script is refused by
+  bad-line               no JSON, or none of the lines of `filing run --help`
+  bad-report             load: the report is; a word of the next list follows
+  bad-fact               add, cell: it is; a word of the last list follows
+  name-in-use            open: an open session has this name
+  no-session             no open session has this name
+  no-report              there is no report of this name
+  none                   remove: no fact has this identifier
+  read-only              a session that is to review changes nothing
+  taken                  add: a fact has this identifier
+  name-taken             load: a report has this name
+  conflict               commit: what the session read was touched since
+  disallowed             load, commit: duplicates that the report disallows
+
+A report is refused by
+  not-json               its text is no JSON
+  wrong-shape            a part of it is no object, or a prefix names no text
+  wrong-document-type    not https://xbrl.org/2021/xbrl-json
+  bad-policy             xbrl:allowedDuplicates is none of the four words
+  alias-twice            two prefixes have one URI
+  not-whole              a number in documentInfo is not whole
+  bad-fact               a fact is: its identifier and a word of the last list
+
+A fact, or the dimensions of a cell, are refused by
+  wrong-shape            value, dimensions, decimals or links is of a wrong kind
+  not-whole              decimals or a number in links is not whole
+  null-core              a dimension that is no taxonomy's is null
+  no-concept             there is no concept
+  too-long               a name or a value has more than 4096 bytes
+  unbound-prefix         a name has no prefix that the report binds
+  misplaced              unit or decimals at a fact that is not numeric
+  not-a-number           the value of a numeric fact is no decimal numeral
+  too-large              more than 20 digits before the point, or 15 behind it
+  decimals-out-of-range  decimals are not from -20 to 15"#;

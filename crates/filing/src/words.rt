@@ -1,10 +1,11 @@
 ghost use Rattle.std.specs.Prelude.{◌≡◌, ◌⊎◌, false, IfOk, IsOkAnd, map, string_bytes};
 ghost use Rattle.clap.specs.Words.{AddsSubcommand, app_of, kind_of, new_app, rule_of, subcommand_rows_of, with_rule};
-ghost use Rattle.filing.specs.Words.{Asks, IsOrdered, numeric, history, judged, scripts, run, check, threads, program};
+ghost use Rattle.filing.specs.Words.{Asks, IsOrdered, numeric, history, judged, scripts, run, check, threads, words, program};
 ghost use Rattle.filing.specs.declared.words.Order.TheVariants.{Shown};
 
 use crate::fault::Fault;
-use crate::help::{LINES, THREADS, VERDICTS};
+use crate::help::{BEGINNING, LINES, REFUSALS, THREADS, VERDICTS};
+use crate::stray::stray_word;
 use clap::error::ErrorKind;
 use clap::{Arg, ArgAction, ArgMatches, Command, Error};
 use std::alloc::{AllocError, Global};
@@ -28,9 +29,14 @@ pub(crate) enum Order<'a> {
         numeric: Option<&'a str>,
         scripts: Vec<&'a str>,
     },
-    /// Help was asked for, and it was shown.
+    /// Tell the words by which lines are refused.
+    Explain,
+    /// Help or the version was asked for, and it was shown.
     Shown,
 }
+
+/// What `filing --version` tells. There was no release yet.
+const VERSION: &str = "0.1.0";
 
 /// The option that names a numeric table.
 #[tactic(auto, unfolding(crate::specs::Words::numeric))]
@@ -41,7 +47,7 @@ fn numeric_option<'a>(alloc: Global) -> Arg<'a>
     Arg::new(alloc, "numeric")
         .long("numeric")
         .value_name("FILE")
-        .help("The numeric concepts, each on a line: its URI, a space and its local name")
+        .help("Numeric concepts, one a line: URI, space, local name")
         .action(ArgAction::Set)
 }
 
@@ -54,7 +60,7 @@ fn history_option<'a>(alloc: Global) -> Arg<'a>
     Arg::new(alloc, "history")
         .long("history")
         .value_name("FILE")
-        .help("Where the history goes once the script has ended: each step with its reply")
+        .help("Where the history goes once the script has ended")
         .action(ArgAction::Set)
 }
 
@@ -66,7 +72,7 @@ fn judged_argument<'a>(alloc: Global) -> Arg<'a>
 {
     Arg::new(alloc, "judged")
         .value_name("HISTORY")
-        .help("The history that is to be judged, as `run --history` writes it")
+        .help("The history to be judged, as `run --history` writes it")
         .action(ArgAction::Set)
         .required(true)
 }
@@ -79,7 +85,7 @@ fn scripts_argument<'a>(alloc: Global) -> Arg<'a>
 {
     Arg::new(alloc, "scripts")
         .value_name("SCRIPT")
-        .help("A script of JSON lines, for a thread of its own; up to 16 of them")
+        .help("A script of JSON lines, for a thread of its own; up to 16")
         .action(ArgAction::Append)
         .required(true)
 }
@@ -98,7 +104,7 @@ fn command_of<'a>(
 {
     let started = Command::new(alloc, name)
         .about(about)
-        .after_help(help)
+        .after_long_help(help)
         .arg(numeric_option(alloc));
     match started {
         Ok(command) => command.arg(argument),
@@ -121,7 +127,7 @@ fn run_command<'a>(alloc: Global) -> Result<Command<'a>, AllocError>
 fn check_command<'a>(alloc: Global) -> Result<Command<'a>, AllocError>
     ensures { IfOk result (λ c. app_of c ≡ check) }
 {
-    let about = "Judges a history: whether each of its replies is the one that there may be";
+    let about = "Judges a history: whether each reply is the one that may be";
     command_of(alloc, "check", about, VERDICTS, judged_argument(alloc))
 }
 
@@ -129,8 +135,17 @@ fn check_command<'a>(alloc: Global) -> Result<Command<'a>, AllocError>
 fn threads_command<'a>(alloc: Global) -> Result<Command<'a>, AllocError>
     ensures { IfOk result (λ c. app_of c ≡ threads) }
 {
-    let about = "Runs scripts of JSON lines from files, each in a thread of its own";
+    let about = "Runs scripts of JSON lines from files, each in its own thread";
     command_of(alloc, "threads", about, THREADS, scripts_argument(alloc))
+}
+
+/// The command that tells the words of refusals.
+fn words_command<'a>(alloc: Global) -> Command<'a>
+    ensures { app_of result ≡ words }
+{
+    Command::new(alloc, "words")
+        .about("Tells the words by which lines are refused")
+        .after_long_help(REFUSALS)
 }
 
 /// A command with another below it, where that could be made.
@@ -155,11 +170,14 @@ fn command<'a>(alloc: Global) -> Result<Command<'a>, AllocError>
 {
     let bare = Command::new(alloc, "filing")
         .about("A repository of company filing reports in xBRL-JSON")
+        .version(VERSION)
+        .after_long_help(BEGINNING)
         .subcommand_required(true)
         .arg_required_else_help(false);
     let with_run = with_below(bare, run_command(alloc))?;
     let with_threads = with_below(with_run, threads_command(alloc))?;
-    with_below(with_threads, check_command(alloc))
+    let with_check = with_below(with_threads, check_command(alloc))?;
+    with_check.subcommand(words_command(alloc))
 }
 
 /// What the words that `clap` has taken ask for. It takes none without a command, no `check` without its file, and no `threads` without a script.
@@ -185,6 +203,7 @@ fn ordered<'a>(alloc: Global, matches: &ArgMatches<'a>) -> Result<Order<'a>, Fau
             }),
             None => Err(Fault::Words),
         },
+        Some(("words", _)) => Ok(Order::Explain),
         _ => Err(Fault::Words),
     }
 }
@@ -225,6 +244,7 @@ pub(crate) fn read_words<'a, R: Print + Eprint + AllocGlobal>(
         }
         Err(error) => {
             let order = shown(rt, &error);
+            hint(rt, &error, words);
             drop(error);
             drop(command);
             order
@@ -248,5 +268,15 @@ fn shown<'a, R: Print + Eprint>(rt: &R, error: &Error) -> Result<Order<'a>, Faul
     match shown {
         Ok(()) => Ok(Order::Shown),
         Err(_) => Err(Fault::Write),
+    }
+}
+
+/// Says where a script comes from, beside the error of words that name its file.
+fn hint<R: Eprint>(rt: &R, error: &Error, words: &[String]) {
+    if error.kind() != ErrorKind::UnknownArgument {
+        return;
+    }
+    if let Some(word) = stray_word(words) {
+        let _ = eprintln!(rt; "filing: a script comes on standard input: write < {word}");
     }
 }

@@ -1,7 +1,7 @@
 use Rattle.std.proofs.Common.{◌∙◌, ap, sym, codes, map, option_map, Some, List, Bor, ℕ}
 use Rattle.clap.specs.Words.{found_of, rows_of, subcommand_rows_of}
 use Rattle.clap.proofs.WalkLemmas.{first_value-rows, raw_values-rows}
-use Rattle.filing.proofs.Entered.{both_read, files_of_run, files_of_check, files_of_threads}
+use Rattle.filing.proofs.Entered.{both_read, files_of_run, files_of_check, files_of_threads, refusals_entered}
 use Rattle.filing.proofs.words.ordered.Goals as goal
 
 pub returns-in-Some-run-default : goal.returns-in-Some-run-default
@@ -39,3 +39,10 @@ returns-in_ok-to_vec-in-Some-get_strs c =
     (c.get_str-in-Some-get_strs.ensures ∙ first_value-rows found (codes "numeric"))
     (ap (λ (l : List (Bor (List ℕ))). Some (map (λ (s : Bor (List ℕ)). s.now) l)) (kept.ensures.items_if_clones_equal (λ x y h. h))
     ∙ c.in-Some-get_strs.ensures ∙ raw_values-rows found (codes "scripts"))
+
+pub returns-in-Some-words-default : goal.returns-in-Some-words-default
+returns-in-Some-words-default c =
+    let met = c.in-Some-words-default in
+    refusals_entered (subcommand_rows_of c.args.matches.now) met.field-0-0.now _
+    (both_read _ _ _ _ _ (sym met.ensures.name) (sym met.ensures.rows))
+    met.is-words
