@@ -5,8 +5,8 @@ use Rattle.clap.specs.declared.error.kind.ErrorKind.{ErrorKind}
 use Rattle.clap.specs.declared.error.kind.ErrorKind.TheVariants.{DisplayHelp, DisplayVersion, OutOfMemory}
 use Rattle.filing.specs.Words.{Asks, IsOrdered, ToRun, ToCheck, ToThread, ToExplain, asked, program}
 use Rattle.filing.specs.declared.fault.Fault.{Fault}
-use Rattle.filing.specs.declared.words.Order.{Order}
-use Rattle.filing.specs.declared.words.Order.TheVariants.{Run, Check, Threads, Explain, Shown}
+use Rattle.filing.specs.declared.words.Invocation.{Invocation}
+use Rattle.filing.specs.declared.words.Invocation.TheVariants.{Run, Check, Threads, Explain, Shown}
 
 -- two values that are read of one, from each of them
 pub both_read : {A B C : Type 0} (f : A → B) (g : A → C) (o : Option A) (x : B) (y : C)
@@ -41,7 +41,7 @@ pub refusals_entered : (entered : Option (Text × List Row)) (name : Text) (rows
 refusals_entered entered name rows is named = rw (is, named) refl
 
 -- words of which none is wrong ask for the command that a parse of them entered
-pub asks_command : (words : List Text) (r : Result Order Fault) → fault_of program words ≡ []
+pub asks_command : (words : List Text) (r : Result Invocation Fault) → fault_of program words ≡ []
     → IfOk r (IsOrdered (subcommand_of program words)) → IfOk r (Asks words)
 asks_command words (Ok (Run table file)) none ordered = (none, ordered)
 asks_command words (Ok (Check table file)) none ordered = (none, ordered)
@@ -66,7 +66,7 @@ answered words kind (inl h) (inr is) = inl (subst (λ (k : ErrorKind). IsAmong k
 answered words kind (inr v) (inr is) = inr (subst (λ (k : ErrorKind). IsAmong k (fault_of program words)) v is)
 
 -- words that are answered with help ask for what is shown
-pub asks_shown : (words : List Text) (kind : ErrorKind) (r : Result Order Fault)
+pub asks_shown : (words : List Text) (kind : ErrorKind) (r : Result Invocation Fault)
     → (takes program words ≡ true → kind ≡ OutOfMemory) → (kind ≡ OutOfMemory) ⊎ IsAmong kind (fault_of program words)
     → IfOk r (λ o. o ≡ Shown) → IfOk r (λ _. (kind ≡ DisplayHelp) ⊎ (kind ≡ DisplayVersion)) → IfOk r (Asks words)
 asks_shown words kind (Ok (Run table file)) passes fails shown help = cc

@@ -1,8 +1,8 @@
 -- What a script's run leaves of its source and its sink is what it leaves of a reader and a writer.
 use Rattle.std.proofs.Common.{◌≡◌, subst, List, ℕ, Option}
-use Rattle.filing_model.specs.Facts.{Table}
-use Rattle.filing_model.specs.History.{History}
-use Rattle.line_run.specs.Devices.{SourceState, SinkState, new_source, new_sink}
+use Rattle.filing_model.specs.Oim.Facts.{Table}
+use Rattle.filing_model.specs.Histories.History.{History}
+use Rattle.line_io.specs.Devices.{SourceState, SinkState, new_source, new_sink}
 use Rattle.filing_cli.specs.ScriptRun.{IsScriptEnded}
 use Rattle.filing.specs.Runs.{WritesScript}
 

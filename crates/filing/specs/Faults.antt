@@ -1,13 +1,13 @@
 -- How the program ends.
 use Rattle.std.specs.Prelude.{◌≡◌, ℕ, List, Result, Ok, Err, IsUtf8}
-use Rattle.filing_model.specs.Facts.{Table}
-use Rattle.filing_model.specs.Tables.{read_table_of}
+use Rattle.filing_model.specs.Oim.Facts.{Table}
+use Rattle.filing_model.specs.Oim.Tables.{read_table_of}
 use Rattle.filing_model.specs.declared.faults.TableFault.{TableFault}
 use Rattle.filing_model.specs.declared.faults.TableFault.TheVariants as table
-use Rattle.line_run.specs.declared.fault.ScriptFault.{ScriptFault}
-use Rattle.line_run.specs.declared.fault.ScriptFault.TheVariants as script
-use Rattle.thread_scripts.specs.declared.fault.ThreadsFault.{ThreadsFault}
-use Rattle.thread_scripts.specs.declared.fault.ThreadsFault.TheVariants as threads
+use Rattle.line_io.specs.declared.fault.ScriptFault.{ScriptFault}
+use Rattle.line_io.specs.declared.fault.ScriptFault.TheVariants as script
+use Rattle.filing_threads.specs.declared.fault.ThreadsFault.{ThreadsFault}
+use Rattle.filing_threads.specs.declared.fault.ThreadsFault.TheVariants as threads
 use Rattle.filing.specs.declared.fault.Fault.{Fault}
 use Rattle.filing.specs.declared.fault.Fault.TheVariants.{Words, TooManyScripts, Read, Write, TableLine, TableNotText, NoMemory}
 use Rattle.filing.specs.declared.misplaced.Misplaced.{Misplaced}

@@ -2,11 +2,11 @@
 use Rattle.std.specs.Prelude.{◌≡◌, ℕ, List}
 use Rattle.std.specs.declared.option.Option.{Option}
 use Rattle.std.specs.Io.KnownBytes.{Consumes, Appends, IsAtEnd}
-use Rattle.filing_model.specs.Facts.{Table}
-use Rattle.filing_model.specs.History.{History}
-use Rattle.line_run.specs.Lines.{lines_of, spoken}
-use Rattle.filing_text.specs.Script.{script_output, script_history}
-use Rattle.history_text.specs.LinesRead.{LinesDepart}
+use Rattle.filing_model.specs.Oim.Facts.{Table}
+use Rattle.filing_model.specs.Histories.History.{History}
+use Rattle.line_io.specs.Lines.{lines_of, spoken}
+use Rattle.script_format.specs.Script.{script_output, script_history}
+use Rattle.history_format.specs.LinesRead.{LinesDepart}
 use Rattle.filing_core.specs.Verdicts.{departure}
 use Rattle.filing_core.specs.declared.verdict.Verdict.{Verdict}
 use Rattle.filing_cli.specs.HistoryRun.{verdict_text, verdict_status}

@@ -4,8 +4,8 @@ use Rattle.std.specs.Str.{bytes_eq}
 use Rattle.clap.specs.Words.{App, Row, Rule, Text, IsAmong, all_of, fault_of, first_of, new_app, new_rule, subcommand_of, takes, with_rule, with_subcommand}
 use Rattle.clap.specs.declared.builder.action.ArgAction.TheVariants.{Append, Set}
 use Rattle.clap.specs.declared.error.kind.ErrorKind.TheVariants.{DisplayHelp, DisplayVersion}
-use Rattle.filing.specs.declared.words.Order.{Order}
-use Rattle.filing.specs.declared.words.Order.TheVariants.{Run, Check, Threads, Explain, Shown}
+use Rattle.filing.specs.declared.words.Invocation.{Invocation}
+use Rattle.filing.specs.declared.words.Invocation.TheVariants.{Run, Check, Threads, Explain, Shown}
 
 -- `--numeric FILE`
 unfoldable pub numeric : Rule
@@ -90,8 +90,8 @@ asked (Some entered) =
     else (if bytes_eq entered.0 (codes "words") then Some ToExplain else None)))
 asked None = None
 
--- the order is what was asked for
-abbrev pub IsOrdered : Option (Text × List Row) → Order → Type 0
+-- the invocation is what was asked for
+abbrev pub IsOrdered : Option (Text × List Row) → Invocation → Type 0
 IsOrdered entered (Run table file) =
     asked entered ≡ Some (ToRun (option_map (λ s. s.now) table) (option_map (λ s. s.now) file))
 IsOrdered entered (Check table file) = asked entered ≡ Some (ToCheck (option_map (λ s. s.now) table) file.now)
@@ -101,7 +101,7 @@ IsOrdered entered Explain = asked entered ≡ Some ToExplain
 IsOrdered entered Shown = ⊥
 
 -- The words, the program's name before them, ask for this. A command is asked for by words of which none is wrong, with the files that are the values of its arguments. What is shown is asked for by words that the program does not take, and that clap answers with help.
-abbrev pub Asks : List Text → Order → Type 0
+abbrev pub Asks : List Text → Invocation → Type 0
 Asks words (Run table file) = (fault_of program words ≡ [])
     × IsOrdered (subcommand_of program words) (Run table file)
 Asks words (Check table file) = (fault_of program words ≡ [])

@@ -1,7 +1,7 @@
 ghost use Rattle.std.specs.Prelude.{◌≡◌, ◌⊎◌, false, IfOk, IsOkAnd, map, string_bytes};
 ghost use Rattle.clap.specs.Words.{AddsSubcommand, app_of, kind_of, new_app, rule_of, subcommand_rows_of, with_rule};
 ghost use Rattle.filing.specs.Words.{Asks, IsOrdered, numeric, history, judged, scripts, run, check, threads, words, program};
-ghost use Rattle.filing.specs.declared.words.Order.TheVariants.{Shown};
+ghost use Rattle.filing.specs.declared.words.Invocation.TheVariants.{Shown};
 
 use crate::fault::Fault;
 use crate::help::{BEGINNING, LINES, REFUSALS, THREADS, VERDICTS};
@@ -13,7 +13,7 @@ use std::{env, io};
 
 /// What the words of the command line ask for.
 #[derive(Drop)]
-pub(crate) enum Order<'a> {
+pub(crate) enum Invocation<'a> {
     /// Run the script that comes on standard input, by the numeric table of a file, if one is named. Its history goes to another, if that is named.
     Run {
         numeric: Option<&'a str>,
@@ -181,29 +181,29 @@ fn command<'a>(alloc: Global) -> Result<Command<'a>, AllocError>
 }
 
 /// What the words that `clap` has taken ask for. It takes none without a command, no `check` without its file, and no `threads` without a script.
-fn ordered<'a>(alloc: Global, matches: &ArgMatches<'a>) -> Result<Order<'a>, Fault>
+fn ordered<'a>(alloc: Global, matches: &ArgMatches<'a>) -> Result<Invocation<'a>, Fault>
     ensures { IfOk result (IsOrdered (subcommand_rows_of matches.now)) }
 {
     match matches.subcommand() {
-        Some(("run", run)) => Ok(Order::Run {
+        Some(("run", run)) => Ok(Invocation::Run {
             numeric: run.get_str("numeric"),
             history: run.get_str("history"),
         }),
         Some(("check", check)) => match check.get_str("judged") {
-            Some(history) => Ok(Order::Check {
+            Some(history) => Ok(Invocation::Check {
                 numeric: check.get_str("numeric"),
                 history,
             }),
             None => Err(Fault::Words),
         },
         Some(("threads", threads)) => match threads.get_strs("scripts") {
-            Some(scripts) => Ok(Order::Threads {
+            Some(scripts) => Ok(Invocation::Threads {
                 numeric: threads.get_str("numeric"),
                 scripts: scripts.to_vec(alloc)?,
             }),
             None => Err(Fault::Words),
         },
-        Some(("words", _)) => Ok(Order::Explain),
+        Some(("words", _)) => Ok(Invocation::Explain),
         _ => Err(Fault::Words),
     }
 }
@@ -231,7 +231,7 @@ pub(crate) fn given_words(rt: &HostRuntime) -> Result<Vec<String>, Fault> {
 pub(crate) fn read_words<'a, R: Print + Eprint + AllocGlobal>(
     rt: &R,
     words: &'a [String],
-) -> Result<Order<'a>, Fault>
+) -> Result<Invocation<'a>, Fault>
     ensures { IfOk result (Asks (map string_bytes words.now)) }
 {
     let mut command: Command<'a> = command(rt.alloc())?;
@@ -253,7 +253,7 @@ pub(crate) fn read_words<'a, R: Print + Eprint + AllocGlobal>(
 }
 
 /// Tells an error of the words, or shows help, and answers what is left to do.
-fn shown<'a, R: Print + Eprint>(rt: &R, error: &Error) -> Result<Order<'a>, Fault>
+fn shown<'a, R: Print + Eprint>(rt: &R, error: &Error) -> Result<Invocation<'a>, Fault>
     ensures shown { IfOk result (λ o. o ≡ Shown) }
     ensures asked { IfOk result (λ _. (kind_of error.now ≡ ErrorKind.DisplayHelp)
         ⊎ (kind_of error.now ≡ ErrorKind.DisplayVersion)) }
@@ -266,7 +266,7 @@ fn shown<'a, R: Print + Eprint>(rt: &R, error: &Error) -> Result<Order<'a>, Faul
         return Err(Fault::Words);
     }
     match shown {
-        Ok(()) => Ok(Order::Shown),
+        Ok(()) => Ok(Invocation::Shown),
         Err(_) => Err(Fault::Write),
     }
 }

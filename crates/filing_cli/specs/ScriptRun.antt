@@ -3,14 +3,14 @@ use Rattle.std.specs.Prelude.{◌≡◌, ℕ, ◌^◌, [], ◌∷◌, Option, No
 use Rattle.std.specs.declared.result.Result.{Result}
 use Rattle.std.specs.declared.result.Result.TheVariants.{Ok, Err}
 use Rattle.std.specs.Io.KnownBytes.{IsAtEnd}
-use Rattle.filing_model.specs.Facts.{Table}
-use Rattle.filing_model.specs.History.{History}
-use Rattle.filing_model.specs.Text.{Text}
-use Rattle.line_run.specs.Devices.{SourceState, SinkState, Gave, Took}
-use Rattle.line_run.specs.Run.{Runs}
-use Rattle.filing_text.specs.Script.{State, start, line_answer, script_output, script_history}
+use Rattle.filing_model.specs.Oim.Facts.{Table}
+use Rattle.filing_model.specs.Histories.History.{History}
+use Rattle.filing_model.specs.Common.Text.{Text}
+use Rattle.line_io.specs.Devices.{SourceState, SinkState, Gave, Took}
+use Rattle.line_io.specs.Run.{Runs}
+use Rattle.script_format.specs.Script.{State, start, line_answer, script_output, script_history}
 use Rattle.filing_core.specs.States.{CoreState}
-use Rattle.line_run.specs.declared.fault.ScriptFault.{ScriptFault}
+use Rattle.line_io.specs.declared.fault.ScriptFault.{ScriptFault}
 
 -- the reply to a line, and what is carried on
 abbrev pub IsReply : State → Text → Text → State → Type 0

@@ -1,10 +1,11 @@
-//! Scripts: the steps of a core, line by line, between a source and a sink of bytes.
+//! Scripts and histories: the steps of a core, line by line, between a source and a sink of bytes.
 //!
-//! `script` runs a script: `script_machine` is what answers its lines, each by the step that it takes.
+//! - `script`: runs a script.
+//! - `script_machine`: answers its lines, each by the step that it takes.
+//! - `history`: writes a history, and has those of others judged.
+//! - `judge`: follows the lines of a history, and tells where they depart.
 //!
-//! `run_threads`, which runs several scripts at once, and its watched form are handed on from `thread_scripts`.
-//!
-//! The crate knows nothing of how lines are cut and devices are read (`line_run`), of how a line or a reply is written (`filing_text`), of locks, or of files.
+//! It knows nothing of how lines are cut and devices are read (`line_io`), of how a line or a reply is written (`script_format`), of how several scripts run at once (`filing_threads`), of locks, or of files.
 #![tactic(auto)]
 
 mod history;
@@ -12,14 +13,15 @@ mod judge;
 mod script;
 mod script_machine;
 
-pub use filing_text::{
-    bad_fact_reply, bad_line_reply, bad_report_reply, exported_reply, name_in_use_reply,
-    no_session_reply, reply_text,
-};
+// The names of `filing_threads`, `line_io` and `script_format` are handed on only so that callers find the whole command-line interface in one crate.
+pub use filing_threads::{ThreadsFault, Unwatched, Watch, run_threads, run_threads_watched};
 pub use history::{judge_history, judge_history_keeping, write_history, write_verdict};
-pub use line_run::{
+pub use line_io::{
     Failed, FromReader, Machine, MemoryIn, MemoryOut, ScriptFault, Sink, Source, ToWriter,
     is_blank, run, write_all,
 };
 pub use script::{run_script, run_script_within};
-pub use thread_scripts::{ThreadsFault, Unwatched, Watch, run_threads, run_threads_watched};
+pub use script_format::{
+    bad_fact_reply, bad_line_reply, bad_report_reply, exported_reply, name_in_use_reply,
+    no_session_reply, reply_text,
+};

@@ -6,7 +6,7 @@ ghost use Rattle.filing_cli.specs.ScriptRun.{most_reads, ScriptRuns, ScriptRunsW
 
 use crate::script_machine::ScriptMachine;
 use filing_core::Core;
-use line_run::{ScriptFault, Sink, Source, run};
+use line_io::{ScriptFault, Sink, Source, run};
 use oim_fact::NumericTable;
 use std::alloc::Global;
 use std::sync::Arc;

@@ -2,20 +2,20 @@
 
 ghost use Rattle.std.specs.Prelude.{◌≡◌, IfOk, IsSome, OnOk, Some, string_bytes};
 ghost use Rattle.std.specs.Arc.{arc_value};
-ghost use Rattle.filing_model.specs.TextMap.{get, insert, remove};
+ghost use Rattle.filing_model.specs.Common.TextMap.{get, insert, remove};
 ghost use Rattle.filing_step.specs.Steps.{step_of};
-ghost use Rattle.filing_text.specs.Judging.{judged_under};
-ghost use Rattle.filing_text.specs.Script.{Due, start, answered, judged_open, judged_step, judged_end, judged_export};
+ghost use Rattle.script_format.specs.LineOutcomes.{judged_under};
+ghost use Rattle.script_format.specs.Script.{StepDue, start, answered, judged_open, judged_step, judged_end, judged_export};
 ghost use Rattle.filing_cli.specs.ScriptRun.{IsReply, newest_session};
 
 use filing_core::{Core, CoreFault};
 use filing_step::{Kind, Reply, SessionNames, Step};
-use filing_text::{
-    Judged, exported_reply_of, judge_line, name_in_use_reply, no_session_reply, reply_text,
-};
 use filing_version::RepoVersion;
-use line_run::Machine;
+use line_io::Machine;
 use oim_fact::NumericTable;
+use script_format::{
+    LineOutcome, classify_line, exported_reply_of, name_in_use_reply, no_session_reply, reply_text,
+};
 use std::alloc::{AllocError, Global};
 use std::marker::Model;
 use std::sync::Arc;
@@ -30,7 +30,7 @@ pub(crate) struct ScriptMachine {
 
 impl Model for ScriptMachine {
     ghost use Rattle.std.specs.Arc.{arc_value};
-    ghost use Rattle.filing_text.specs.Script.{State};
+    ghost use Rattle.script_format.specs.Script.{State};
 
     ghost Value = { State };
 
@@ -95,7 +95,7 @@ impl ScriptMachine {
         session: Option<u64>,
         step: Step,
     ) -> Result<String, AllocError>
-        ensures { IfOk result (λ text. answered self.old (Due session (step_of step) self.old.names)
+        ensures { IfOk result (λ text. answered self.old (StepDue session (step_of step) self.old.names)
             ≡ (string_bytes text, self.new)) }
     {
         match self.core.step(alloc, session, step) {
@@ -175,15 +175,15 @@ impl ScriptMachine {
     }
 }
 
-#[tactic(auto, unfolding(filing_text::specs::Script::line_answer))]
+#[tactic(auto, unfolding(script_format::specs::Script::line_answer))]
 impl Machine for ScriptMachine {
     ghost replies = { IsReply };
 
     fn answer(&mut self, alloc: Global, line: &[u8]) -> Result<String, AllocError> {
-        match judge_line(alloc, line, &self.table)? {
-            Judged::Told(text) => Ok(text),
-            Judged::Export(name) => self.export(alloc, &name),
-            Judged::Due { name, step } => self.take_due(alloc, &name, step),
+        match classify_line(alloc, line, &self.table)? {
+            LineOutcome::ReplyNow(text) => Ok(text),
+            LineOutcome::Export(name) => self.export(alloc, &name),
+            LineOutcome::StepDue { name, step } => self.take_due(alloc, &name, step),
         }
     }
 }

@@ -1,23 +1,23 @@
 -- A load is refused for a name that is taken, or for the least disallowed cell of its report.
 use Rattle.std.proofs.Common.{◌≡◌, ◌∙◌, ◌+◌, ap, sym, refl, cond, true, false, true≢false, Bool, [], Some, None, Option, option_map, is_some}
 use Rattle.std.specs.Option.{option_map_or}
-use Rattle.filing_model.specs.Text.{Text}
-use Rattle.filing_model.specs.TextMap.{get}
-use Rattle.filing_model.specs.Dimensions.{Dims}
-use Rattle.filing_model.specs.Reports.{Report}
-use Rattle.filing_model.specs.Repository.{Repository, report_at, with_report}
-use Rattle.filing_model.specs.Replies as reply
-use Rattle.filing_model.specs.Replies.{Reply}
-use Rattle.filing_model.specs.Duplicates.{class_of, least_disallowed}
-use Rattle.filing_model.specs.Queries.{cell_facts, cell_ids}
+use Rattle.filing_model.specs.Common.Text.{Text}
+use Rattle.filing_model.specs.Common.TextMap.{get}
+use Rattle.filing_model.specs.Oim.Dimensions.{Dims}
+use Rattle.filing_model.specs.Oim.Reports.{Report}
+use Rattle.filing_model.specs.Sessions.Repository.{Repository, report_at, with_report}
+use Rattle.filing_model.specs.Sessions.Replies as reply
+use Rattle.filing_model.specs.Sessions.Replies.{Reply}
+use Rattle.filing_model.specs.Oim.Duplicates.{class_of, least_disallowed}
+use Rattle.filing_model.specs.Sessions.Queries.{cell_facts, cell_ids}
 use Rattle.filing_model.specs.declared.duplicates.Class.TheVariants.{Empty}
-use Rattle.filing_model.specs.Sessions.{report_obeys, disallowed_cell}
-use Rattle.filing_model.proofs.TextMaps.{get-insert}
-use Rattle.filing_model.proofs.Texts.{text_eq-refl}
-use Rattle.filing_model.proofs.DisallowedCells.{obeys_where_no_cell_is_disallowed}
-use Rattle.filing_laws.specs.NetChange.{refusal_at}
-use Rattle.filing_model.specs.Lawful.{load_reply}
-use Rattle.filing_model.specs.Versions.{counts}
+use Rattle.filing_model.specs.Sessions.Sessions.{report_obeys, disallowed_cell}
+use Rattle.filing_model.proofs.Common.TextMaps.{get-insert}
+use Rattle.filing_model.proofs.Common.Texts.{text_eq-refl}
+use Rattle.filing_model.proofs.Oim.DisallowedCells.{obeys_where_no_cell_is_disallowed}
+use Rattle.filing_laws.specs.Updating.NetChange.{refusal_at}
+use Rattle.filing_model.specs.Histories.Lawful.{load_reply}
+use Rattle.filing_model.specs.Histories.Versions.{counts}
 
 pub absent : (o : Option Report) → is_some (option_map (λ r. r.allowed) o) ≡ false → o ≡ None
 absent None none = refl

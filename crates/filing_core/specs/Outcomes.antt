@@ -1,15 +1,15 @@
 -- What a commit is told by the version as it is, and what it makes. No history is looked at.
 use Rattle.std.specs.Prelude.{◌≡◌, cond, Option, Some, None, option_map, unwrap_or}
 use Rattle.std.specs.Option.{option_map_or}
-use Rattle.filing_model.specs.Changes.{Change, after_change}
-use Rattle.filing_model.specs.Replies as reply
-use Rattle.filing_model.specs.Replies.{Reply}
-use Rattle.filing_model.specs.Sessions.{refusal_of}
-use Rattle.filing_model.specs.Versions.{counts}
-use Rattle.filing_model.specs.Stamps.{Version, next_number}
+use Rattle.filing_model.specs.Sessions.Changes.{Change, after_change}
+use Rattle.filing_model.specs.Sessions.Replies as reply
+use Rattle.filing_model.specs.Sessions.Replies.{Reply}
+use Rattle.filing_model.specs.Sessions.Sessions.{refusal_of}
+use Rattle.filing_model.specs.Histories.Versions.{counts}
+use Rattle.filing_model.specs.Histories.Stamps.{Version, next_number}
 use Rattle.filing_model.specs.declared.kind.Kind.{Kind}
 use Rattle.filing_model.specs.declared.kind.Kind.TheVariants.{Review, Amend}
-use Rattle.filing_laws.specs.StampedVersions.{first_stamped}
+use Rattle.filing_laws.specs.Stamping.StampedVersions.{first_stamped}
 use Rattle.filing_version.specs.Filed.{StampedReports, version_in}
 use Rattle.filing_session.specs.States.{SessionState}
 

@@ -1,28 +1,22 @@
 //! What was touched of the things that a session read.
 
 ghost use Rattle.std.specs.Prelude.{◌≡◌, option_map};
-ghost use Rattle.filing_model.specs.Things as thing;
+ghost use Rattle.filing_model.specs.Sessions.Things as thing;
 ghost use Rattle.filing_step.specs.Steps.{thing_of};
 ghost use Rattle.filing_version.specs.Filed.{version_in};
-ghost use Rattle.filing_laws.specs.StampedVersions.{first_stamped};
+ghost use Rattle.filing_laws.specs.Stamping.StampedVersions.{first_stamped};
 
 use filing_session::{Session, period_of};
-use filing_step::{Sought, Thing};
+use filing_step::{PageQuery, Thing};
 use filing_version::RepoVersion;
 
 /// The number of the last commit that touched a range, or 0.
-fn stamp_of_range(version: &RepoVersion, report: &str, sought: &Sought, upto: Option<&str>) -> u64
+fn stamp_of_range(version: &RepoVersion, report: &str, query: &PageQuery, upto: Option<&str>) -> u64
     ensures { result ≡ (version_in version.now).stamp
-        (thing.Range report.now sought.now (option_map (λ t. t.now) upto.entry)) }
+        (thing.Range report.now query.now (option_map (λ t. t.now) upto.entry)) }
 {
-    let period = period_of(&sought.period);
-    version.stamp_range(
-        report,
-        &sought.concept,
-        period,
-        sought.after.as_deref(),
-        upto,
-    )
+    let period = period_of(&query.period);
+    version.stamp_range(report, &query.concept, period, query.after.as_deref(), upto)
 }
 
 /// The number of the last load or commit that touched a thing, or 0.
@@ -33,8 +27,8 @@ fn stamp_of(version: &RepoVersion, thing: &Thing) -> u64
         Thing::Report(report) => version.stamp_report(report),
         Thing::Id(report, id) => version.stamp_id(report, id),
         Thing::Cell(report, dims) => version.stamp_cell(report, dims),
-        Thing::Range(report, sought, upto) => {
-            stamp_of_range(version, report, sought, upto.as_deref())
+        Thing::Range(report, query, upto) => {
+            stamp_of_range(version, report, query, upto.as_deref())
         }
         Thing::Policy(report) => version.stamp_policy(report),
     }

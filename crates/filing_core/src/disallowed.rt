@@ -2,7 +2,7 @@
 
 ghost use Rattle.std.specs.Prelude.{◌≡◌, IfOk};
 ghost use Rattle.filing_step.specs.Steps.{reply_of};
-ghost use Rattle.filing_laws.specs.NetChange.{refusal_at};
+ghost use Rattle.filing_laws.specs.Updating.NetChange.{refusal_at};
 ghost use Rattle.filing_version.specs.Filed.{repository_in};
 
 use filing_session::texts_of;

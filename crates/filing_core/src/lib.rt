@@ -1,8 +1,19 @@
 //! The core of the repository: many sessions at once, each validated at its commit (serial validation: Kung and Robinson 1981), and the history of every step with its reply.
 //!
-//! `engine` is `Core`, which takes a step, and `fault` says why it did not. `prepared` is a load or a commit that is ready to be entered. `sessions` has the open sessions by their numbers. `outcome` is what a load or a commit is told and makes, `conflict` finds what was touched of the things that a session read, and `disallowed` tells a cell that its report does not allow.
+//! - `engine`: the core, which takes a step.
+//! - `fault`: why a step was not taken.
+//! - `prepared`: a load or a commit that is ready to be entered.
+//! - `sessions`: the open sessions by their numbers.
+//! - `outcome`: what a load or a commit is told, and the version that it makes.
+//! - `conflict`: what was touched of the things that a session read.
+//! - `disallowed`: how a cell that its report does not allow is told.
+//! - `check`: histories of others, compared with a run of the core.
+//! - `compared_replies`: whether two replies are the same.
+//! - `verdict`: whether entries are a lawful history.
 //!
-//! The words in which steps and replies are said are those of `filing_step`, versions and changes those of `filing_version`, and a session by itself is that of `filing_session`. The crate knows nothing of JSON, of devices, of locks or of threads.
+//! The words in which steps and replies are said are those of `filing_step`, versions and changes those of `filing_version`, and a session by itself is that of `filing_session`.
+//!
+//! It knows nothing of JSON, of devices, of locks or of threads.
 #![tactic(auto)]
 
 mod check;

@@ -2,15 +2,15 @@
 
 ghost use Rattle.std.specs.Prelude.{◌≡◌, ◌+◌, ◌<◌, ◌^◌, None, true, IfOk};
 ghost use Rattle.std.specs.Arc.{arc_value};
-ghost use Rattle.filing_model.specs.Text.{Text};
-ghost use Rattle.filing_model.specs.TextMap.{get as value_at};
-ghost use Rattle.filing_model.specs.Repository.{report_at};
-ghost use Rattle.filing_model.specs.Sessions.{repository_obeys};
+ghost use Rattle.filing_model.specs.Common.Text.{Text};
+ghost use Rattle.filing_model.specs.Common.TextMap.{get as value_at};
+ghost use Rattle.filing_model.specs.Sessions.Repository.{report_at};
+ghost use Rattle.filing_model.specs.Sessions.Sessions.{repository_obeys};
 ghost use Rattle.filing_step.specs.Steps.{reply_of};
 ghost use Rattle.filing_version.specs.Filed.{repository_in, version_in};
 ghost use Rattle.filing_core.specs.Outcomes.{Makes, change_told, commit_told};
-ghost use Rattle.filing_model.specs.Lawful.{load_reply};
-ghost use Rattle.filing_model.specs.Stamps.{version_after, version_with};
+ghost use Rattle.filing_model.specs.Histories.Lawful.{load_reply};
+ghost use Rattle.filing_model.specs.Histories.Stamps.{version_after, version_with};
 
 use crate::conflict::conflict;
 use crate::disallowed::disallowed;
@@ -40,7 +40,7 @@ impl Model for Outcome {
 }
 
 /// A reply that leaves the version as it is.
-fn told(reply: Reply) -> Outcome
+fn reply_alone(reply: Reply) -> Outcome
     ensures { result ≡ record { reply = reply_of reply; next = None } }
 {
     Outcome { reply, next: None }
@@ -58,7 +58,7 @@ pub(crate) fn load_outcome(
         (version_with name.now (arc_value report.now) (version_in current.now))) }
 {
     if current.allowed(name).is_some() {
-        return Ok(told(Reply::NameTaken));
+        return Ok(reply_alone(Reply::NameTaken));
     }
     let next = current.with_shared_report(alloc, String::from_str(alloc, name)?, report)?;
     match next.disallowed_in(name) {
@@ -69,7 +69,7 @@ pub(crate) fn load_outcome(
         Some(dims) => {
             let reply = disallowed(alloc, &next, name, dims);
             drop(next);
-            Ok(told(reply?))
+            Ok(reply_alone(reply?))
         }
     }
 }
@@ -96,7 +96,7 @@ fn change_outcome(
         Some((name, dims)) => {
             let reply = disallowed(alloc, &next, name, dims);
             drop(next);
-            Ok(told(reply?))
+            Ok(reply_alone(reply?))
         }
     }
 }
@@ -115,9 +115,9 @@ pub(crate) fn commit_outcome(
         (version_after session.now.state.change (version_in current.now))) }
 {
     match session.kind() {
-        Kind::Review => Ok(told(Reply::Closed)),
+        Kind::Review => Ok(reply_alone(Reply::Closed)),
         Kind::Amend => match conflict(current, session) {
-            Some((number, thing)) => Ok(told(Reply::Conflict(number, thing.clone()?))),
+            Some((number, thing)) => Ok(reply_alone(Reply::Conflict(number, thing.clone()?))),
             None => change_outcome(alloc, current, session.change()),
         },
     }

@@ -56,7 +56,7 @@ impl Sessions {
         drop(self.by_number.remove(&number));
     }
 
-    /// Makes all growths of a call of a session.
+    /// Prepares a call of a session: allocates all that it needs.
     pub(crate) fn ready(&mut self, number: u64, call: Call) -> Result<Ready, AllocError>
         requires { IsSome (session_of self.old number) }
         ensures { Readies number (call_of call) self.old self.new result }

@@ -1,4 +1,4 @@
--- Each cell that is not allowed has two facts or more, of which the first stands right before another one of its code.
+-- Each cell that is not allowed has two facts or more, of which the first stands right before another one of its hash.
 use Rattle.std.proofs.Common.{◌≡◌, ◌∙◌, ap, sym, refl, subst, ℕ, Bool, true, false, cond, not, ◌&&◌, ◌||◌, T, List}
 use Rattle.std.proofs.Common.{[], ◌∷◌, ◌++◌, map, filter, fold, Option, Some, None, Ordering, Less, Equal, Greater}
 use Rattle.std.proofs.Common.{is_eq, is_lt, true≢false}
@@ -13,23 +13,23 @@ use Rattle.std.proofs.lemmas.List.{map-append}
 use Rattle.std.proofs.lemmas.List.Elements.{filter_agree}
 use Rattle.sorted_pages.specs.Sorted.{IsRising}
 use Rattle.sorted_pages.specs.Ranges.{within}
-use Rattle.filing_model.specs.Text.{Text, text_cmp}
-use Rattle.filing_model.specs.TextMap.{TextMap}
-use Rattle.filing_model.specs.Dimensions.{Dims, dims_cmp, dims_eq}
-use Rattle.filing_model.specs.Facts.{Fact}
-use Rattle.filing_model.specs.Duplicates.{pair_of, class_of, allows, facts_of, has_dims, is_disallowed, lesser_dims, least_dims, least_disallowed}
-use Rattle.filing_model.specs.Queries.{cell_facts}
+use Rattle.filing_model.specs.Common.Text.{Text, text_cmp}
+use Rattle.filing_model.specs.Common.TextMap.{TextMap}
+use Rattle.filing_model.specs.Oim.Dimensions.{Dims, dims_cmp, dims_eq}
+use Rattle.filing_model.specs.Oim.Facts.{Fact}
+use Rattle.filing_model.specs.Oim.Duplicates.{pair_of, class_of, allows, facts_of, has_dims, is_disallowed, lesser_dims, least_dims, least_disallowed}
+use Rattle.filing_model.specs.Sessions.Queries.{cell_facts}
 use Rattle.filing_model.specs.declared.duplicates.Allowed.{Allowed}
 use Rattle.filing_model.specs.declared.duplicates.Class.{Class}
-use Rattle.filing_model.proofs.Tests.{first_holds, second_holds, less_from_is_lt}
-use Rattle.filing_model.proofs.DimensionSets.{dims_same}
-use Rattle.filing_model.proofs.AllowedClasses.{empty_is_allowed, allows-class_by}
-use Rattle.filing_model.proofs.LeastDims.{same_least, any_kept}
-use Rattle.filing_index.specs.Index.{Coded, key_cmp, coded_cmp, IsIndex}
-use Rattle.filing_pages.specs.Codes.{cell_code, code_of_dims}
+use Rattle.filing_model.proofs.Common.Tests.{first_holds, second_holds, less_from_is_lt}
+use Rattle.filing_model.proofs.Oim.DimensionSets.{dims_same}
+use Rattle.filing_model.proofs.Oim.AllowedClasses.{empty_is_allowed, allows-class_by}
+use Rattle.filing_model.proofs.Oim.LeastDims.{same_least, any_kept}
+use Rattle.filing_index.specs.Index.{IndexEntry, key_cmp, hashed_cmp, IsIndex}
+use Rattle.filing_facts.specs.Hashes.{cell_hash, hash_of_dims}
 use Rattle.filing_index.specs.Found.{passing, side_of}
-use Rattle.filing_index.specs.Cells.{shares_code, first_of, crowded, are_these, least_among_facts, WasLookedAt}
-use Rattle.filing_index.proofs.AskedCodes.{code_of_cell}
+use Rattle.filing_index.specs.Cells.{shares_hash, first_of, crowded, are_these, least_among_facts, WasLookedAt}
+use Rattle.filing_index.proofs.AskedHashes.{hash_of_cell}
 use Rattle.filing_index.proofs.FoundEntries.{found_is, found_all, sorted_from_rising}
 use Rattle.filing_index.proofs.KeptElements as kept
 use Rattle.filing_index.proofs.KeptElements.{filter-filter, has_two, any_of_two, map-filter, list_any-map, has_two-map, map-map}
@@ -70,50 +70,50 @@ other_number n m h = nat_eq_equiv.symm m n ∙ sym (unsigned_tied n m) ∙ ap is
 
 -- ---- the walk
 
-module _ (code : ℕ) (dims : Dims) where
+module _ (hash : ℕ) (dims : Dims) where
   -- whether an entry is of the cell
-  abbrev is_mine : Coded → Bool
-  is_mine e = (e.0.0 == code) && has_dims dims e.1
+  abbrev is_mine : IndexEntry → Bool
+  is_mine e = (e.0.0 == hash) && has_dims dims e.1
 
-  not_mine : (e : Coded) → nat_cmp code e.0.0 ≡ Less → is_mine e ≡ false
-  not_mine e l = ap (λ b. b && has_dims dims e.1) (other_number code e.0.0 l)
+  not_mine : (e : IndexEntry) → nat_cmp hash e.0.0 ≡ Less → is_mine e ≡ false
+  not_mine e l = ap (λ b. b && has_dims dims e.1) (other_number hash e.0.0 l)
 
-  -- codes rise, so what stands past the code is of no cell of it
+  -- hashes rise, so what stands past the hash is of no cell of it
   past : (n m k : ℕ) (s : Ordering) → nat_cmp n m ≡ Less → (o : Ordering) → nat_cmp m k ≡ o → ordering_then o s ≡ Less → nat_cmp n k ≡ Less
   past n m k s l Less is h = nat_cmp_total.trans n m k l is
   past n m k s l Equal is h = sym (alike_right nat_cmp_total m k n is) ∙ l
   past n m k s l Greater is h = absurd (true≢false (sym (ap is_lt h)))
 
-  none_past : (e : Coded) (es : List Coded) → nat_cmp code e.0.0 ≡ Less → T (below_all key_cmp e.0 es) → list_any is_mine es ≡ false
+  none_past : (e : IndexEntry) (es : List IndexEntry) → nat_cmp hash e.0.0 ≡ Less → T (below_all key_cmp e.0 es) → list_any is_mine es ≡ false
   none_past e [] l below = refl
   none_past e (f ∷ es) l below =
       let up = less_from_is_lt (key_cmp e.0 f.0) (first_holds _ _ below) in
-      or_from (is_mine f) (list_any is_mine es) (not_mine f (past code e.0.0 f.0.0 (text_cmp e.0.1 f.0.1) l (nat_cmp e.0.0 f.0.0) refl up))
+      or_from (is_mine f) (list_any is_mine es) (not_mine f (past hash e.0.0 f.0.0 (text_cmp e.0.1 f.0.1) l (nat_cmp e.0.0 f.0.0) refl up))
       (none_past e es l (second_holds (is_lt (key_cmp e.0 f.0)) _ below))
 
-  -- where one more of the cell comes, the next has its code
-  next_shares : (e : Coded) (es : List Coded) → e.0.0 ≡ code → T (below_all key_cmp e.0 es) → T (is_sorted key_cmp es) → list_any is_mine es ≡ true
-      → shares_code (first_of es) e ≡ true
+  -- where one more of the cell comes, the next has its hash
+  next_shares : (e : IndexEntry) (es : List IndexEntry) → e.0.0 ≡ hash → T (below_all key_cmp e.0 es) → T (is_sorted key_cmp es) → list_any is_mine es ≡ true
+      → shares_hash (first_of es) e ≡ true
   next_shares e [] own below sorted any = absurd (true≢false (sym any))
   next_shares e (f ∷ fs) own below sorted any = by (nat_cmp e.0.0 f.0.0) refl (less_from_is_lt (key_cmp e.0 f.0) (first_holds _ _ below))
     where
       by : (o : Ordering) → nat_cmp e.0.0 f.0.0 ≡ o → ordering_then o (text_cmp e.0.1 f.0.1) ≡ Less → (f.0.0 == e.0.0) ≡ true
       by Less is up =
-          let l : nat_cmp code f.0.0 ≡ Less = ap (λ n. nat_cmp n f.0.0) (sym own) ∙ is in
+          let l : nat_cmp hash f.0.0 ≡ Less = ap (λ n. nat_cmp n f.0.0) (sym own) ∙ is in
           absurd (true≢false (sym any
           ∙ or_from (is_mine f) (list_any is_mine fs) (not_mine f l) (none_past f fs l (first_holds (below_all key_cmp f.0 fs) _ sorted))))
       by Equal is up = nat_eq_equiv.symm f.0.0 e.0.0 ∙ sym (unsigned_tied e.0.0 f.0.0) ∙ ap is_eq is
       by Greater is up = absurd (true≢false (sym (ap is_lt up)))
 
-  some_more : (e : Coded) (es : List Coded) → has_two (e ∷ es) ≡ true → list_any (λ x. true) es ≡ true
+  some_more : (e : IndexEntry) (es : List IndexEntry) → has_two (e ∷ es) ≡ true → list_any (λ x. true) es ≡ true
   some_more e [] two = two
   some_more e (f ∷ es) two = refl
 
   abbrev is_met : Text × Fact → Bool
   is_met e = has_dims dims e.1
 
-  -- the first of two in a cell stands before another one of its code
-  meets : (es : List Coded) → T (is_sorted key_cmp es) → has_two (filter is_mine es) ≡ true → list_any is_met (crowded es) ≡ true
+  -- the first of two in a cell stands before another one of its hash
+  meets : (es : List IndexEntry) → T (is_sorted key_cmp es) → has_two (filter is_mine es) ≡ true → list_any is_met (crowded es) ≡ true
   meets [] sorted two = absurd (true≢false (sym two))
   meets (e ∷ es) sorted two = by (is_mine e) refl two (meets es (second_holds (below_all key_cmp e.0 es) _ sorted))
     where
@@ -124,23 +124,23 @@ module _ (code : ℕ) (dims : Dims) where
       by : (b : Bool) → is_mine e ≡ b → has_two (cond b (e ∷ filter is_mine es) (filter is_mine es)) ≡ true
           → (has_two (filter is_mine es) ≡ true → list_any is_met (crowded es) ≡ true) → list_any is_met (crowded (e ∷ es)) ≡ true
       by true mine more rest =
-          let own = and_parts (e.0.0 == code) (has_dims dims e.1) mine in
+          let own = and_parts (e.0.0 == hash) (has_dims dims e.1) mine in
           let any = kept.any_kept is_mine es (some_more e (filter is_mine es) more) in
           let shares =
-          next_shares e es (same_number e.0.0 code own.0) (first_holds (below_all key_cmp e.0 es) _ sorted) (second_holds (below_all key_cmp e.0 es) _ sorted) any in
+          next_shares e es (same_number e.0.0 hash own.0) (first_holds (below_all key_cmp e.0 es) _ sorted) (second_holds (below_all key_cmp e.0 es) _ sorted) any in
           ap (λ b. list_any is_met (cond b ((e.0.1, e.1) ∷ crowded es) (crowded es))) shares ∙ ap (λ b. b || list_any is_met (crowded es)) own.1
-      by false apart more rest = later (shares_code (first_of es) e) (rest more)
+      by false apart more rest = later (shares_hash (first_of es) e) (rest more)
 
   level : (o : Ordering) → is_eq (ordering_then o Equal) ≡ is_eq o
   level Less = refl
   level Equal = refl
   level Greater = refl
 
-  mine_is : (es : List Coded) → filter (λ e. has_dims dims e.1) (within (side_of code None) es) ≡ filter is_mine es
+  mine_is : (es : List IndexEntry) → filter (λ e. has_dims dims e.1) (within (side_of hash None) es) ≡ filter is_mine es
   mine_is es =
-      filter-filter (λ e. is_eq (side_of code None e)) (λ e. has_dims dims e.1) es
-      ∙ filter_agree (λ e. is_eq (side_of code None e) && has_dims dims e.1) is_mine
-      (λ e. ap (λ b. b && has_dims dims e.1) (level (nat_cmp e.0.0 code) ∙ unsigned_tied e.0.0 code)) es
+      filter-filter (λ e. is_eq (side_of hash None e)) (λ e. has_dims dims e.1) es
+      ∙ filter_agree (λ e. is_eq (side_of hash None e) && has_dims dims e.1) is_mine
+      (λ e. ap (λ b. b && has_dims dims e.1) (level (nat_cmp e.0.0 hash) ∙ unsigned_tied e.0.0 hash)) es
 
 -- ---- the least cell
 
@@ -168,7 +168,7 @@ module _ (test : Dims → Bool) where
       by true passes any later = present d es passes (there d passes)
       by false fails any later = later any
 
-module _ (a : Allowed) (facts : TextMap Fact) (es : List Coded) (rising : IsRising coded_cmp es) (index : IsIndex cell_code facts es) where
+module _ (a : Allowed) (facts : TextMap Fact) (es : List IndexEntry) (rising : IsRising hashed_cmp es) (index : IsIndex cell_hash facts es) where
   abbrev is_refused : Dims → Bool
   is_refused d = is_disallowed a (facts_of facts.entries) d
 
@@ -178,13 +178,13 @@ module _ (a : Allowed) (facts : TextMap Fact) (es : List Coded) (rising : IsRisi
   abbrev all : List Dims
   all = map (λ f. f.dims) (facts_of facts.entries)
 
-  two_in_cell : (d : Dims) → is_refused d ≡ true → has_two (filter (is_mine (code_of_dims d) d) es) ≡ true
+  two_in_cell : (d : Dims) → is_refused d ≡ true → has_two (filter (is_mine (hash_of_dims d) d) es) ≡ true
   two_in_cell d refused =
-      let inner = within (side_of (code_of_dims d) None) es in
+      let inner = within (side_of (hash_of_dims d) None) es in
       let cell : map (λ e. e.1) (passing (has_dims d) inner) ≡ filter (has_dims d) (facts_of facts.entries) =
-      ap (map (λ e. e.1)) (found_is (code_of_dims d) None (has_dims d) cell_code (code_of_cell d) facts es rising index ∙ found_all (has_dims d) facts)
+      ap (map (λ e. e.1)) (found_is (hash_of_dims d) None (has_dims d) cell_hash (hash_of_cell d) facts es rising index ∙ found_all (has_dims d) facts)
       ∙ map-filter (λ e. e.1) (has_dims d) facts.entries in
-      ap has_two (sym (mine_is (code_of_dims d) d es))
+      ap has_two (sym (mine_is (hash_of_dims d) d es))
       ∙ sym (has_two-map (λ e. (e.0.1, e.1)) (filter (λ e. has_dims d e.1) inner))
       ∙ sym (has_two-map (λ e. e.1) (passing (has_dims d) inner))
       ∙ ap has_two cell
@@ -194,7 +194,7 @@ module _ (a : Allowed) (facts : TextMap Fact) (es : List Coded) (rising : IsRisi
   in_met d refused =
       list_any-map (λ f. f.dims) (dims_eq d) (map (λ e. e.1) (crowded es))
       ∙ list_any-map (λ e. e.1) (has_dims d) (crowded es)
-      ∙ meets (code_of_dims d) d es (sorted_from_rising es rising) (two_in_cell d refused)
+      ∙ meets (hash_of_dims d) d es (sorted_from_rising es rising) (two_in_cell d refused)
 
   in_all : (d : Dims) → is_refused d ≡ true → list_any (dims_eq d) all ≡ true
   in_all d refused =

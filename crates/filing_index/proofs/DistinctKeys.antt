@@ -7,7 +7,7 @@ use Rattle.std.specs.List.Sorted.{IsSortedBy}
 use Rattle.std.specs.FinMap.Entries.{find, below_all, is_sorted, find_tied, is_some-find}
 use Rattle.std.proofs.lemmas.List.Elements.{All-from_recursion, recursion_from_All}
 use Rattle.std.proofs.lemmas.List.Sorted.{IsPermutation-map, All-permutation, list_any-IsPermutation}
-use Rattle.filing_model.proofs.Tests.{both_hold, first_holds, second_holds, less_from_is_lt, less_from_not_greater, none_from_not_is_some}
+use Rattle.filing_model.proofs.Common.Tests.{both_hold, first_holds, second_holds, less_from_is_lt, less_from_not_greater, none_from_not_is_some}
 
 module _ {A K X : Type 0} (R : K → K → Ordering) (entry : A → K × X) where
   -- whether two have one key

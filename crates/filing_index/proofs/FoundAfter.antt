@@ -5,8 +5,8 @@ use Rattle.std.specs.Ordering.{on, eq_by_cmp}
 use Rattle.std.specs.Cmp.{IsTotalOrder, Equal-is, alike_right}
 use Rattle.std.specs.List.{IsDistinct}
 use Rattle.std.specs.FinMap.Entries.{by_order, find, put, where_key}
-use Rattle.sorted_pages.specs.declared.change.Change.{Change}
-use Rattle.sorted_pages.specs.declared.change.Change.TheVariants.{Put, Remove}
+use Rattle.sorted_pages.specs.declared.edit.Edit.{Edit}
+use Rattle.sorted_pages.specs.declared.edit.Edit.TheVariants.{Put, Remove}
 use Rattle.sorted_pages.specs.Sorted.{keyed, entries}
 use Rattle.sorted_pages.specs.Changes.{entry_of, with_change, with_changes}
 use Rattle.sorted_pages.proofs.Parts.{entries-keyed}
@@ -22,11 +22,11 @@ swapped true false x y z apart = refl
 swapped false b x y z apart = refl
 
 -- what stands at its key after a change
-abbrev pub left_by : {K X : Type 0} → Change (K × X) → Option X
+abbrev pub left_by : {K X : Type 0} → Edit (K × X) → Option X
 left_by (Put e) = Some e.1
 left_by (Remove e) = None
 
-abbrev pub change_entry : {K X : Type 0} → Change (K × X) → K × Option X
+abbrev pub change_entry : {K X : Type 0} → Edit (K × X) → K × Option X
 change_entry c = ((entry_of c).0, left_by c)
 
 -- two keys of which one ties with q and the other does not
@@ -79,12 +79,12 @@ module _ {K X : Type 0} (R : K → K → Ordering) (o : IsTotalOrder R) where
         | Greater ↦ λ g. left_in e es c q (entries left) Greater g refl rest
       ] refl
 
-  found-with_change : (c : Change (K × X)) (es : List (K × X)) (q : K)
+  found-with_change : (c : Edit (K × X)) (es : List (K × X)) (q : K)
       → find R q (with_change entry_cmp c es) ≡ cond (eq_by_cmp R q (entry_of c).0) (left_by c) (find R q es)
   found-with_change (Put c) es q = found-put c es q
   found-with_change (Remove c) es q = found-remove c es q
 
-  pub found-with_changes : (cs : List (Change (K × X))) (es : List (K × X)) (q : K) → IsDistinct (ties R change_entry) cs
+  pub found-with_changes : (cs : List (Edit (K × X))) (es : List (K × X)) (q : K) → IsDistinct (ties R change_entry) cs
       → find R q (with_changes entry_cmp cs es) ≡ unwrap_or (find R q (map change_entry cs)) (find R q es)
   unfolding IsDistinct
   found-with_changes [] es q d = refl

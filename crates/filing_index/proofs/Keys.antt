@@ -1,12 +1,12 @@
--- Keys tie where they have one code and one identifier.
+-- Keys tie where they have one hash and one identifier.
 use Rattle.std.proofs.Common.{◌≡◌, ◌∙◌, ap, sym, refl, ℕ, Bool, true, false, ◌&&◌}
 use Rattle.std.specs.Prelude.{◌==◌}
 use Rattle.std.specs.Ordering.{nat_cmp, eq_by_cmp}
 use Rattle.std.specs.Cmp.{nat_eq_equiv, unsigned_tied, tied_then}
-use Rattle.filing_model.specs.Text.{Text, text_cmp, text_eq}
+use Rattle.filing_model.specs.Common.Text.{Text, text_cmp, text_eq}
 use Rattle.filing_index.specs.Index.{key_cmp}
 
--- whether a key has this identifier and this code
+-- whether a key has this identifier and this hash
 abbrev pub is_key : ℕ × Text → ℕ × Text → Bool
 is_key q k = text_eq q.1 k.1 && (k.0 == q.0)
 

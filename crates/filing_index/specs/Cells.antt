@@ -2,32 +2,32 @@
 use Rattle.std.specs.Prelude.{◌≡◌, Bool, false, cond, ◌==◌, List, [], ◌∷◌, map, Option, Some, None}
 use Rattle.std.specs.List.{filter, fold}
 use Rattle.std.specs.Borrow.{Bor}
-use Rattle.filing_model.specs.Text.{Text}
-use Rattle.filing_model.specs.TextMap.{TextMap}
-use Rattle.filing_model.specs.Dimensions.{Dims, dims_eq}
-use Rattle.filing_model.specs.Facts.{Fact}
-use Rattle.filing_model.specs.Duplicates.{facts_of, is_disallowed, lesser_dims, least_dims}
+use Rattle.filing_model.specs.Common.Text.{Text}
+use Rattle.filing_model.specs.Common.TextMap.{TextMap}
+use Rattle.filing_model.specs.Oim.Dimensions.{Dims, dims_eq}
+use Rattle.filing_model.specs.Oim.Facts.{Fact}
+use Rattle.filing_model.specs.Oim.Duplicates.{facts_of, is_disallowed, lesser_dims, least_dims}
 use Rattle.filing_model.specs.declared.duplicates.Allowed.{Allowed}
-use Rattle.filing_index.specs.Index.{Coded}
+use Rattle.filing_index.specs.Index.{IndexEntry}
 
 -- ---- the facts that may not be alone in their cell
 
--- whether an entry, where there is one, has the code of another
-abbrev pub shares_code : Option Coded → Coded → Bool
-shares_code None e = false
-shares_code (Some other) e = other.0.0 == e.0.0
+-- whether an entry, where there is one, has the hash of another
+abbrev pub shares_hash : Option IndexEntry → IndexEntry → Bool
+shares_hash None e = false
+shares_hash (Some other) e = other.0.0 == e.0.0
 
-abbrev pub first_of : List Coded → Option Coded
+abbrev pub first_of : List IndexEntry → Option IndexEntry
 first_of [] = None
 first_of (e ∷ es) = Some e
 
--- the facts that stand right before another one of their code
-abbrev pub crowded : List Coded → List (Text × Fact)
+-- the facts that stand right before another one of their hash
+abbrev pub crowded : List IndexEntry → List (Text × Fact)
 crowded [] = []
-crowded (e ∷ es) = cond (shares_code (first_of es) e) ((e.0.1, e.1) ∷ crowded es) (crowded es)
+crowded (e ∷ es) = cond (shares_hash (first_of es) e) ((e.0.1, e.1) ∷ crowded es) (crowded es)
 
 -- the same of an entry, where there is one, and those ahead of it
-abbrev pub crowded_from : Option Coded → List Coded → List (Text × Fact)
+abbrev pub crowded_from : Option IndexEntry → List IndexEntry → List (Text × Fact)
 crowded_from None ahead = []
 crowded_from (Some e) ahead = crowded (e ∷ ahead)
 

@@ -4,63 +4,57 @@ ghost use Rattle.std.specs.List.{filter, fold};
 ghost use Rattle.std.specs.Iterator.{IsFinite, Drains, YieldsFirstRef, item_count};
 ghost use Rattle.std.specs.Borrow.{Bor};
 ghost use Rattle.sorted_pages.specs.Sorted.{IsRising};
-ghost use Rattle.filing_model.specs.Text.{Text};
-ghost use Rattle.filing_model.specs.TextMap.{TextMap};
-ghost use Rattle.filing_model.specs.Facts.{Fact as PlainFact};
-ghost use Rattle.filing_model.specs.Duplicates.{class_of, facts_of, is_disallowed, lesser_dims, least_disallowed};
-ghost use Rattle.filing_model.specs.Queries.{cell_facts};
-ghost use Rattle.filing_pages.specs.Codes.{cell_code, code_of_dims};
-ghost use Rattle.filing_index.specs.Index.{coded_cmp, IsIndex};
-ghost use Rattle.filing_index.specs.Cells.{shares_code, crowded, are_these, facts_given, least_among_facts};
+ghost use Rattle.filing_model.specs.Common.Text.{Text};
+ghost use Rattle.filing_model.specs.Common.TextMap.{TextMap};
+ghost use Rattle.filing_model.specs.Oim.Facts.{Fact as PlainFact};
+ghost use Rattle.filing_model.specs.Oim.Duplicates.{class_of, facts_of, is_disallowed, lesser_dims, least_disallowed};
+ghost use Rattle.filing_model.specs.Sessions.Queries.{cell_facts};
+ghost use Rattle.filing_facts.specs.Hashes.{cell_hash, hash_of_dims};
+ghost use Rattle.filing_index.specs.Index.{hashed_cmp, IsIndex};
+ghost use Rattle.filing_index.specs.Cells.{shares_hash, crowded, are_these, facts_given, least_among_facts};
 
-use crate::coded::Coded;
 use crate::found::{All, Found};
+use crate::index_entry::IndexEntry;
 use crate::wanted::Wanted;
-use filing_pages::{Held, Named};
+use filing_facts::IndexedFact;
 use oim_fact::{Allowed, Class, DimSet, allows, class_over};
 use sorted_pages::{Paged, Range};
 use std::marker::Model;
+use text_map::NamedValue;
 
-/// The class of the facts with these dimensions, whose code is given.
-pub(crate) fn class_in(index: &Paged<Coded>, code: u64, dims: &DimSet) -> Class
-    requires { code ≡ code_of_dims dims.now }
-    ensures { (facts : TextMap PlainFact) → IsIndex cell_code facts index.now
+/// The class of the facts with these dimensions, whose hash is given.
+pub(crate) fn class_in(index: &Paged<IndexEntry>, hash: u64, dims: &DimSet) -> Class
+    requires { hash ≡ hash_of_dims dims.now }
+    ensures { (facts : TextMap PlainFact) → IsIndex cell_hash facts index.now
         → result ≡ class_of (cell_facts dims.now facts) }
 {
-    let cell = Found::under(index, code, Wanted::Cell(dims), None);
+    let cell = Found::under(index, hash, Wanted::Cell(dims), None);
     class_over(cell.map(|held| held.value().fact()))
 }
 
-/// The dimensions of a fact.
-pub(crate) fn dims_of<'a>(held: &'a Held) -> &'a DimSet
-    ensures { result.now ≡ held.now.dims }
-{
-    &held.fact().dims
-}
-
-/// Whether an entry, where there is one, has the code of another.
-fn shares_code(other: Option<&Coded>, entry: &Coded) -> bool
-    ensures { result ≡ shares_code (option_map (λ e. e.now) other.entry) entry.now }
+/// Whether an entry, where there is one, has the hash of another.
+fn shares_hash(other: Option<&IndexEntry>, entry: &IndexEntry) -> bool
+    ensures { result ≡ shares_hash (option_map (λ e. e.now) other.entry) entry.now }
 {
     match other {
-        Some(other) => other.code() == entry.code(),
+        Some(other) => other.hash() == entry.hash(),
         None => false,
     }
 }
 
-/// A walk over an index that stops at each fact right before another one of its code.
+/// A walk over an index that stops at each fact right before another one of its hash.
 ///
-/// A fact that is alone under its code is alone in its cell, and costs no look-up. Of each cell of two facts or more it meets all but the last. Contracts see the list of the facts still to come.
+/// A fact that is alone under its hash is alone in its cell, and costs no look-up. Of each cell of two facts or more it meets all but the last. Contracts see the list of the facts still to come.
 #[derive(Drop)]
 struct Crowded<'a> {
-    here: Option<&'a Coded>,
-    ahead: Range<'a, Coded>,
+    here: Option<&'a IndexEntry>,
+    ahead: Range<'a, IndexEntry>,
 }
 
 impl<'a> Model for Crowded<'a> {
     ghost use Rattle.std.specs.Prelude.{List, option_map};
-    ghost use Rattle.filing_model.specs.Text.{Text};
-    ghost use Rattle.filing_model.specs.Facts.{Fact as PlainFact};
+    ghost use Rattle.filing_model.specs.Common.Text.{Text};
+    ghost use Rattle.filing_model.specs.Oim.Facts.{Fact as PlainFact};
 
     ghost Value = { List (Text × PlainFact) };
 
@@ -70,9 +64,9 @@ impl<'a> Model for Crowded<'a> {
 }
 
 impl<'a> Crowded<'a> {
-    fn of(index: &'a Paged<Coded>) -> Crowded<'a>
+    fn of(index: &'a Paged<IndexEntry>) -> Crowded<'a>
         ensures facts { result ≡ crowded index.now }
-        ensures rising { IsRising coded_cmp index.now }
+        ensures rising { IsRising hashed_cmp index.now }
     {
         let mut ahead = index.range(&All);
         let here = ahead.next();
@@ -81,16 +75,16 @@ impl<'a> Crowded<'a> {
 }
 
 impl<'a> Iterator for Crowded<'a> {
-    type Item = &'a Named<Held>;
+    type Item = &'a NamedValue<IndexedFact>;
 
     ghost next_gives = { YieldsFirstRef (λ w. w) };
 
     ghost remaining = { item_count (λ w. w) };
 
-    fn next(&mut self) -> Option<&'a Named<Held>> {
+    fn next(&mut self) -> Option<&'a NamedValue<IndexedFact>> {
         while let Some(entry) = self.here {
             self.here = self.ahead.next();
-            if shares_code(self.here, entry) {
+            if shares_hash(self.here, entry) {
                 return Some(entry.held());
             }
         }
@@ -126,12 +120,12 @@ fn lesser<'a>(least: Option<&'a DimSet>, dims: &'a DimSet) -> Option<&'a DimSet>
 
 /// The lesser of the least so far and the dimensions of a fact, where their cell is not allowed.
 pub(crate) fn with_cell<'a>(
-    index: &Paged<Coded>,
+    index: &Paged<IndexEntry>,
     allowed: Allowed,
     least: Option<&'a DimSet>,
-    held: &'a Held,
+    held: &'a IndexedFact,
 ) -> Option<&'a DimSet>
-    ensures { (facts : TextMap PlainFact) → IsIndex cell_code facts index.now
+    ensures { (facts : TextMap PlainFact) → IsIndex cell_hash facts index.now
         → option_map (λ d. d.now) result
         ≡ fold lesser_dims (option_map (λ d. d.now) least.entry)
         (filter (is_disallowed allowed (facts_of facts.entries)) (held.now.dims ∷ [])) }
@@ -139,8 +133,8 @@ pub(crate) fn with_cell<'a>(
     if matches!(allowed, Allowed::All) {
         return least;
     }
-    let dims = dims_of(held);
-    if allows(allowed, class_in(index, held.cell_code(), dims)) {
+    let dims = held.dims();
+    if allows(allowed, class_in(index, held.cell_hash(), dims)) {
         return least;
     }
     lesser(least, dims)
@@ -149,22 +143,22 @@ pub(crate) fn with_cell<'a>(
 /// The least dimensions of some facts whose cell is not allowed. The iterator has to end.
 ///
 /// A cell is looked at once for all of its facts that come one after another.
-pub(crate) fn least_disallowed_among<'a, I: Iterator<Item = &'a Named<Held>> + Drop>(
-    index: &Paged<Coded>,
+pub(crate) fn least_disallowed_among<'a, I: Iterator<Item = &'a NamedValue<IndexedFact>> + Drop>(
+    index: &Paged<IndexEntry>,
     allowed: Allowed,
     facts: I,
 ) -> Option<&'a DimSet>
     requires can { I.can_next facts }
     requires ends { IsFinite (I.remaining facts) }
     ensures { (given : List (Bor (Text × PlainFact))) × Drains I.next_gives facts given
-        × ((all : TextMap PlainFact) → IsIndex cell_code all index.now
+        × ((all : TextMap PlainFact) → IsIndex cell_hash all index.now
         → option_map (λ d. d.now) result ≡ least_among_facts (facts_given given) allowed all) }
 {
     let mut least = None;
     let mut before = None;
     for held in facts {
         let fact = held.value();
-        let dims = dims_of(fact);
+        let dims = fact.dims();
         if !are_these(before, dims) {
             least = with_cell(index, allowed, least, fact);
         }
@@ -174,8 +168,11 @@ pub(crate) fn least_disallowed_among<'a, I: Iterator<Item = &'a Named<Held>> + D
 }
 
 /// The least dimensions of all facts whose cell is not allowed.
-pub(crate) fn least_disallowed<'a>(index: &'a Paged<Coded>, allowed: Allowed) -> Option<&'a DimSet>
-    ensures { (facts : TextMap PlainFact) → IsIndex cell_code facts index.now
+pub(crate) fn least_disallowed<'a>(
+    index: &'a Paged<IndexEntry>,
+    allowed: Allowed,
+) -> Option<&'a DimSet>
+    ensures { (facts : TextMap PlainFact) → IsIndex cell_hash facts index.now
         → option_map (λ d. d.now) result ≡ least_disallowed allowed facts.entries }
 {
     if matches!(allowed, Allowed::All) {

@@ -1,41 +1,41 @@
-//! The facts of one report under four orders.
+//! The facts of one report, by their identifiers and in indexes.
 ghost use Rattle.std.specs.Prelude.{◌≡◌, ◌++◌, [], ◌∷◌, Option, option_map, T as Holds, IfOk, OnOk};
 ghost use Rattle.std.specs.FinMap.Entries.{is_sorted};
-ghost use Rattle.filing_model.specs.Text.{text_cmp};
-ghost use Rattle.filing_model.specs.TextMap.{TextMap, empty, get};
-ghost use Rattle.filing_model.specs.Facts.{Fact as PlainFact};
+ghost use Rattle.filing_model.specs.Common.Text.{text_cmp};
+ghost use Rattle.filing_model.specs.Common.TextMap.{TextMap, empty, get};
+ghost use Rattle.filing_model.specs.Oim.Facts.{Fact as PlainFact};
 ghost use Rattle.filing_index.specs.Index.{IsIndex};
-ghost use Rattle.filing_index.specs.Orders.{code_in};
-ghost use Rattle.filing_index.specs.Moves.{with_changes};
-ghost use Rattle.filing_index.specs.Moved.{moves_in, AreMoves};
+ghost use Rattle.filing_index.specs.IndexKinds.{hash_in};
+ghost use Rattle.filing_facts.specs.FactChanges.{with_changes};
+ghost use Rattle.filing_index.specs.ChangedIndexes.{fact_changes_in, AreFactChanges};
 ghost use Rattle.std.specs.Arc.{arc_value};
 
-use crate::coded::Coded;
+use crate::index_entry::IndexEntry;
+use crate::index_kind::IndexKind;
 use crate::indexing::{beside, ids_after, ids_into_after, index_after, index_into_after, index_of};
-use crate::moves::Move;
-use crate::order::Order;
-use filing_pages::{Held, Named, Range, TextPages};
+use filing_facts::{FactChange, IndexedFact};
 use oim_fact::Fact;
-use sorted_pages::{Entry, Paged};
+use sorted_pages::{PageEntry, Paged, Range};
 use std::alloc::{AllocError, Global};
 use std::marker::Model;
 use std::sync::Arc;
+use text_map::{NamedValue, TextPages};
 
-/// The facts of one report by their identifiers, with an index for each order in which they are asked for. A changed copy shares all that did not change.
+/// The facts of one report by their identifiers, with an index of each kind. A changed copy shares all that did not change.
 ///
 /// Contracts see the finite map.
 #[derive(Drop)]
 pub struct Facts {
-    by_id: TextPages<Held>,
-    by_cell: Paged<Coded>,
-    by_period: Paged<Coded>,
-    by_concept: Paged<Coded>,
+    by_id: TextPages<IndexedFact>,
+    by_cell: Paged<IndexEntry>,
+    by_period: Paged<IndexEntry>,
+    by_concept: Paged<IndexEntry>,
 }
 
 impl Model for Facts {
-    ghost use Rattle.filing_model.specs.TextMap.{TextMap};
-    ghost use Rattle.filing_model.specs.Facts.{Fact as PlainFact};
-    ghost use Rattle.filing_index.specs.Orders.{AreIndexes};
+    ghost use Rattle.filing_model.specs.Common.TextMap.{TextMap};
+    ghost use Rattle.filing_model.specs.Oim.Facts.{Fact as PlainFact};
+    ghost use Rattle.filing_index.specs.IndexKinds.{AreIndexes};
 
     ghost Value = { TextMap PlainFact };
 
@@ -47,15 +47,15 @@ impl Model for Facts {
 /// The record that a change puts, if it puts one.
 fn record_put(
     alloc: Global,
-    change: &Named<Option<Held>>,
-) -> Result<Option<Named<Held>>, AllocError>
+    change: &NamedValue<Option<IndexedFact>>,
+) -> Result<Option<NamedValue<IndexedFact>>, AllocError>
     ensures { IfOk result (λ o. o ≡ option_map (λ f. (change.now.0, f)) change.now.1) }
 {
     match change.value() {
         None => Ok(None),
         Some(held) => {
             let id = String::from_str(alloc, change.name())?;
-            Ok(Some(Named::new(alloc, id, held.share()?)?))
+            Ok(Some(NamedValue::new(alloc, id, held.share()?)?))
         }
     }
 }
@@ -74,13 +74,16 @@ impl Facts {
     }
 
     /// Facts whose identifiers rise. It takes time n log n in the facts.
-    pub fn of_sorted(alloc: Global, facts: Vec<Named<Held>>) -> Result<Facts, AllocError>
+    pub fn of_sorted(
+        alloc: Global,
+        facts: Vec<NamedValue<IndexedFact>>,
+    ) -> Result<Facts, AllocError>
         requires { Holds (is_sorted text_cmp facts.items) }
         ensures { IfOk result (λ f. f.entries ≡ facts.items) }
     {
-        let by_cell = index_of(alloc, Order::Cell, &facts)?;
-        let by_period = index_of(alloc, Order::Period, &facts)?;
-        let by_concept = index_of(alloc, Order::Concept, &facts)?;
+        let by_cell = index_of(alloc, IndexKind::Cell, &facts)?;
+        let by_period = index_of(alloc, IndexKind::Period, &facts)?;
+        let by_concept = index_of(alloc, IndexKind::Concept, &facts)?;
         let by_id = TextPages::of_sorted(alloc, facts)?;
         Ok(Facts {
             by_id,
@@ -99,25 +102,25 @@ impl Facts {
     }
 
     /// The facts in byte order of their identifiers. It takes no memory.
-    pub fn iter(&self) -> Range<'_, Named<Held>>
+    pub fn iter(&self) -> Range<'_, NamedValue<IndexedFact>>
         ensures { result ≡ self.now.entries }
     {
         self.by_id.iter()
     }
 
-    /// The index in an order.
-    pub(crate) fn index(&self, order: Order) -> &Paged<Coded>
-        ensures { IsIndex (code_in order) self.now result.now }
+    /// The index of a kind.
+    pub(crate) fn index(&self, order: IndexKind) -> &Paged<IndexEntry>
+        ensures { IsIndex (hash_in order) self.now result.now }
     {
         match order {
-            Order::Cell => &self.by_cell,
-            Order::Period => &self.by_period,
-            Order::Concept => &self.by_concept,
+            IndexKind::Cell => &self.by_cell,
+            IndexKind::Period => &self.by_period,
+            IndexKind::Concept => &self.by_concept,
         }
     }
 
     /// The record of an identifier, which is shared.
-    fn record(&self, id: &str) -> Result<Option<Named<Held>>, AllocError>
+    fn record(&self, id: &str) -> Result<Option<NamedValue<IndexedFact>>, AllocError>
         ensures { IfOk result (λ o. o ≡ option_map (λ f. (id.now, f)) (get self.now id.now)) }
     {
         match self.by_id.get_named(id) {
@@ -126,55 +129,57 @@ impl Facts {
         }
     }
 
-    /// Pushes the move of a change, unless no fact stands before or after.
-    fn push_move(
+    /// Pushes the fact change of one identifier, unless no fact stands before or after.
+    fn push_fact_change(
         &self,
         alloc: Global,
-        change: &Named<Option<Held>>,
-        moves: &mut Vec<Move>,
+        change: &NamedValue<Option<IndexedFact>>,
+        fact_changes: &mut Vec<FactChange>,
     ) -> Result<(), AllocError>
-        ensures { OnOk result (moves.new.items ≡ moves.old.items ++ moves_in (change.now ∷ []) self.now) }
+        ensures { OnOk result (fact_changes.new.items
+            ≡ fact_changes.old.items ++ fact_changes_in (change.now ∷ []) self.now) }
     {
         let old = self.record(change.name())?;
         let new = record_put(alloc, change)?;
         if old.is_some() || new.is_some() {
-            moves.push(Move::of(old, new))?;
+            fact_changes.push(FactChange::of(old, new))?;
         }
         Ok(())
     }
 
-    /// What becomes of the record of each changed identifier, in byte order of these. Where no fact stands before or after, nothing does.
-    pub fn moves(
+    /// The fact change of each changed identifier, in byte order of these; none where no fact stands before or after.
+    pub fn fact_changes(
         &self,
         alloc: Global,
-        changes: &TextPages<Option<Held>>,
-    ) -> Result<Vec<Move>, AllocError>
-        ensures { IfOk result (λ moves. moves.items ≡ moves_in changes.now.entries self.now) }
+        changes: &TextPages<Option<IndexedFact>>,
+    ) -> Result<Vec<FactChange>, AllocError>
+        ensures { IfOk result (λ fact_changes. fact_changes.items ≡ fact_changes_in changes.now.entries self.now) }
     {
-        let mut moves = Vec::new(alloc);
+        let mut fact_changes = Vec::new(alloc);
         for change in changes.iter() {
-            self.push_move(alloc, change, &mut moves)?;
+            self.push_fact_change(alloc, change, &mut fact_changes)?;
         }
-        Ok(moves)
+        Ok(fact_changes)
     }
 
-    /// The facts after a change with these moves. These facts stay as they are.
-    pub fn after(&self, alloc: Global, moves: &[Move]) -> Result<Facts, AllocError>
-        requires { AreMoves self.now moves.now }
+    /// The facts after these fact changes. This map stays as it is.
+    pub fn after(&self, alloc: Global, fact_changes: &[FactChange]) -> Result<Facts, AllocError>
+        requires { AreFactChanges self.now fact_changes.now }
         ensures { IfOk result (λ after. (changes : TextMap (Option PlainFact))
-            → moves.now ≡ moves_in changes.entries self.now → after ≡ with_changes changes.entries self.now) }
+            → fact_changes.now ≡ fact_changes_in changes.entries self.now
+            → after ≡ with_changes changes.entries self.now) }
     {
-        let by_id = ids_after(alloc, &self.by_id, moves)?;
+        let by_id = ids_after(alloc, &self.by_id, fact_changes)?;
         let (by_cell, by_id) = beside(
-            index_after(alloc, Order::Cell, &self.by_cell, moves),
+            index_after(alloc, IndexKind::Cell, &self.by_cell, fact_changes),
             by_id,
         )?;
         let (by_period, (by_cell, by_id)) = beside(
-            index_after(alloc, Order::Period, &self.by_period, moves),
+            index_after(alloc, IndexKind::Period, &self.by_period, fact_changes),
             (by_cell, by_id),
         )?;
         let (by_concept, (by_period, by_cell, by_id)) = beside(
-            index_after(alloc, Order::Concept, &self.by_concept, moves),
+            index_after(alloc, IndexKind::Concept, &self.by_concept, fact_changes),
             (by_period, by_cell, by_id),
         )?;
         Ok(Facts {
@@ -186,10 +191,10 @@ impl Facts {
     }
 
     /// The same, in place where no others hold what changes.
-    pub fn into_after(self, alloc: Global, moves: &[Move]) -> Result<Facts, AllocError>
-        requires { AreMoves self moves.now }
+    pub fn into_after(self, alloc: Global, fact_changes: &[FactChange]) -> Result<Facts, AllocError>
+        requires { AreFactChanges self fact_changes.now }
         ensures { IfOk result (λ after. (changes : TextMap (Option PlainFact))
-            → moves.now ≡ moves_in changes.entries self → after ≡ with_changes changes.entries self) }
+            → fact_changes.now ≡ fact_changes_in changes.entries self → after ≡ with_changes changes.entries self) }
     {
         let Facts {
             by_id,
@@ -198,19 +203,19 @@ impl Facts {
             by_concept,
         } = self;
         let (by_id, (by_cell, by_period, by_concept)) = beside(
-            ids_into_after(alloc, by_id, moves),
+            ids_into_after(alloc, by_id, fact_changes),
             (by_cell, by_period, by_concept),
         )?;
         let (by_cell, (by_id, by_period, by_concept)) = beside(
-            index_into_after(alloc, Order::Cell, by_cell, moves),
+            index_into_after(alloc, IndexKind::Cell, by_cell, fact_changes),
             (by_id, by_period, by_concept),
         )?;
         let (by_period, (by_id, by_cell, by_concept)) = beside(
-            index_into_after(alloc, Order::Period, by_period, moves),
+            index_into_after(alloc, IndexKind::Period, by_period, fact_changes),
             (by_id, by_cell, by_concept),
         )?;
         let (by_concept, (by_id, by_cell, by_period)) = beside(
-            index_into_after(alloc, Order::Concept, by_concept, moves),
+            index_into_after(alloc, IndexKind::Concept, by_concept, fact_changes),
             (by_id, by_cell, by_period),
         )?;
         Ok(Facts {

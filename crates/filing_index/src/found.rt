@@ -1,37 +1,38 @@
-//! What is found in an index by a code.
+//! What is found in an index by a hash.
 ghost use Rattle.std.specs.Prelude.{◌≡◌, option_map};
 ghost use Rattle.std.specs.Iterator.{YieldsFirstRef, item_count};
-ghost use Rattle.filing_model.specs.Facts.{Fact as PlainFact};
-ghost use Rattle.filing_model.specs.TextMap.{TextMap};
+ghost use Rattle.filing_model.specs.Oim.Facts.{Fact as PlainFact};
+ghost use Rattle.filing_model.specs.Common.TextMap.{TextMap};
 ghost use Rattle.filing_index.specs.Index.{IsIndex};
 ghost use Rattle.filing_index.specs.Found.{passing, found, side_after};
-ghost use Rattle.filing_index.specs.Wanted.{is_wanted, code_of, coded_by};
+ghost use Rattle.filing_index.specs.Wanted.{is_wanted, hash_of, hashed_by};
 
-use crate::coded::Coded;
+use crate::index_entry::IndexEntry;
 use crate::wanted::Wanted;
-use filing_pages::{Held, Named};
+use filing_facts::IndexedFact;
 use sorted_pages::{Paged, Range, Span, order_of_keys};
 use std::cmp::Ordering;
 use std::marker::Model;
+use text_map::NamedValue;
 
-/// The entries of one code whose identifiers are greater than one, where one is given.
+/// The entries of one hash whose identifiers are greater than one, where one is given.
 #[derive(Drop)]
-struct OfCode<'a> {
-    code: u64,
+struct OfHash<'a> {
+    hash: u64,
     after: Option<&'a str>,
 }
 
-impl<'a> Span<Coded> for OfCode<'a> {
+impl<'a> Span<IndexEntry> for OfHash<'a> {
     ghost use Rattle.std.specs.Prelude.{option_map};
     ghost use Rattle.filing_index.specs.Found.{side_of};
-    ghost use Rattle.filing_index.specs.CodeRanges.{side_is_monotone};
+    ghost use Rattle.filing_index.specs.HashRanges.{side_is_monotone};
 
-    ghost side = { λ s e. side_of s.code (option_map (λ t. t.now) s.after) e };
+    ghost side = { λ s e. side_of s.hash (option_map (λ t. t.now) s.after) e };
 
-    ghost is_monotone = { λ s. side_is_monotone s.code (option_map (λ t. t.now) s.after) };
+    ghost is_monotone = { λ s. side_is_monotone s.hash (option_map (λ t. t.now) s.after) };
 
-    fn side(&self, entry: &Coded) -> Ordering {
-        match entry.code().cmp(&self.code) {
+    fn side(&self, entry: &IndexEntry) -> Ordering {
+        match entry.hash().cmp(&self.hash) {
             Ordering::Less => Ordering::Less,
             Ordering::Equal => side_after(self.after, entry.held().name()),
             Ordering::Greater => Ordering::Greater,
@@ -39,7 +40,7 @@ impl<'a> Span<Coded> for OfCode<'a> {
     }
 
     fn side_of_key(&self, key: u64) -> Option<Ordering> {
-        order_of_keys(key, self.code)
+        order_of_keys(key, self.hash)
     }
 }
 
@@ -47,15 +48,15 @@ impl<'a> Span<Coded> for OfCode<'a> {
 #[derive(Drop)]
 pub(crate) struct All;
 
-impl Span<Coded> for All {
+impl Span<IndexEntry> for All {
     ghost use Rattle.std.specs.declared.cmp.Ordering.TheVariants.{Equal};
-    ghost use Rattle.filing_index.specs.CodeRanges.{all_is_monotone};
+    ghost use Rattle.filing_index.specs.HashRanges.{all_is_monotone};
 
     ghost side = { λ a e. Equal };
 
     ghost is_monotone = { λ a. all_is_monotone };
 
-    fn side(&self, _: &Coded) -> Ordering {
+    fn side(&self, _: &IndexEntry) -> Ordering {
         Ordering::Equal
     }
 
@@ -82,18 +83,18 @@ fn side_after(after: Option<&str>, id: &str) -> Ordering
 
 /// The facts that are looked for, in byte order of their identifiers. It takes no memory.
 ///
-/// Facts that have their code by chance are passed over, so nothing depends on how codes are made.
+/// Facts that have their hash by chance are passed over, so nothing depends on how hashes are made.
 /// Contracts see the list of those still to come.
 #[derive(Drop)]
 pub(crate) struct Found<'a> {
-    entries: Range<'a, Coded>,
+    entries: Range<'a, IndexEntry>,
     wanted: Wanted<'a>,
 }
 
 impl<'a> Model for Found<'a> {
     ghost use Rattle.std.specs.Prelude.{List};
-    ghost use Rattle.filing_model.specs.Text.{Text};
-    ghost use Rattle.filing_model.specs.Facts.{Fact as PlainFact};
+    ghost use Rattle.filing_model.specs.Common.Text.{Text};
+    ghost use Rattle.filing_model.specs.Oim.Facts.{Fact as PlainFact};
 
     ghost Value = { List (Text × PlainFact) };
 
@@ -104,7 +105,10 @@ impl<'a> Model for Found<'a> {
 }
 
 /// The next of the entries that is looked for.
-fn next_wanted<'a>(entries: &mut Range<'a, Coded>, wanted: Wanted<'_>) -> Option<&'a Named<Held>>
+fn next_wanted<'a>(
+    entries: &mut Range<'a, IndexEntry>,
+    wanted: Wanted<'_>,
+) -> Option<&'a NamedValue<IndexedFact>>
     ensures { YieldsFirstRef (passing (is_wanted wanted.entry)) entries.old result entries.new }
 {
     while let Some(entry) = entries.next() {
@@ -117,38 +121,42 @@ fn next_wanted<'a>(entries: &mut Range<'a, Coded>, wanted: Wanted<'_>) -> Option
 }
 
 impl<'a> Found<'a> {
-    /// Those in the index by whose code they are looked for, with identifiers greater than one where one is given.
-    pub(crate) fn of(index: &'a Paged<Coded>, wanted: Wanted<'a>, after: Option<&str>) -> Found<'a>
-        ensures { (facts : TextMap PlainFact) → IsIndex (coded_by wanted.entry) facts index.now
-            → result ≡ found (is_wanted wanted.entry) (option_map (λ t. t.now) after.entry) facts }
-    {
-        Found::under(index, wanted.code(), wanted, after)
-    }
-
-    /// The same under the code of what is looked for, where that is known. To make it again costs a hash.
-    pub(crate) fn under(
-        index: &'a Paged<Coded>,
-        code: u64,
+    /// Those in the index by whose hash they are looked for, with identifiers greater than one where one is given.
+    pub(crate) fn of(
+        index: &'a Paged<IndexEntry>,
         wanted: Wanted<'a>,
         after: Option<&str>,
     ) -> Found<'a>
-        requires { code ≡ code_of wanted }
-        ensures { (facts : TextMap PlainFact) → IsIndex (coded_by wanted.entry) facts index.now
+        ensures { (facts : TextMap PlainFact) → IsIndex (hashed_by wanted.entry) facts index.now
             → result ≡ found (is_wanted wanted.entry) (option_map (λ t. t.now) after.entry) facts }
     {
-        let entries = index.range(&OfCode { code, after });
+        Found::under(index, wanted.hash(), wanted, after)
+    }
+
+    /// The same under the hash of what is looked for, where that is known. To make it again costs a hash.
+    pub(crate) fn under(
+        index: &'a Paged<IndexEntry>,
+        hash: u64,
+        wanted: Wanted<'a>,
+        after: Option<&str>,
+    ) -> Found<'a>
+        requires { hash ≡ hash_of wanted }
+        ensures { (facts : TextMap PlainFact) → IsIndex (hashed_by wanted.entry) facts index.now
+            → result ≡ found (is_wanted wanted.entry) (option_map (λ t. t.now) after.entry) facts }
+    {
+        let entries = index.range(&OfHash { hash, after });
         Found { entries, wanted }
     }
 }
 
 impl<'a> Iterator for Found<'a> {
-    type Item = &'a Named<Held>;
+    type Item = &'a NamedValue<IndexedFact>;
 
     ghost next_gives = { YieldsFirstRef (λ f. f) };
 
     ghost remaining = { item_count (λ f. f) };
 
-    fn next(&mut self) -> Option<&'a Named<Held>> {
+    fn next(&mut self) -> Option<&'a NamedValue<IndexedFact>> {
         next_wanted(&mut self.entries, self.wanted)
     }
 }

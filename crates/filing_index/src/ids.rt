@@ -1,16 +1,17 @@
 //! The identifiers of what is found.
 ghost use Rattle.std.specs.Prelude.{◌≡◌, option_map};
 ghost use Rattle.std.specs.Iterator.{YieldsFirstRef, item_count};
-ghost use Rattle.filing_model.specs.Facts.{Fact as PlainFact};
-ghost use Rattle.filing_model.specs.TextMap.{TextMap};
-ghost use Rattle.filing_model.specs.Queries.{cell_ids, ids_for};
-ghost use Rattle.filing_pages.specs.Codes.{cell_code, code_of_dims, query_code};
+ghost use Rattle.filing_model.specs.Oim.Facts.{Fact as PlainFact};
+ghost use Rattle.filing_model.specs.Common.TextMap.{TextMap};
+ghost use Rattle.filing_model.specs.Sessions.Queries.{cell_ids, ids_for};
+ghost use Rattle.filing_facts.specs.Hashes.{cell_hash, hash_of_dims, query_hash};
 ghost use Rattle.filing_index.specs.Index.{IsIndex};
-ghost use Rattle.filing_index.specs.Wanted.{asked_of};
+ghost use Rattle.filing_facts.specs.PeriodFilterRef.{period_filter_of};
 
-use crate::coded::Coded;
 use crate::found::Found;
-use crate::wanted::{Asked, Wanted};
+use crate::index_entry::IndexEntry;
+use crate::wanted::Wanted;
+use filing_facts::PeriodFilterRef;
 use oim_fact::DimSet;
 use sorted_pages::Paged;
 use std::marker::Model;
@@ -25,7 +26,7 @@ pub struct Ids<'a> {
 
 impl<'a> Model for Ids<'a> {
     ghost use Rattle.std.specs.Prelude.{List, map};
-    ghost use Rattle.filing_model.specs.Text.{Text};
+    ghost use Rattle.filing_model.specs.Common.Text.{Text};
 
     ghost Value = { List Text };
 
@@ -33,27 +34,27 @@ impl<'a> Model for Ids<'a> {
 }
 
 impl<'a> Ids<'a> {
-    /// Those of a cell, out of the index by dimensions. The code is that of the dimensions.
-    pub(crate) fn of_cell(index: &'a Paged<Coded>, code: u64, dims: &'a DimSet) -> Ids<'a>
-        requires { code ≡ code_of_dims dims.now }
-        ensures { (facts : TextMap PlainFact) → IsIndex cell_code facts index.now
+    /// Those of a cell, out of the index by dimensions. The hash is that of the dimensions.
+    pub(crate) fn of_cell(index: &'a Paged<IndexEntry>, hash: u64, dims: &'a DimSet) -> Ids<'a>
+        requires { hash ≡ hash_of_dims dims.now }
+        ensures { (facts : TextMap PlainFact) → IsIndex cell_hash facts index.now
             → result ≡ cell_ids dims.now facts }
     {
-        let facts = Found::under(index, code, Wanted::Cell(dims), None);
+        let facts = Found::under(index, hash, Wanted::Cell(dims), None);
         Ids { facts }
     }
 
     /// Those of a query that are greater than one where one is given, out of the index by which such a query is answered.
     pub(crate) fn of_query(
-        index: &'a Paged<Coded>,
+        index: &'a Paged<IndexEntry>,
         concept: &'a str,
-        period: Asked<'a>,
+        period: PeriodFilterRef<'a>,
         after: Option<&str>,
     ) -> Ids<'a>
-        ensures { (facts : TextMap PlainFact) → IsIndex (query_code (asked_of period.entry)) facts index.now
+        ensures { (facts : TextMap PlainFact) → IsIndex (query_hash (period_filter_of period.entry)) facts index.now
             → result ≡ ids_for (record {
               concept = concept.now;
-              period = asked_of period.entry;
+              period = period_filter_of period.entry;
               after = option_map (λ t. t.now) after.entry;
             }) facts }
     {

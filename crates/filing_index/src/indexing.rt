@@ -1,22 +1,22 @@
 //! How an index is built, and how one is changed.
 ghost use Rattle.std.specs.Prelude.{◌≡◌, ◌++◌, map, option_copied, option_map, T as Holds, IfOk, OnOk, Ok, IsPermutation};
 ghost use Rattle.std.specs.FinMap.Entries.{is_sorted};
-ghost use Rattle.filing_model.specs.Text.{text_cmp};
-ghost use Rattle.filing_model.specs.TextMap.{TextMap};
-ghost use Rattle.filing_model.specs.Facts.{Fact};
-ghost use Rattle.filing_pages.specs.MapChanges.{map_with_changes};
+ghost use Rattle.filing_model.specs.Common.Text.{text_cmp};
+ghost use Rattle.filing_model.specs.Common.TextMap.{TextMap};
+ghost use Rattle.filing_model.specs.Oim.Facts.{Fact};
+ghost use Rattle.text_map.specs.MapChanges.{map_with_changes};
 ghost use Rattle.sorted_pages.specs.Sorted.{IsRising};
 ghost use Rattle.sorted_pages.specs.Changes.{entry_of};
-ghost use Rattle.filing_index.specs.Index.{IsIndex, coded_cmp};
-ghost use Rattle.filing_index.specs.Orders.{code_in};
-ghost use Rattle.filing_index.specs.Moved.{AreMoves, IsIndexAfter, coded, coded_change, coded_changes, has_code, id_change, id_changes};
+ghost use Rattle.filing_index.specs.Index.{IsIndex, hashed_cmp};
+ghost use Rattle.filing_index.specs.IndexKinds.{hash_in};
+ghost use Rattle.filing_index.specs.ChangedIndexes.{AreFactChanges, IsIndexAfter, hashed, hashed_change, hashed_changes, has_hash, id_change, id_changes};
 
-use crate::coded::Coded;
-use crate::moves::Move;
-use crate::order::Order;
-use filing_pages::{Change, Held, Named, TextPages};
-use sorted_pages::{Entry, Paged};
+use crate::index_entry::IndexEntry;
+use crate::index_kind::IndexKind;
+use filing_facts::{FactChange, IndexedFact};
+use sorted_pages::{Edit, PageEntry, Paged};
 use std::alloc::{AllocError, Global};
+use text_map::{NamedValue, TextPages};
 
 /// What was made beside another thing. Where memory was refused, that is let go.
 pub(crate) fn beside<A: Drop, B: Drop>(
@@ -28,13 +28,17 @@ pub(crate) fn beside<A: Drop, B: Drop>(
     Ok((made?, other))
 }
 
-/// The facts under their codes.
-fn coded(alloc: Global, order: Order, facts: &[Named<Held>]) -> Result<Vec<Coded>, AllocError>
-    ensures { IfOk result (λ v. v.items ≡ map (coded (code_in order)) facts.now) }
+/// The facts under their hashes.
+fn hashed(
+    alloc: Global,
+    order: IndexKind,
+    facts: &[NamedValue<IndexedFact>],
+) -> Result<Vec<IndexEntry>, AllocError>
+    ensures { IfOk result (λ v. v.items ≡ map (hashed (hash_in order)) facts.now) }
 {
     let mut entries = Vec::with_capacity(alloc, facts.len())?;
     for held in facts {
-        entries.push(Coded::of(order, held)?)?;
+        entries.push(IndexEntry::of(order, held)?)?;
     }
     Ok(entries)
 }
@@ -42,100 +46,103 @@ fn coded(alloc: Global, order: Order, facts: &[Named<Held>]) -> Result<Vec<Coded
 /// The index of facts whose identifiers rise.
 pub(crate) fn index_of(
     alloc: Global,
-    order: Order,
-    facts: &[Named<Held>],
-) -> Result<Paged<Coded>, AllocError>
+    order: IndexKind,
+    facts: &[NamedValue<IndexedFact>],
+) -> Result<Paged<IndexEntry>, AllocError>
     requires { Holds (is_sorted text_cmp facts.now) }
     ensures { IfOk result (λ index. (all : TextMap Fact) → all.entries ≡ facts.now
-        → IsIndex (code_in order) all index) }
+        → IsIndex (hash_in order) all index) }
 {
-    let mut entries = coded(alloc, order, facts)?;
-    // Those of one code keep the order of their identifiers, so no identifier is looked at.
-    entries.sort_by(|one, other| one.code().cmp(&other.code()))?;
+    let mut entries = hashed(alloc, order, facts)?;
+    // Those of one hash keep the order of their identifiers, so no identifier is looked at.
+    entries.sort_by(|one, other| one.hash().cmp(&other.hash()))?;
     Paged::of_sorted(alloc, entries)
 }
 
-/// A record under its code, where there is one.
-fn coded_held(order: Order, held: Option<&Named<Held>>) -> Result<Option<Coded>, AllocError>
-    ensures { IfOk result (λ o. o ≡ option_map (coded (code_in order)) (option_copied held.entry)) }
+/// A record under its hash, where there is one.
+fn hashed_held(
+    order: IndexKind,
+    held: Option<&NamedValue<IndexedFact>>,
+) -> Result<Option<IndexEntry>, AllocError>
+    ensures { IfOk result (λ o. o ≡ option_map (hashed (hash_in order)) (option_copied held.entry)) }
 {
     match held {
-        Some(held) => Ok(Some(Coded::of(order, held)?)),
+        Some(held) => Ok(Some(IndexEntry::of(order, held)?)),
         None => Ok(None),
     }
 }
 
-/// Whether two entries have one code, where both are there.
-fn have_one_code(old: &Coded, new: &Option<Coded>) -> bool
-    ensures { result ≡ has_code old.now.0.0 new.now }
+/// Whether two entries have one hash, where both are there.
+fn have_one_hash(old: &IndexEntry, new: &Option<IndexEntry>) -> bool
+    ensures { result ≡ has_hash old.now.0.0 new.now }
 {
     match new {
-        Some(new) => old.code() == new.code(),
+        Some(new) => old.hash() == new.hash(),
         None => false,
     }
 }
 
-/// Pushes what a move changes in an order. A new fact with the code of the old one takes its place.
-fn push_coded(
-    order: Order,
-    moved: &Move,
-    changes: &mut Vec<Change<Coded>>,
+/// Pushes what a fact change edits in an index. A new fact with the hash of the old one takes its place.
+fn push_hashed(
+    order: IndexKind,
+    moved: &FactChange,
+    changes: &mut Vec<Edit<IndexEntry>>,
 ) -> Result<(), AllocError>
-    ensures { OnOk result (changes.new.items ≡ changes.old.items ++ coded_change (code_in order) moved.now) }
+    ensures { OnOk result (changes.new.items ≡ changes.old.items ++ hashed_change (hash_in order) moved.now) }
 {
-    let new = coded_held(order, moved.new())?;
-    if let Some(old) = coded_held(order, moved.old())? {
-        if !have_one_code(&old, &new) {
-            changes.push(Change::Remove(old))?;
+    let new = hashed_held(order, moved.new())?;
+    if let Some(old) = hashed_held(order, moved.old())? {
+        if !have_one_hash(&old, &new) {
+            changes.push(Edit::Remove(old))?;
         }
     }
     if let Some(new) = new {
-        changes.push(Change::Put(new))?;
+        changes.push(Edit::Put(new))?;
     }
     Ok(())
 }
 
-/// What moves change in an order.
-fn coded_changes(
+/// What fact changes edit in an index.
+fn hashed_changes(
     alloc: Global,
-    order: Order,
-    moves: &[Move],
-) -> Result<Vec<Change<Coded>>, AllocError>
-    ensures { IfOk result (λ v. v.items ≡ coded_changes (code_in order) moves.now) }
+    order: IndexKind,
+    fact_changes: &[FactChange],
+) -> Result<Vec<Edit<IndexEntry>>, AllocError>
+    ensures { IfOk result (λ v. v.items ≡ hashed_changes (hash_in order) fact_changes.now) }
 {
-    let mut changes = Vec::with_capacity(alloc, moves.len())?;
-    for moved in moves {
-        push_coded(order, moved, &mut changes)?;
+    let mut changes = Vec::with_capacity(alloc, fact_changes.len())?;
+    for moved in fact_changes {
+        push_hashed(order, moved, &mut changes)?;
     }
     Ok(changes)
 }
 
-/// What moves change in an order, in the order of its entries.
+/// What fact changes edit in an index, in the order of its entries.
 fn sorted_changes(
     alloc: Global,
-    order: Order,
-    moves: &[Move],
-) -> Result<Vec<Change<Coded>>, AllocError>
-    requires { (facts : TextMap Fact) × AreMoves facts moves.now }
-    ensures changes { IfOk result (λ v. IsPermutation (coded_changes (code_in order) moves.now) v.items) }
-    ensures rising { IfOk result (λ v. IsRising coded_cmp (map entry_of v.items)) }
+    order: IndexKind,
+    fact_changes: &[FactChange],
+) -> Result<Vec<Edit<IndexEntry>>, AllocError>
+    requires { (facts : TextMap Fact) × AreFactChanges facts fact_changes.now }
+    ensures changes { IfOk result (λ v. IsPermutation (hashed_changes (hash_in order) fact_changes.now) v.items) }
+    ensures rising { IfOk result (λ v. IsRising hashed_cmp (map entry_of v.items)) }
 {
-    let mut changes = coded_changes(alloc, order, moves)?;
+    let mut changes = hashed_changes(alloc, order, fact_changes)?;
     changes.sort_unstable_by(|one, other| one.entry().order(other.entry()));
     Ok(changes)
 }
 
-/// The index of the facts after a change with these moves.
+/// The index of the facts after these fact changes.
 pub(crate) fn index_after(
     alloc: Global,
-    order: Order,
-    index: &Paged<Coded>,
-    moves: &[Move],
-) -> Result<Paged<Coded>, AllocError>
-    requires { (facts : TextMap Fact) × AreMoves facts moves.now }
-    ensures { IfOk result (λ next. IsIndexAfter (code_in order) moves.now index.now next) }
+    order: IndexKind,
+    index: &Paged<IndexEntry>,
+    fact_changes: &[FactChange],
+) -> Result<Paged<IndexEntry>, AllocError>
+    requires { (facts : TextMap Fact) × AreFactChanges facts fact_changes.now }
+    ensures { IfOk result (λ next. IsIndexAfter (hash_in order) fact_changes.now index.now next) }
 {
-    let changes = sorted_changes(alloc, order, moves)?;
+    let changes = sorted_changes(alloc, order, fact_changes)?;
     let next = index.after(alloc, &changes);
     drop(changes);
     next
@@ -144,53 +151,59 @@ pub(crate) fn index_after(
 /// The same, in place where no other index holds what changes.
 pub(crate) fn index_into_after(
     alloc: Global,
-    order: Order,
-    index: Paged<Coded>,
-    moves: &[Move],
-) -> Result<Paged<Coded>, AllocError>
-    requires { (facts : TextMap Fact) × AreMoves facts moves.now }
-    ensures { IfOk result (λ next. IsIndexAfter (code_in order) moves.now index next) }
+    order: IndexKind,
+    index: Paged<IndexEntry>,
+    fact_changes: &[FactChange],
+) -> Result<Paged<IndexEntry>, AllocError>
+    requires { (facts : TextMap Fact) × AreFactChanges facts fact_changes.now }
+    ensures { IfOk result (λ next. IsIndexAfter (hash_in order) fact_changes.now index next) }
 {
-    let (changes, index) = beside(sorted_changes(alloc, order, moves), index)?;
+    let (changes, index) = beside(sorted_changes(alloc, order, fact_changes), index)?;
     let next = index.into_after(alloc, &changes);
     drop(changes);
     next
 }
 
-/// Pushes what a move changes in the order of identifiers.
-fn push_by_id(moved: &Move, changes: &mut Vec<Change<Named<Held>>>) -> Result<(), AllocError>
+/// Pushes what a fact change edits in the map by identifiers.
+fn push_by_id(
+    moved: &FactChange,
+    changes: &mut Vec<Edit<NamedValue<IndexedFact>>>,
+) -> Result<(), AllocError>
     ensures { OnOk result (changes.new.items
         ≡ changes.old.items ++ id_change moved.now.id moved.now.old moved.now.new) }
 {
     if let Some(new) = moved.new() {
-        changes.push(Change::Put(new.share()?))?;
+        changes.push(Edit::Put(new.share()?))?;
     } else if let Some(old) = moved.old() {
-        changes.push(Change::Remove(old.share()?))?;
+        changes.push(Edit::Remove(old.share()?))?;
     }
     Ok(())
 }
 
-/// What moves change in the order of identifiers.
-fn changes_by_id(alloc: Global, moves: &[Move]) -> Result<Vec<Change<Named<Held>>>, AllocError>
-    ensures { IfOk result (λ v. v.items ≡ id_changes moves.now) }
+/// What fact changes edit in the map by identifiers.
+fn changes_by_id(
+    alloc: Global,
+    fact_changes: &[FactChange],
+) -> Result<Vec<Edit<NamedValue<IndexedFact>>>, AllocError>
+    ensures { IfOk result (λ v. v.items ≡ id_changes fact_changes.now) }
 {
-    let mut changes = Vec::with_capacity(alloc, moves.len())?;
-    for moved in moves {
+    let mut changes = Vec::with_capacity(alloc, fact_changes.len())?;
+    for moved in fact_changes {
         push_by_id(moved, &mut changes)?;
     }
     Ok(changes)
 }
 
-/// Facts by their identifiers after a change with these moves.
+/// Facts by their identifiers after these fact changes.
 pub(crate) fn ids_after(
     alloc: Global,
-    by_id: &TextPages<Held>,
-    moves: &[Move],
-) -> Result<TextPages<Held>, AllocError>
-    requires { (facts : TextMap Fact) × AreMoves facts moves.now }
-    ensures { IfOk result (λ next. next ≡ map_with_changes (id_changes moves.now) by_id.now) }
+    by_id: &TextPages<IndexedFact>,
+    fact_changes: &[FactChange],
+) -> Result<TextPages<IndexedFact>, AllocError>
+    requires { (facts : TextMap Fact) × AreFactChanges facts fact_changes.now }
+    ensures { IfOk result (λ next. next ≡ map_with_changes (id_changes fact_changes.now) by_id.now) }
 {
-    let changes = changes_by_id(alloc, moves)?;
+    let changes = changes_by_id(alloc, fact_changes)?;
     let next = by_id.after(alloc, &changes);
     drop(changes);
     next
@@ -199,13 +212,13 @@ pub(crate) fn ids_after(
 /// The same, in place where no other map holds what changes.
 pub(crate) fn ids_into_after(
     alloc: Global,
-    by_id: TextPages<Held>,
-    moves: &[Move],
-) -> Result<TextPages<Held>, AllocError>
-    requires { (facts : TextMap Fact) × AreMoves facts moves.now }
-    ensures { IfOk result (λ next. next ≡ map_with_changes (id_changes moves.now) by_id) }
+    by_id: TextPages<IndexedFact>,
+    fact_changes: &[FactChange],
+) -> Result<TextPages<IndexedFact>, AllocError>
+    requires { (facts : TextMap Fact) × AreFactChanges facts fact_changes.now }
+    ensures { IfOk result (λ next. next ≡ map_with_changes (id_changes fact_changes.now) by_id) }
 {
-    let (changes, by_id) = beside(changes_by_id(alloc, moves), by_id)?;
+    let (changes, by_id) = beside(changes_by_id(alloc, fact_changes), by_id)?;
     let next = by_id.into_after(alloc, &changes);
     drop(changes);
     next

@@ -1,13 +1,4 @@
-pub mod Numbers
-pub mod Marks
-pub mod Played
-pub mod WholeRuns
-pub mod NextReply
-pub mod Untouched
-pub mod Obeying
-pub mod Versions
-pub mod NetChange
-pub mod Updates
-pub mod SameReplies
-pub mod ReadingOrder
-pub mod StampedVersions
+pub mod Serial
+pub mod Histories
+pub mod Stamping
+pub mod Updating

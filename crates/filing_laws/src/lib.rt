@@ -1,7 +1,5 @@
 //! The laws of the plain repository and its histories: what follows from the definitions alone.
 //!
-//! Each public function has no parameters and an empty body, and carries one law as its contract. The lemmas in `proofs/` are what the proofs of other crates cite. It knows nothing of code: nothing here is stored, shared, locked or read.
-//!
 //! - `next_reply`: after a lawful history each step that may be taken has one reply that keeps it lawful.
 //! - `untouched`: a session whose reads nobody touched was told what it is told alone, at its opening and now.
 //! - `obeying`: a report obeys its allowed duplicates exactly where it has no disallowed cell.
@@ -14,6 +12,10 @@
 //! - `stamped_versions`: the stamps that a version carries are the numbers of last touches, whatever entries made it, and tell each conflict.
 //! - `updates`: the repository is the empty one with each accepted load and each committed net change laid over it.
 //! - `reading_order`: a history may be read from its first entry on, and the entry at which it departs is determined.
+//!
+//! Each public function has no parameters and an empty body, and carries one law as its contract. The lemmas in `proofs/` are what the proofs of other crates cite.
+//!
+//! It knows nothing of code: nothing here is stored, shared, locked or read.
 #![tactic(auto)]
 
 mod marks;

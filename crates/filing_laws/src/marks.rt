@@ -1,6 +1,6 @@
 //! Of the marks that commits leave, from which the stamps of ranges are read.
 
-ghost use Rattle.filing_laws.specs.Marks.{EachMarkIsTheGreatest, RangesAreTouchedByMarks, EachRangeHasTheGreatestOfItsMarks};
+ghost use Rattle.filing_laws.specs.Stamping.Marks.{EachMarkIsTheGreatest, RangesAreTouchedByMarks, EachRangeHasTheGreatestOfItsMarks};
 
 /// The greatest number of a commit that left a mark, which is the mark's stamp, is that of the newest.
 pub fn each_mark_is_the_greatest()

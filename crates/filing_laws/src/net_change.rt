@@ -1,18 +1,18 @@
 //! Of an open amendment's net change, laid over the repository as it is.
 
-ghost use Rattle.filing_laws.specs.NetChange.{EachNetChangeMakesTheCopy, EachCommitLaysItsNetChange};
-ghost use Rattle.filing_laws.specs.NetChange.{EachDisallowedCellHoldsANewFact};
-ghost use Rattle.filing_laws.specs.NetChange.{EachDisallowedCellOfACopyHoldsANewFact};
-ghost use Rattle.filing_laws.specs.NetChange.{EachChangeIsDecidedByItsNewFacts, EachCopyIsDecidedByItsNewFacts};
+ghost use Rattle.filing_laws.specs.Updating.NetChange.{EachNetChangeMakesTheCopy, EachCommitLaysItsNetChange};
+ghost use Rattle.filing_laws.specs.Updating.NetChange.{EachDisallowedCellHoldsANewFact};
+ghost use Rattle.filing_laws.specs.Updating.NetChange.{EachDisallowedCellOfACopyHoldsANewFact};
+ghost use Rattle.filing_laws.specs.Updating.NetChange.{EachChangeIsDecidedByItsNewFacts, EachCopyIsDecidedByItsNewFacts};
 
 /// Where nothing that an open amendment has read was touched, its net change, laid over the repository as it is, makes its copy at the end of its solo run there.
-#[tactic(auto, using(crate::proofs::NetChanges::each_net_change_makes_the_copy))]
+#[tactic(auto, using(crate::proofs::Updating::NetChanges::each_net_change_makes_the_copy))]
 pub fn each_net_change_makes_the_copy()
     ensures { EachNetChangeMakesTheCopy }
 {}
 
 /// So each accepted commit leaves its session's net change laid over the repository before it, and counts.
-#[tactic(auto, using(crate::proofs::NetChanges::each_commit_lays_its_net_change))]
+#[tactic(auto, using(crate::proofs::Updating::NetChanges::each_commit_lays_its_net_change))]
 pub fn each_commit_lays_its_net_change()
     ensures { EachCommitLaysItsNetChange }
 {}
@@ -24,7 +24,7 @@ pub fn each_disallowed_cell_holds_a_new_fact()
 {}
 
 /// The least report and cell that are disallowed among the new facts are then the least of all, and are what the refusal tells. So it is for an untouched amendment's copy.
-#[tactic(auto, using(crate::proofs::NewFacts::each_change_is_decided_by_its_new_facts, crate::proofs::NewFacts::each_copy_is_decided_by_its_new_facts))]
+#[tactic(auto, using(crate::proofs::Updating::NewFacts::each_change_is_decided_by_its_new_facts, crate::proofs::Updating::NewFacts::each_copy_is_decided_by_its_new_facts))]
 pub fn each_change_is_decided_by_its_new_facts()
     ensures changes { EachChangeIsDecidedByItsNewFacts }
     ensures copies { EachCopyIsDecidedByItsNewFacts }

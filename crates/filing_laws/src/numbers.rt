@@ -1,6 +1,6 @@
 //! Of the numbers of loads and commits.
 
-ghost use Rattle.filing_laws.specs.Numbers.{NumbersRiseByOne, EachNumberIsTheCount, NumbersTellWhatIsLater, EachTouchIsTheGreatest, StampsTellTheLastTouch};
+ghost use Rattle.filing_laws.specs.Stamping.Numbers.{NumbersRiseByOne, EachNumberIsTheCount, NumbersTellWhatIsLater, EachTouchIsTheGreatest, StampsTellTheLastTouch};
 
 /// The accepted loads and commits of a lawful history have the numbers 1, 2, 3 and so on, in order.
 pub fn numbers_rise_by_one()

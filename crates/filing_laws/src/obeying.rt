@@ -1,6 +1,6 @@
 //! Of allowed duplicates: by pairs of facts, and by cells.
 
-ghost use Rattle.filing_laws.specs.Obeying.{ObeysWhereEachCellIsAllowed, LeastDisallowedIsTheLeast, RepositoryObeysWhereNotRefused};
+ghost use Rattle.filing_laws.specs.Updating.Obeying.{ObeysWhereEachCellIsAllowed, LeastDisallowedIsTheLeast, RepositoryObeysWhereNotRefused};
 
 /// A report obeys its declared value, which is said of pairs of facts, exactly where each of its cells is of a class that it allows.
 pub fn obeys_where_each_cell_is_allowed()

@@ -1,10 +1,10 @@
 //! Of histories in the order of reading, the first entry first.
 
-ghost use Rattle.filing_laws.specs.SameReplies.{EqualRepliesAreDecided};
-ghost use Rattle.filing_laws.specs.ReadingOrder.{EachRepositoryIsReadInOrder, LawfulInOrderIsLawful, EachNextEntryIsDecided, EachDepartureIsTheFirstThatDoesNotFollow, EachDepartureIsDetermined};
+ghost use Rattle.filing_laws.specs.Histories.SameReplies.{EqualRepliesAreDecided};
+ghost use Rattle.filing_laws.specs.Histories.ReadingOrder.{EachRepositoryIsReadInOrder, LawfulInOrderIsLawful, EachNextEntryIsDecided, EachDepartureIsTheFirstThatDoesNotFollow, EachDepartureIsDetermined};
 
 /// The repository that is folded from the first entry on is the one that is folded from the last.
-#[tactic(auto, using(crate::proofs::ReadingOrders::each_repository_is_read_in_order))]
+#[tactic(auto, using(crate::proofs::Histories::ReadingOrders::each_repository_is_read_in_order))]
 pub fn each_repository_is_read_in_order()
     ensures { EachRepositoryIsReadInOrder }
 {}

@@ -1,21 +1,21 @@
 //! Of sessions that read nothing that was touched since their opening.
 
-ghost use Rattle.filing_laws.specs.Untouched.{EachSessionRepliesAsAtItsOpening, EachUntouchedSessionRepliesAsNow, EachUntouchedSessionReadsAsNow};
+ghost use Rattle.filing_laws.specs.Serial.Untouched.{EachSessionRepliesAsAtItsOpening, EachUntouchedSessionRepliesAsNow, EachUntouchedSessionReadsAsNow};
 
 /// In a lawful history an open session's replies are those of its solo run at the repository of its opening.
-#[tactic(auto, using(crate::proofs::OwnReplies::own_replies))]
+#[tactic(auto, using(crate::proofs::Opening::OwnReplies::own_replies))]
 pub fn each_session_replies_as_at_its_opening()
     ensures { EachSessionRepliesAsAtItsOpening }
 {}
 
 /// Where nothing that it has read was touched since, they are also those of its solo run at the repository of the history.
-#[tactic(auto, using(crate::proofs::UntouchedIsSerial::serial))]
+#[tactic(auto, using(crate::proofs::Histories::UntouchedIsSerial::serial))]
 pub fn each_untouched_session_replies_as_now()
     ensures { EachUntouchedSessionRepliesAsNow }
 {}
 
 /// And the things that it has read are those that it would read there.
-#[tactic(auto, using(crate::proofs::UntouchedIsSerial::reads_as_now))]
+#[tactic(auto, using(crate::proofs::Histories::UntouchedIsSerial::reads_as_now))]
 pub fn each_untouched_session_reads_as_now()
     ensures { EachUntouchedSessionReadsAsNow }
 {}

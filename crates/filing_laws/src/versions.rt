@@ -1,6 +1,6 @@
 //! Of the versions that a history makes.
 
-ghost use Rattle.filing_laws.specs.Versions.{EachVersionObeys, VersionsAreAChain};
+ghost use Rattle.filing_laws.specs.Updating.Versions.{EachVersionObeys, VersionsAreAChain};
 
 /// Each version of a lawful history obeys its declared allowed duplicates.
 pub fn each_version_obeys()

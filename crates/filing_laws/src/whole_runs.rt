@@ -1,6 +1,6 @@
 //! Of whole runs of sessions: the law of serial validation.
 
-ghost use Rattle.filing_laws.specs.WholeRuns.{EachLawfulHistoryIsSerial, EachOrderOfStepsIsSerial};
+ghost use Rattle.filing_laws.specs.Serial.WholeRuns.{EachLawfulHistoryIsSerial, EachOrderOfStepsIsSerial};
 
 /// In a lawful history:
 ///

@@ -1,13 +1,13 @@
 //! The class of a cell and the least disallowed cell, by comparing all pairs of facts. Nothing is allocated.
 //!
-//! The definitions' plain programs: they are slow, and the program `rows` compares faster bodies with them.
+//! The definitions' plain programs: they are slow, and the program `conformance` compares faster bodies with them.
 
 ghost use Rattle.std.specs.Prelude.{◌≡◌, ◌||◌, map, not, cond, option_map, count_by, position};
 ghost use Rattle.std.specs.List.{list_all};
-ghost use Rattle.filing_model.specs.Facts.{Fact};
-ghost use Rattle.filing_model.specs.Dimensions.{dims_cmp};
-ghost use Rattle.filing_model.specs.Duplicates.{pair_of, class_of, class_of_more, allows, every_pair, has_dims, is_disallowed, disallowed_dims, least_dims, lesser_dims};
-ghost use Rattle.filing_model.specs.ByPairs.{binds, is_of, cell_with, least_disallowed_place};
+ghost use Rattle.filing_model.specs.Oim.Facts.{Fact};
+ghost use Rattle.filing_model.specs.Oim.Dimensions.{dims_cmp};
+ghost use Rattle.filing_model.specs.Oim.Duplicates.{pair_of, class_of, class_of_more, allows, every_pair, has_dims, is_disallowed, disallowed_dims, least_dims, lesser_dims};
+ghost use Rattle.filing_model.specs.Oim.ByPairs.{binds, is_of, cell_with, least_disallowed_place};
 
 use crate::duplicates::{Allowed, Class, Pair};
 use std::cmp::Ordering;

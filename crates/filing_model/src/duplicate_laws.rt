@@ -1,6 +1,6 @@
 //! Laws of duplicates. Each function carries one, has an empty body and is never called.
 
-ghost use Rattle.filing_model.specs.Duplicates.{ObeysWhereNoCellIsDisallowed, MixedWhereDimensionsDiffer};
+ghost use Rattle.filing_model.specs.Oim.Duplicates.{ObeysWhereNoCellIsDisallowed, MixedWhereDimensionsDiffer};
 
 /// A report obeys its allowed duplicates, pair by pair, exactly where it has no cell that is not allowed.
 pub fn reports_obey_where_no_cell_is_disallowed()

@@ -1,6 +1,6 @@
 //! Laws of what is read and fitted. Each function carries one, has an empty body and is never called.
 
-ghost use Rattle.filing_model.specs.Laws.{DimsInAnyOrder, DimsAgain, PrefixesInAnyOrder, RowsAreKept, FactsFitAgain};
+ghost use Rattle.filing_model.specs.Laws.ReadingLaws.{DimsInAnyOrder, DimsAgain, PrefixesInAnyOrder, RowsAreKept, FactsFitAgain};
 
 /// The order in which dimensions are listed makes no difference.
 pub fn dims_in_any_order()

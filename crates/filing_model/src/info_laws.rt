@@ -1,6 +1,6 @@
 //! Laws of a report's info, and of JSON texts. Each function carries one, has an empty body and is never called.
 
-ghost use Rattle.filing_model.specs.Laws.{TheLastValueStays, TheOthersStay, TextsAreReadAgain};
+ghost use Rattle.filing_model.specs.Laws.ReadingLaws.{TheLastValueStays, TheOthersStay, TextsAreReadAgain};
 
 /// Of two declared values that are set in a text the last stays.
 pub fn the_last_value_stays()

@@ -1,6 +1,19 @@
 //! What the repository of filing reports is, as plain data and functions.
 //!
-//! `specs/` has the definitions on which every contract above rests. This crate's Rust is the vocabulary that definitions and code share (enums without texts, with derives alone), slow programs that follow the definitions pair by pair, and laws of the definitions. It knows nothing of how anything is stored, shared, locked or read from a device.
+//! - `duplicates`: how facts stand to one another, and what a report allows.
+//! - `kind`: what a session may do.
+//! - `faults`: why a numeral, dimensions, a fact, names, a table or a report are refused.
+//! - `text`: whether two texts are the same.
+//! - `by_pairs`: slow programs that follow the definitions pair by pair.
+//! - `number_laws`: laws of numbers and intervals.
+//! - `fact_laws`: laws of what is read and fitted.
+//! - `duplicate_laws`: laws of duplicates.
+//! - `info_laws`: laws of a report's info, and of JSON texts.
+//! - `thing_laws`: laws of things as keys, and of limits.
+//!
+//! `specs/` has the definitions on which every contract above rests. This crate's Rust is the vocabulary that definitions and code share (enums without texts, with derives alone), the slow programs, and laws of the definitions.
+//!
+//! It knows nothing of how anything is stored, shared, locked or read from a device.
 #![tactic(auto)]
 
 mod by_pairs;

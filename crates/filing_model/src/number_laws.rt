@@ -1,7 +1,7 @@
 //! Laws of numbers and intervals. Each function carries one, has an empty body and is never called.
 
-ghost use Rattle.filing_model.specs.Intervals.{HoldsWhatIsNear, MeetsWhereANumberIsShared, NumbersHaveTheirInterval};
-ghost use Rattle.filing_model.specs.Numerals.{ShortSpellingsHaveTheirNumber, LongSpellingsAreTooLarge, OnlySpellingsAreNumbers, NumbersAreBounded};
+ghost use Rattle.filing_model.specs.Oim.Intervals.{HoldsWhatIsNear, MeetsWhereANumberIsShared, NumbersHaveTheirInterval};
+ghost use Rattle.filing_model.specs.Oim.Numerals.{ShortSpellingsHaveTheirNumber, LongSpellingsAreTooLarge, OnlySpellingsAreNumbers, NumbersAreBounded};
 
 /// A spelling with few enough digits has the number of its signed digits.
 pub fn short_spellings_have_their_number()

@@ -1,6 +1,6 @@
 //! Laws of things as keys, and of limits. Each function carries one, has an empty body and is never called.
 
-ghost use Rattle.filing_model.specs.ThingLaws.{AreKeys, AreTheirNumbers};
+ghost use Rattle.filing_model.specs.Laws.ThingLaws.{AreKeys, AreTheirNumbers};
 
 /// Things have a total order in which only a thing and itself tie, and exactly equal things feed a hasher alike.
 pub fn things_are_keys()

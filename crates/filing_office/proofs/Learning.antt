@@ -7,23 +7,23 @@ use Rattle.std.proofs.lemmas.List.Elements.{All-append}
 use Rattle.std.proofs.Math.Seq.{take-suc}
 use Rattle.std.proofs.lemmas.List.{take-append-drop, take-append-le, take_rest}
 use Rattle.std.specs.Result.{is_ok}
-use Rattle.filing_model.specs.Text.{Text}
-use Rattle.filing_model.specs.TextMap.{get}
-use Rattle.filing_editions.proofs.Beginnings.{prefix_trans}
+use Rattle.filing_model.specs.Common.Text.{Text}
+use Rattle.filing_model.specs.Common.TextMap.{get}
+use Rattle.filing_publish.proofs.Beginnings.{prefix_trans}
 use Rattle.std.proofs.lemmas.Option.{none-some, same_Some}
 use mathlib.Core.List.{IsPrefix}
-use Rattle.filing_model.specs.Repository.{Repository}
-use Rattle.filing_model.specs.Calls.{Call}
-use Rattle.filing_model.specs.History.{Step, Load, Open, Ask, Commit, Close}
-use Rattle.filing_model.specs.Sessions.{answer}
-use Rattle.filing_model.specs.Versions.{IsChain}
+use Rattle.filing_model.specs.Sessions.Repository.{Repository}
+use Rattle.filing_model.specs.Sessions.Calls.{Call}
+use Rattle.filing_model.specs.Histories.History.{Step, Load, Open, Ask, Commit, Close}
+use Rattle.filing_model.specs.Sessions.Sessions.{answer}
+use Rattle.filing_model.specs.Histories.Versions.{IsChain}
 use Rattle.filing_model.specs.declared.kind.Kind.TheVariants.{Review}
 use Rattle.filing_model.specs.declared.kind.Kind.{Kind}
 use Rattle.filing_step.specs.Steps.{call_in}
-use Rattle.filing_editions.specs.Lists.{EndsWith, IsLonger}
-use Rattle.filing_editions.proofs.Chains.{added}
+use Rattle.filing_publish.specs.Lists.{EndsWith, IsLonger}
+use Rattle.filing_publish.proofs.Chains.{added}
 use Rattle.filing_office.specs.declared.outcome.Outcome.{Outcome}
-use Rattle.filing_office.specs.Runs.{RunState, Turning, HasLearnt, IsLearnt, IsWithin, IsReviewedFrom, Learns, Opens, OpensUnder, ReviewOpens, receipt_in, reviewed}
+use Rattle.filing_office.specs.Runs.{RunState, NamedDeskState, HasLearnt, IsLearnt, IsWithin, IsReviewedFrom, Learns, Opens, OpensUnder, ReviewOpens, receipt_in, reviewed}
 
 pub prefix_length : {X : Type 0} (xs ys : List X) → IsPrefix xs ys → length xs ≤ length ys
 prefix_length xs ys p = omega (arith, ap length p.1, length-append xs p.0)
@@ -89,7 +89,7 @@ reply_so f (Err e) x y is same = tt
 pub all_learnt : {J : Type 0} (n i : ℕ) (os : List (Outcome J)) → All (IsWithin n) (take i os) → All (IsWithin n) (drop i os) → All (IsWithin n) os
 all_learnt n i os before others = subst (λ xs. All (IsWithin n) xs) (take-append-drop i os) (All-append (IsWithin n) (take i os) (drop i os) before others)
 
-module _ {J E : Type 0} (s t : Turning) (told : List (Outcome J)) (seen learned now : List Repository)
+module _ {J E : Type 0} (s t : NamedDeskState) (told : List (Outcome J)) (seen learned now : List Repository)
     (had : s.state.seen ≡ Some seen) (left : t.state
     ≡ record s.state { seen = Some now }) (begins : IsPrefix seen learned) where
   -- a review after receipts were learnt
@@ -113,7 +113,7 @@ module _ {J E : Type 0} (s t : Turning) (told : List (Outcome J)) (seen learned 
   )
 
 -- want of memory while receipts were learnt
-module _ (s t : Turning) (seen now : List Repository) (had : s.state.seen ≡ Some seen) (left : t.state ≡ record s.state { seen = Some now }) (begins : IsPrefix seen now) where
+module _ (s t : NamedDeskState) (seen now : List Repository) (had : s.state.seen ≡ Some seen) (left : t.state ≡ record s.state { seen = Some now }) (begins : IsPrefix seen now) where
   pub stopped_from : (was : List Repository) → s.state.seen ≡ Some was → (now_seen : List Repository) × IsPrefix was now_seen × (t.state ≡ record s.state { seen = Some now_seen })
   stopped_from was is = (now, subst (λ xs. IsPrefix xs now) (same_Some seen was (sym had ∙ is)) begins, left)
 
@@ -156,7 +156,7 @@ none_of f (Some x) o is none = absurd (true≢false none)
 none_of f None o is none = sym is
 
 -- an outcome more
-pub learnt_before : {J : Type 0} (s : Turning) (told now : List (Outcome J)) (o : Outcome J) → IsLearnt s told → now ≡ told ++ o ∷ [] → IsLearnt s now
+pub learnt_before : {J : Type 0} (s : NamedDeskState) (told now : List (Outcome J)) (o : Outcome J) → IsLearnt s told → now ≡ told ++ o ∷ [] → IsLearnt s now
 learnt_before s told now o known is = record {
   few = omega (arith, known.few, ap length is, length-append told (o ∷ []));
   receipts = subst (λ os. HasLearnt s.learnt s.state.seen os) (sym is) (at s.state.seen known.receipts);

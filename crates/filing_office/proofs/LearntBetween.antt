@@ -4,18 +4,18 @@ use Rattle.std.specs.Prelude.{All, Result, Ok, Err}
 use Rattle.std.proofs.lemmas.List.Elements.{All-append}
 use Rattle.std.proofs.lemmas.Option.{none-some, same_Some}
 use mathlib.Core.List.{IsPrefix}
-use Rattle.filing_model.specs.Text.{Text}
-use Rattle.filing_model.specs.TextMap.{TextMap, get, insert, remove}
-use Rattle.filing_model.specs.Repository.{Repository}
-use Rattle.filing_model.specs.History.{Step, Load, Open, Ask, Commit, Close}
+use Rattle.filing_model.specs.Common.Text.{Text}
+use Rattle.filing_model.specs.Common.TextMap.{TextMap, get, insert, remove}
+use Rattle.filing_model.specs.Sessions.Repository.{Repository}
+use Rattle.filing_model.specs.Histories.History.{Step, Load, Open, Ask, Commit, Close}
 use Rattle.filing_model.specs.declared.kind.Kind.{Kind}
 use Rattle.filing_model.specs.declared.kind.Kind.TheVariants.{Review, Amend}
 use Rattle.filing_step.specs.Steps.{step_of}
-use Rattle.filing_editions.proofs.Beginnings.{prefix_self, prefix_trans}
+use Rattle.filing_publish.proofs.Beginnings.{prefix_self, prefix_trans}
 use Rattle.filing_office.specs.declared.outcome.Outcome.{Outcome}
 use Rattle.filing_office.specs.declared.outcome.Outcome.TheVariants.{Answered, NameInUse, NoSession, NoMemory}
-use Rattle.filing_office.specs.declared.place.Place.{Place}
-use Rattle.filing_office.specs.declared.place.Place.TheVariants as place
+use Rattle.filing_office.specs.declared.session_place.SessionPlace.{SessionPlace}
+use Rattle.filing_office.specs.declared.session_place.SessionPlace.TheVariants as place
 use Rattle.filing_office.specs.declared.work.DeskStep.{DeskStep}
 use Rattle.filing_office.specs.declared.answer.Answer.{Answer}
 use Rattle.filing_office.specs.Tallies.{IsCounted}
@@ -71,7 +71,7 @@ module _ {J : Type 0} (left now mid : RunState) (gone kept : List (Outcome J)) (
   same_ahead : mid ≡ now → IsAhead left mid gone
   same_ahead is = subst (λ s. IsAhead left s gone) (sym is) ahead
 
-  renamed_ahead : (names names' : TextMap Place) → names ≡ names' → mid ≡ record now { names = names } → IsAhead (record left { names = names' }) mid gone
+  renamed_ahead : (names names' : TextMap SessionPlace) → names ≡ names' → mid ≡ record now { names = names } → IsAhead (record left { names = names' }) mid gone
   renamed_ahead names names' same is = record {
     tally = ap (λ (s : RunState). s.tally) is ∙ ahead.tally;
     names = ap (λ (s : RunState). s.names) is ∙ same;
@@ -80,7 +80,7 @@ module _ {J : Type 0} (left now mid : RunState) (gone kept : List (Outcome J)) (
   }
 
   -- a step under the lock
-  taken_ahead : (a : Answer J) (names : TextMap Place) → IsTaken now mid a names → IsAhead (seeing left.seen mid) mid gone
+  taken_ahead : (a : Answer J) (names : TextMap SessionPlace) → IsTaken now mid a names → IsAhead (seeing left.seen mid) mid gone
   taken_ahead a names taken = record {
     tally = refl;
     names = refl;
@@ -88,7 +88,7 @@ module _ {J : Type 0} (left now mid : RunState) (gone kept : List (Outcome J)) (
     known = subst (λ seen. Known seen gone) (sym taken.seen) ahead.known;
   }
 
-  taken_behind : (a : Answer J) (names names' : TextMap Place) → names ≡ names' → IsTaken now mid a names → IsTaken left (seeing left.seen mid) a names'
+  taken_behind : (a : Answer J) (names names' : TextMap SessionPlace) → names ≡ names' → IsTaken now mid a names → IsTaken left (seeing left.seen mid) a names'
   taken_behind a names names' same taken = record {
     counted = subst (λ t. IsCounted t mid.tally a) ahead.tally taken.counted;
     seen = refl;
@@ -175,12 +175,12 @@ module _ {J : Type 0} (left now mid : RunState) (gone kept : List (Outcome J)) (
   opens_behind name Review o goes = reviewer_opens_behind name o left.seen now.seen ahead.seen ahead.known goes
   opens_behind name Amend o goes = office_opens_behind name o goes
 
-  opens_under_behind : (name : Text) (kind : Kind) (p : Option Place) (o : Outcome J) → OpensUnder now mid kept name kind p o
+  opens_under_behind : (name : Text) (kind : Kind) (p : Option SessionPlace) (o : Outcome J) → OpensUnder now mid kept name kind p o
       → Behind (λ after. OpensUnder left after (gone ++ kept) name kind p o)
   opens_under_behind name kind (Some p) o goes = (left, (goes.0, refl), same_ahead goes.1)
   opens_under_behind name kind None o goes = opens_behind name kind o goes
 
-  goes_on_behind : (name : Text) (step : Step) (p : Place) (o : Outcome J) → GoesOnAt now mid name step p o
+  goes_on_behind : (name : Text) (step : Step) (p : SessionPlace) (o : Outcome J) → GoesOnAt now mid name step p o
       → Behind (λ after. GoesOnAt left after name step p o)
   goes_on_behind name step (place.Office number) (Answered a) goes = (
     seeing left.seen mid,
@@ -203,7 +203,7 @@ module _ {J : Type 0} (left now mid : RunState) (gone kept : List (Outcome J)) (
   goes_on_behind name step (place.Review last) NoSession goes = absurd goes
   goes_on_behind name step (place.Review last) NoMemory goes = (left, refl, same_ahead goes)
 
-  steps_under_behind : (name : Text) (step : Step) (p : Option Place) (o : Outcome J) → StepsUnder now mid name step p o
+  steps_under_behind : (name : Text) (step : Step) (p : Option SessionPlace) (o : Outcome J) → StepsUnder now mid name step p o
       → Behind (λ after. StepsUnder left after name step p o)
   steps_under_behind name step (Some p) o goes = goes_on_behind name step p o goes
   steps_under_behind name step None o goes = (left, (goes.0, refl), same_ahead goes.1)

@@ -2,8 +2,8 @@ pub mod Numbered
 pub mod NothingCounted
 pub mod Publishing
 pub mod ToldSteps
-pub mod TurnNames
+pub mod DeskNames
 pub mod Learning
 pub mod RunsOn
 pub mod LearntBetween
-pub mod SeatedWorks
+pub mod WorkTasks

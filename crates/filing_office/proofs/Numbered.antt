@@ -1,14 +1,14 @@
 -- How many versions a history has, and which entries make one.
 use Rattle.std.proofs.Common.{◌≡◌, ◌∙◌, ap, sym, refl, ℕ, ◌+◌, arith, Bool, true, false, cond, [], ◌∷◌, ◌++◌, Option, length, length-append, append-nil, true≢false}
-use Rattle.filing_model.specs.Repository.{Repository}
-use Rattle.filing_model.specs.Replies.{Reply}
-use Rattle.filing_model.specs.Sessions.{solo_copy}
-use Rattle.filing_model.specs.History.{Step, Load, Open, Ask, Commit, Close, Entry, History, base_of, calls_of, repository}
-use Rattle.filing_model.specs.Touches.{number_in}
-use Rattle.filing_model.specs.Lawful.{IsLawful, IsNextStep}
-use Rattle.filing_model.specs.Versions.{counts, versions}
-use Rattle.filing_laws.proofs.EntryCases.{answer_is_quiet, quiet_repository}
-use Rattle.filing_laws.proofs.RisingNumbers.{counted}
+use Rattle.filing_model.specs.Sessions.Repository.{Repository}
+use Rattle.filing_model.specs.Sessions.Replies.{Reply}
+use Rattle.filing_model.specs.Sessions.Sessions.{solo_copy}
+use Rattle.filing_model.specs.Histories.History.{Step, Load, Open, Ask, Commit, Close, Entry, History, base_of, calls_of, repository}
+use Rattle.filing_model.specs.Histories.Touches.{number_in}
+use Rattle.filing_model.specs.Histories.Lawful.{IsLawful, IsNextStep}
+use Rattle.filing_model.specs.Histories.Versions.{counts, versions}
+use Rattle.filing_laws.proofs.Touching.EntryCases.{answer_is_quiet, quiet_repository}
+use Rattle.filing_laws.proofs.Stamping.RisingNumbers.{counted}
 use Rattle.filing_core.specs.Prepared.{is_load_or_commit}
 
 -- a step that is no load and no commit makes no version

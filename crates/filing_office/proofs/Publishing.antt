@@ -1,13 +1,13 @@
 -- What the lock's value keeps, and what a step on it is answered.
 use Rattle.std.proofs.Common.{◌≡◌, ◌∙◌, ap, sym, refl, subst, ℕ, ◌+◌, Bool, true, false, cond, List, [], ◌∷◌, ◌++◌, Option, Some, None, is_some, option_map, length, arith}
 use Rattle.std.specs.Option.{option_map_or}
-use Rattle.filing_model.specs.Repository.{Repository}
-use Rattle.filing_model.specs.Replies.{Reply}
-use Rattle.filing_model.specs.History.{Step, Entry, History, repository}
-use Rattle.filing_model.specs.Touches.{number_in}
-use Rattle.filing_model.specs.Lawful.{IsLawful, entered_under}
-use Rattle.filing_model.specs.Versions.{counts, versions, IsChain}
-use Rattle.filing_laws.proofs.VersionChain.{versions_are_a_chain}
+use Rattle.filing_model.specs.Sessions.Repository.{Repository}
+use Rattle.filing_model.specs.Sessions.Replies.{Reply}
+use Rattle.filing_model.specs.Histories.History.{Step, Entry, History, repository}
+use Rattle.filing_model.specs.Histories.Touches.{number_in}
+use Rattle.filing_model.specs.Histories.Lawful.{IsLawful, entered_under}
+use Rattle.filing_model.specs.Histories.Versions.{counts, versions, IsChain}
+use Rattle.filing_laws.proofs.Stamping.VersionChain.{versions_are_a_chain}
 use Rattle.filing_version.specs.Filed.{StampedReports, repository_in}
 use Rattle.filing_step.specs.Steps.{reply_of}
 use Rattle.filing_core.specs.Answers.{IsEntered}

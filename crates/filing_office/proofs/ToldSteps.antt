@@ -1,8 +1,8 @@
 -- What a step is told whatever the history.
 use Rattle.std.specs.Prelude.{IsTrue}
 use Rattle.std.proofs.Common.{sym, refl, ap, ℕ, Option, is_some}
-use Rattle.filing_model.specs.History.{Step, Load, Open, Ask, Commit, Close, History}
-use Rattle.filing_model.specs.Replies as reply
+use Rattle.filing_model.specs.Histories.History.{Step, Load, Open, Ask, Commit, Close, History}
+use Rattle.filing_model.specs.Sessions.Replies as reply
 use Rattle.filing_step.specs.Steps.{reply_of}
 use Rattle.filing_office.specs.declared.answer.Answer.{Answer}
 use Rattle.std.proofs.lemmas.Option.{none-some, same_Some}

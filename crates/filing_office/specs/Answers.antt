@@ -1,9 +1,9 @@
 -- What a step under the lock is answered. The project's own.
 use Rattle.std.specs.Prelude.{◌≡◌, ℕ, cond, Bool, true, false, Option, Some, None, IsSome, IsTrue, Result, Ok, Err}
-use Rattle.filing_model.specs.Replies as reply
-use Rattle.filing_model.specs.History.{Step, Load, Open, Ask, Commit, Close, History}
-use Rattle.filing_model.specs.Lawful.{entered_under}
-use Rattle.filing_model.specs.Versions.{counts, versions}
+use Rattle.filing_model.specs.Sessions.Replies as reply
+use Rattle.filing_model.specs.Histories.History.{Step, Load, Open, Ask, Commit, Close, History}
+use Rattle.filing_model.specs.Histories.Lawful.{entered_under}
+use Rattle.filing_model.specs.Histories.Versions.{counts, versions}
 use Rattle.filing_step.specs.Steps.{reply_of}
 use Rattle.filing_core.specs.Answers.{IsEntered, IsRefused, IsLeft}
 use Rattle.filing_core.specs.declared.fault.CoreFault.{CoreFault}

@@ -2,41 +2,41 @@
 use Rattle.std.specs.Prelude.{◌≡◌, ℕ, ◌+◌, ◌≤◌, List, [], ◌∷◌, ◌++◌, length, cond, Bool, true, false, Option, Some, None, IfSome, Result, Ok, Err, take, string_bytes}
 use Rattle.std.specs.List.{All}
 use mathlib.Core.List.{IsPrefix}
-use Rattle.filing_model.specs.Text.{Text}
-use Rattle.filing_model.specs.TextMap.{TextMap, get, insert, remove}
-use Rattle.filing_model.specs.Repository.{Repository}
-use Rattle.filing_model.specs.Versions.{IsChain}
-use Rattle.filing_model.specs.Replies as reply
-use Rattle.filing_model.specs.Replies.{Reply}
-use Rattle.filing_model.specs.Sessions.{answer}
-use Rattle.filing_model.specs.History.{Step, Load, Open, Ask, Commit, Close}
+use Rattle.filing_model.specs.Common.Text.{Text}
+use Rattle.filing_model.specs.Common.TextMap.{TextMap, get, insert, remove}
+use Rattle.filing_model.specs.Sessions.Repository.{Repository}
+use Rattle.filing_model.specs.Histories.Versions.{IsChain}
+use Rattle.filing_model.specs.Sessions.Replies as reply
+use Rattle.filing_model.specs.Sessions.Replies.{Reply}
+use Rattle.filing_model.specs.Sessions.Sessions.{answer}
+use Rattle.filing_model.specs.Histories.History.{Step, Load, Open, Ask, Commit, Close}
 use Rattle.filing_model.specs.declared.kind.Kind.{Kind}
 use Rattle.filing_model.specs.declared.kind.Kind.TheVariants.{Review, Amend}
 use Rattle.filing_step.specs.Steps.{reply_of, step_of}
-use Rattle.filing_editions.specs.Lists.{EndsWith}
+use Rattle.filing_publish.specs.Lists.{EndsWith}
 use Rattle.filing_office.specs.Tallies.{Tally, IsCounted}
 use Rattle.filing_office.specs.declared.answer.Answer.{Answer}
 use Rattle.filing_office.specs.declared.outcome.Outcome.{Outcome}
 use Rattle.filing_office.specs.declared.outcome.Outcome.TheVariants.{Answered, NameInUse, NoSession, NoMemory}
-use Rattle.filing_office.specs.declared.place.Place.{Place}
-use Rattle.filing_office.specs.declared.place.Place.TheVariants as place
+use Rattle.filing_office.specs.declared.session_place.SessionPlace.{SessionPlace}
+use Rattle.filing_office.specs.declared.session_place.SessionPlace.TheVariants as place
 use Rattle.filing_office.specs.declared.work.DeskStep.{DeskStep}
 
 -- what a desk has counted, what its reviewer has seen or learnt where it has one, and the names in use, each with the place of its session
 pub record RunState : Type 0 where
   pub tally : Tally
   pub seen : Option (List Repository)
-  pub names : TextMap Place
+  pub names : TextMap SessionPlace
 
 -- and of how many of its outcomes the reviewer has learnt the receipts
-pub record Turning : Type 0 where
+pub record NamedDeskState : Type 0 where
   pub state : RunState
   pub learnt : ℕ
 
 -- ---- answers
 
 -- a step under the lock is counted, and leaves these names in use
-pub record IsTaken {J : Type 0} (s t : RunState) (a : Answer J) (names : TextMap Place) : Type 0 where
+pub record IsTaken {J : Type 0} (s t : RunState) (a : Answer J) (names : TextMap SessionPlace) : Type 0 where
   pub counted : IsCounted s.tally t.tally a
   pub seen : t.seen ≡ s.seen
   pub names_are : t.names ≡ names
@@ -97,7 +97,8 @@ Opens s t told name Review (Some seen) o = ReviewOpens s t told name seen o
 Opens s t told name Review None o = OfficeOpens s t name o
 Opens s t told name Amend seen o = OfficeOpens s t name o
 
-abbrev pub OpensUnder : {J : Type 0} → RunState → RunState → List (Outcome J) → Text → Kind → Option Place → Outcome J
+abbrev pub OpensUnder : {J : Type 0} → RunState → RunState → List (Outcome J) → Text → Kind → Option SessionPlace
+    → Outcome J
     → Type 0
 OpensUnder s t told name kind (Some p) o = (o ≡ NameInUse) × (t ≡ s)
 OpensUnder s t told name kind None o = Opens s t told name kind s.seen o
@@ -110,7 +111,7 @@ ends Close = true
 ends _ = false
 
 -- the names once the step of the session with this name is answered
-abbrev pub names_after : Step → Text → TextMap Place → TextMap Place
+abbrev pub names_after : Step → Text → TextMap SessionPlace → TextMap SessionPlace
 names_after step name names = cond (ends step) (remove names name) names
 
 -- what a review is told at its version
@@ -119,7 +120,7 @@ reviewed last (Ask call) = (answer Review call last).0
 reviewed last _ = reply.Closed
 
 -- under the lock a session may have been ended by somebody else, and its name is then free
-abbrev pub GoesOnAt : {J : Type 0} → RunState → RunState → Text → Step → Place → Outcome J → Type 0
+abbrev pub GoesOnAt : {J : Type 0} → RunState → RunState → Text → Step → SessionPlace → Outcome J → Type 0
 GoesOnAt s t name step (place.Office number) (Answered a) = (a.session ≡ Some number)
     × IsTaken s t a (names_after step name s.names)
 GoesOnAt s t name step (place.Office number) NoSession = t ≡ record s { names = remove s.names name }
@@ -130,7 +131,7 @@ GoesOnAt s t name step (place.Review last) (Answered a) = IsReviewed a (reviewed
 GoesOnAt s t name step (place.Review last) NoMemory = t ≡ s
 GoesOnAt s t name step (place.Review last) _ = ⊥
 
-abbrev pub StepsUnder : {J : Type 0} → RunState → RunState → Text → Step → Option Place → Outcome J → Type 0
+abbrev pub StepsUnder : {J : Type 0} → RunState → RunState → Text → Step → Option SessionPlace → Outcome J → Type 0
 StepsUnder s t name step (Some p) o = GoesOnAt s t name step p o
 StepsUnder s t name step None o = (o ≡ NoSession) × (t ≡ s)
 
@@ -174,12 +175,13 @@ abbrev pub HasLearnt : {J : Type 0} → ℕ → Option (List Repository) → Lis
 HasLearnt learnt None told = Unit {0}
 HasLearnt learnt (Some seen) told = All (IsWithin (length seen)) (take learnt told)
 
-pub record IsLearnt {J : Type 0} (s : Turning) (told : List (Outcome J)) : Type 0 where
+pub record IsLearnt {J : Type 0} (s : NamedDeskState) (told : List (Outcome J)) : Type 0 where
   pub few : s.learnt ≤ length told
   pub receipts : HasLearnt s.learnt s.state.seen told
 
 -- a review of the reviewer, which first learnt the receipts of these outcomes; where memory was wanted it may have learnt some
-abbrev pub IsReviewedFrom : {J E : Type 0} → Turning → Turning → List (Outcome J) → Result Repository E → Type 0
+abbrev pub IsReviewedFrom : {J E : Type 0} → NamedDeskState → NamedDeskState → List (Outcome J) → Result Repository E
+    → Type 0
 IsReviewedFrom s t told (Ok last) =
     (seen : List Repository) → s.state.seen ≡ Some seen
     → (now_seen : List Repository) × Reviews seen now_seen told last

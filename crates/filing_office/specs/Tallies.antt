@@ -1,7 +1,7 @@
 -- What a desk counts. The project's own.
 use Rattle.std.specs.Prelude.{◌≡◌, ℕ, ◌+◌, cond, length, Some, None, is_some, option_map, Result, Ok, Err}
-use Rattle.filing_model.specs.Versions.{counts}
-use Rattle.filing_model.specs.Touches.{number_in}
+use Rattle.filing_model.specs.Histories.Versions.{counts}
+use Rattle.filing_model.specs.Histories.Touches.{number_in}
 use Rattle.filing_step.specs.Steps.{reply_of}
 use Rattle.filing_core.specs.declared.fault.CoreFault.{CoreFault}
 use Rattle.filing_office.specs.declared.answer.Answer.{Answer}

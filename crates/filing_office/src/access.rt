@@ -10,7 +10,7 @@ use crate::desk::Desk;
 use crate::locked::Locked;
 use crate::office::Office;
 use filing_core::{CoreFault, Step};
-use filing_editions::Naming;
+use filing_publish::Naming;
 use std::alloc::Global;
 use std::sync::ledger::Ledger;
 use std::sync::{MutexGuard, Wait};
@@ -36,8 +36,8 @@ pub trait Access<L: Ledger + Naming, M: Ledger> {
 pub enum LockUse {
     /// For each step, as `EachStep`.
     EachStep,
-    /// For the first of several steps, until it leaves, as `Visit`.
-    Visits,
+    /// For the first of several steps, until it leaves, as `LockedBatch`.
+    Batches,
 }
 
 /// The lock is taken for each step.
@@ -62,7 +62,7 @@ impl<'a, L: Ledger + Naming, M: Ledger, R: Wait> Access<L, M> for EachStep<'a, L
 }
 
 /// The lock is taken for the first of several steps, and held from one to the next. It is not `Drop`, as what it holds is not: end it by `end`.
-pub struct Visit<'a, L: Ledger + Naming, M: Ledger, R: Wait> {
+pub struct LockedBatch<'a, L: Ledger + Naming, M: Ledger, R: Wait> {
     rt: &'a R,
     alloc: Global,
     office: &'a Office<L, M>,
@@ -76,10 +76,10 @@ fn unlock<L: Ledger + Naming, M: Ledger>(held: Option<MutexGuard<'_, Locked<L, M
     }
 }
 
-impl<'a, L: Ledger + Naming, M: Ledger, R: Wait> Visit<'a, L, M, R> {
+impl<'a, L: Ledger + Naming, M: Ledger, R: Wait> LockedBatch<'a, L, M, R> {
     /// Before the first step. The lock is not taken yet.
-    pub fn new(rt: &'a R, alloc: Global, office: &'a Office<L, M>) -> Visit<'a, L, M, R> {
-        Visit {
+    pub fn new(rt: &'a R, alloc: Global, office: &'a Office<L, M>) -> LockedBatch<'a, L, M, R> {
+        LockedBatch {
             rt,
             alloc,
             office,
@@ -89,7 +89,7 @@ impl<'a, L: Ledger + Naming, M: Ledger, R: Wait> Visit<'a, L, M, R> {
 
     /// Gives the lock back.
     pub fn end(self) {
-        let Visit {
+        let LockedBatch {
             rt: _rt,
             alloc: _alloc,
             office: _office,
@@ -99,7 +99,7 @@ impl<'a, L: Ledger + Naming, M: Ledger, R: Wait> Visit<'a, L, M, R> {
     }
 }
 
-impl<'a, L: Ledger + Naming, M: Ledger, R: Wait> Access<L, M> for Visit<'a, L, M, R> {
+impl<'a, L: Ledger + Naming, M: Ledger, R: Wait> Access<L, M> for LockedBatch<'a, L, M, R> {
     fn step(
         &mut self,
         desk: &mut Desk<L, M>,

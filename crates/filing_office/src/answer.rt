@@ -1,6 +1,6 @@
 //! `Answer`: what a desk is told of a step.
 
-use filing_editions::{Naming, Receipt};
+use filing_publish::{Naming, Receipt};
 use filing_step::Reply;
 
 /// What a desk is told of a step: the session of its entry, the reply, and a receipt where the step made a version.

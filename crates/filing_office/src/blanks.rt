@@ -2,13 +2,13 @@
 
 ghost use Rattle.std.specs.Prelude.{◌≡◌};
 
-use filing_editions::Press;
+use filing_publish::UnopenedLog;
 use std::sync::ledger::Blank;
 
 /// What an office is named by before it opens: a book of editions at its beginning, and the blanks of two ledgers, of which one counts steps and the other receipts.
 #[derive(Drop)]
 pub struct Blanks {
-    pub press: Press,
+    pub unopened_log: UnopenedLog,
     pub steps: Blank,
     pub receipts: Blank,
 }
@@ -19,7 +19,7 @@ impl Blanks {
         ensures { (result.steps.parts ≡ desks) × (result.receipts.parts ≡ desks) }
     {
         Blanks {
-            press: Press::new(),
+            unopened_log: UnopenedLog::new(),
             steps: Blank::new(desks as u64),
             receipts: Blank::new(desks as u64),
         }

@@ -8,7 +8,7 @@ ghost use Rattle.filing_office.specs.Tallies.{Counted};
 use crate::answer::Answer;
 use crate::office::Office;
 use filing_core::{CoreFault, Step};
-use filing_editions::Naming;
+use filing_publish::Naming;
 use std::alloc::Global;
 use std::marker::Model;
 use std::sync::ledger::{Ledger, Share};

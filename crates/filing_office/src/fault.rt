@@ -2,7 +2,7 @@
 
 use crate::desk::Desk;
 use crate::office::Office;
-use filing_editions::Naming;
+use filing_publish::Naming;
 use std::alloc::{AllocError, AllocFailed};
 use std::sync::ledger::Ledger;
 use thiserror::Error;

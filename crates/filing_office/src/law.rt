@@ -6,7 +6,7 @@ use crate::blanks::Blanks;
 use crate::fault::FinishFault;
 use crate::office::Office;
 use filing_core::Core;
-use filing_editions::{Naming, OfficeFault};
+use filing_publish::{Naming, OfficeFault};
 use std::alloc::Global;
 use std::sync::Wait;
 use std::sync::ledger::Ledger;
@@ -20,7 +20,7 @@ pub fn opened_and_finished<L: Ledger + Naming, M: Ledger, R: Wait>(
     reviewers: usize,
     blanks: Blanks,
 ) -> Result<Core, OfficeFault>
-    requires book { blanks.press.seen.book ≡ L.book }
+    requires book { blanks.unopened_log.seen.book ≡ L.book }
     requires some_desks { (0 < desks) × (desks ≤ 16) }
     requires some_reviewers { (0 < reviewers) × (reviewers ≤ 16) }
     requires steps { (blanks.steps.name ≡ L.name) × (blanks.steps.parts ≡ L.parts) × (blanks.steps.parts ≡ desks) }

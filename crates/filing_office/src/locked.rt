@@ -1,7 +1,7 @@
 //! `Locked`: the value behind the lock.
 
 ghost use Rattle.std.specs.Prelude.{◌≡◌, ◌+◌, [], cond, length, vec_len, sum, map};
-ghost use Rattle.filing_model.specs.History.{repository};
+ghost use Rattle.filing_model.specs.Histories.History.{repository};
 ghost use Rattle.filing_step.specs.Steps.{step_of};
 ghost use Rattle.filing_office.specs.Answers.{StepTold};
 ghost use Rattle.filing_office.specs.Tallies.{Counted};
@@ -10,7 +10,7 @@ use crate::answer::Answer;
 use crate::desk::Desk;
 use crate::shared::{Shared, apply_in};
 use filing_core::{Core, CoreFault, Step};
-use filing_editions::{Naming, Publisher};
+use filing_publish::{Naming, Publisher};
 use std::alloc::Global;
 use std::sync::Wait;
 use std::sync::ledger::{Book, Ledger, Share};

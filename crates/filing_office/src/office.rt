@@ -1,8 +1,8 @@
 //! `Office`: a repository that many threads use.
 
 ghost use Rattle.std.specs.Prelude.{◌≡◌, ◌≢◌, ◌^◌, ◌<◌, ◌≤◌, [], ◌∷◌, length, vec_len, All, sum, map, IfOk, OnOk, MatchResult};
-ghost use Rattle.filing_model.specs.Repository.{nothing};
-ghost use Rattle.filing_model.specs.History.{repository};
+ghost use Rattle.filing_model.specs.Sessions.Repository.{nothing};
+ghost use Rattle.filing_model.specs.Histories.History.{repository};
 ghost use Rattle.filing_office.specs.Tallies.{nothing_taken};
 
 use crate::blanks::Blanks;
@@ -12,7 +12,7 @@ use crate::locked::Locked;
 use crate::roster::Roster;
 use crate::shared::Shared;
 use filing_core::Core;
-use filing_editions::{Naming, OfficeFault, Reviewer};
+use filing_publish::{Naming, OfficeFault, Reviewer};
 use std::alloc::{AllocError, Global};
 use std::sync::ledger::{Ledger, Share};
 use std::sync::{Mutex, Wait};
@@ -36,7 +36,7 @@ impl<L: Ledger + Naming, M: Ledger> Office<L, M> {
         reviewers: usize,
         blanks: Blanks,
     ) -> Result<(Office<L, M>, Vec<Desk<L, M>>, Vec<Reviewer<L>>), OfficeFault>
-        requires book { blanks.press.seen.book ≡ L.book }
+        requires book { blanks.unopened_log.seen.book ≡ L.book }
         requires some_desks { (0 < desks) × (desks ≤ 16) }
         requires some_reviewers { (0 < reviewers) × (reviewers ≤ 16) }
         requires steps { (blanks.steps.name ≡ L.name) × (blanks.steps.parts ≡ L.parts) × (blanks.steps.parts ≡ desks) }
@@ -46,21 +46,21 @@ impl<L: Ledger + Naming, M: Ledger> Office<L, M> {
         ensures reviewers { IfOk result (λ o. (vec_len o.2 ≡ reviewers) × All (λ r. r ≡ nothing ∷ []) o.2.items) }
     {
         let Blanks {
-            press,
+            unopened_log,
             steps,
             receipts,
         } = blanks;
         let (steps, mut all_steps) = steps.open::<L>();
         let (receipts, mut all_receipts) = receipts.open::<M>();
-        let seats = hand_out(alloc, desks, &mut all_steps, &mut all_receipts)?;
-        let (shared, reviewers) = Shared::open(rt, alloc, press, reviewers)?;
+        let shares = hand_out(alloc, desks, &mut all_steps, &mut all_receipts)?;
+        let (shared, reviewers) = Shared::open(rt, alloc, unopened_log, reviewers)?;
         let locked = Locked::new(shared, steps, receipts, all_steps, all_receipts);
         let office = Office {
             locked: Mutex::new(locked),
             steps: Roster::of(desks),
             receipts: Roster::of(desks),
         };
-        Ok((office, seats, reviewers))
+        Ok((office, shares, reviewers))
     }
 
     /// Ends the office with all its desks. It waits for the readers of reviews that are being opened; reviews that are kept go on answering.
@@ -107,12 +107,12 @@ fn hand_out<L: Ledger, M: Ledger>(
     ensures desks { IfOk result (λ v. (vec_len v ≡ desks) × All (λ d. d ≡ nothing_taken) v.items) }
     ensures no_parts { OnOk result ((steps.new.parts ≡ 0) × (receipts.new.parts ≡ 0)) }
 {
-    let mut seats = Vec::with_capacity(alloc, desks)?;
+    let mut shares = Vec::with_capacity(alloc, desks)?;
     for _ in 0..desks {
-        seats.push(Desk {
+        shares.push(Desk {
             steps: steps.split_off(1, 0),
             receipts: receipts.split_off(1, 0),
         })?;
     }
-    Ok(seats)
+    Ok(shares)
 }

@@ -4,7 +4,7 @@ ghost use Rattle.std.specs.Prelude.{◌≡◌, option_map};
 ghost use Rattle.filing_office.specs.Runs.{is_no_memory, receipt_in};
 
 use crate::answer::Answer;
-use filing_editions::{Naming, Receipt};
+use filing_publish::{Naming, Receipt};
 
 /// What became of a step that a desk took in a thread of its own.
 #[derive(Drop)]

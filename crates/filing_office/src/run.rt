@@ -4,14 +4,14 @@ ghost use Rattle.std.specs.Prelude.{◌≡◌, ◌≤◌, [], map, vec_len, vec_
 ghost use Rattle.filing_office.specs.Rans.{EachRan};
 
 use crate::access::{Access, LockUse};
-use crate::errand::{Errand, Seat, run_errands};
+use crate::desk_task::{DeskTask, TaskAtDesk, run_tasks};
 use crate::fault::RunFault;
+use crate::named_desk::NamedDesk;
 use crate::office::Office;
 use crate::outcome::Outcome;
 use crate::steps::take_steps;
-use crate::turn::Turn;
 use crate::work::{DeskStep, Gate, Ran, Work};
-use filing_editions::Naming;
+use filing_publish::Naming;
 use std::alloc::{AllocError, Global};
 use std::marker::{Send, Sync};
 use std::sync::Wait;
@@ -27,7 +27,7 @@ struct StepList<L: Naming> {
     ghost room: { vec_len steps ≤ vec_capacity outcomes },
 }
 
-impl<L: Ledger + Naming, M: Ledger> Errand<L, M, Vec<Outcome<L>>> for StepList<L> {
+impl<L: Ledger + Naming, M: Ledger> DeskTask<L, M, Vec<Outcome<L>>> for StepList<L> {
     ghost use Rattle.std.specs.Prelude.{[]};
     ghost use Rattle.filing_office.specs.Runs.{Runs};
 
@@ -39,23 +39,23 @@ impl<L: Ledger + Naming, M: Ledger> Errand<L, M, Vec<Outcome<L>>> for StepList<L
         access: &mut A,
         gate: &G,
         place: usize,
-        turn: &mut Turn<L, M>,
+        named_desk: &mut NamedDesk<L, M>,
     ) -> Vec<Outcome<L>> {
         let StepList {
             steps,
             mut outcomes,
         } = self;
-        take_steps(access, gate, place, turn, steps, &mut outcomes);
+        take_steps(access, gate, place, named_desk, steps, &mut outcomes);
         outcomes
     }
 }
 
-/// The seat of a work.
-fn seat_of<L: Ledger + Naming, M: Ledger>(
+/// The task of a work, at its desk.
+fn task_of<L: Ledger + Naming, M: Ledger>(
     alloc: Global,
     work: Work<L, M>,
-) -> Result<Seat<L, M, StepList<L>>, AllocError>
-    ensures { IfOk result (λ seat. record { desk = seat.desk; reviewer = seat.reviewer; steps = seat.errand.steps } ≡ work) }
+) -> Result<TaskAtDesk<L, M, StepList<L>>, AllocError>
+    ensures { IfOk result (λ t. record { desk = t.desk; reviewer = t.reviewer; steps = t.task.steps } ≡ work) }
 {
     let outcomes = match Vec::with_capacity(alloc, work.steps.len()) {
         Ok(outcomes) => outcomes,
@@ -69,26 +69,26 @@ fn seat_of<L: Ledger + Naming, M: Ledger>(
         reviewer,
         steps,
     } = work;
-    Ok(Seat {
+    Ok(TaskAtDesk {
         desk,
         reviewer,
-        errand: StepList { steps, outcomes },
+        task: StepList { steps, outcomes },
     })
 }
 
-/// The seats of works, in their places.
-fn seats_of<L: Ledger + Naming, M: Ledger>(
+/// The tasks of works, in their places.
+fn tasks_of<L: Ledger + Naming, M: Ledger>(
     alloc: Global,
     works: Vec<Work<L, M>>,
-) -> Result<Vec<Seat<L, M, StepList<L>>>, AllocError>
-    ensures { IfOk result (λ seats. map (λ seat.
-        record { desk = seat.desk; reviewer = seat.reviewer; steps = seat.errand.steps }) seats.items ≡ works.items) }
+) -> Result<Vec<TaskAtDesk<L, M, StepList<L>>>, AllocError>
+    ensures { IfOk result (λ all. map (λ t.
+        record { desk = t.desk; reviewer = t.reviewer; steps = t.task.steps }) all.items ≡ works.items) }
 {
-    let mut seats = Vec::with_capacity(alloc, works.len())?;
+    let mut at_desks = Vec::with_capacity(alloc, works.len())?;
     for work in works {
-        seats.push(seat_of(alloc, work)?)?;
+        at_desks.push(task_of(alloc, work)?)?;
     }
-    Ok(seats)
+    Ok(at_desks)
 }
 
 /// Lets each desk take its steps in a thread of its own, and gives the works back in their places. Where no more threads can be made, desks take their steps one after the other. Where memory for a thread or for the outcomes is refused, the desks are gone: end the office by `Office::give_up`.
@@ -106,6 +106,6 @@ pub fn run_desks<
 ) -> Result<Vec<Ran<L, M>>, RunFault>
     ensures { IfOk result (λ ran. EachRan works.items ran.items) }
 {
-    let seats = seats_of(alloc, works)?;
-    run_errands(rt, alloc, office, seats, LockUse::EachStep, gate)
+    let at_desks = tasks_of(alloc, works)?;
+    run_tasks(rt, alloc, office, at_desks, LockUse::EachStep, gate)
 }

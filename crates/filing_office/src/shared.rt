@@ -2,16 +2,18 @@
 
 ghost use Rattle.std.specs.Prelude.{◌≡◌, ◌<◌, ◌^◌, ◌∷◌, ◌++◌, [], true, false, Some, option_map, vec_len, All, IfOk, OnOk, OnErr};
 ghost use Rattle.std.specs.Option.{option_map_or};
-ghost use Rattle.filing_model.specs.Repository.{nothing};
-ghost use Rattle.filing_model.specs.History.{Entry, History};
-ghost use Rattle.filing_model.specs.Versions.{IsChain};
+ghost use Rattle.filing_model.specs.Sessions.Repository.{nothing};
+ghost use Rattle.filing_model.specs.Histories.History.{Entry, History};
+ghost use Rattle.filing_model.specs.Histories.Versions.{IsChain};
 ghost use Rattle.filing_version.specs.Filed.{StampedReports, repository_in};
 ghost use Rattle.filing_step.specs.Steps.{step_of};
 ghost use Rattle.filing_office.specs.Answers.{ApplyAnswers};
 
 use crate::answer::Answer;
 use filing_core::{Core, CoreFault, Prepared, Step};
-use filing_editions::{Issue, Naming, OfficeFault, Press, Publisher, Receipt, Reviewer};
+use filing_publish::{
+    Naming, OfficeFault, PendingPublish, Publisher, Receipt, Reviewer, UnopenedLog,
+};
 use std::alloc::{AllocError, Global};
 use std::marker::Model;
 use std::sync::Wait;
@@ -24,8 +26,8 @@ pub struct Shared<J: Naming> {
 
 impl<J: Naming> Model for Shared<J> {
     ghost use Rattle.std.specs.Prelude.{◌≡◌};
-    ghost use Rattle.filing_model.specs.History.{History};
-    ghost use Rattle.filing_model.specs.Versions.{versions};
+    ghost use Rattle.filing_model.specs.Histories.History.{History};
+    ghost use Rattle.filing_model.specs.Histories.Versions.{versions};
 
     ghost Value = { History };
 
@@ -49,7 +51,7 @@ fn publish_next<J: Naming, R: Wait>(
     match prepared.next() {
         None => Ok(None),
         Some(version) => {
-            let issue = Issue::of(version)?;
+            let issue = PendingPublish::of(version)?;
             Ok(Some(publisher.publish(rt, issue)))
         }
     }
@@ -78,17 +80,17 @@ impl<J: Naming> Shared<J> {
     pub fn open<R: Wait>(
         rt: &R,
         alloc: Global,
-        press: Press,
+        unopened_log: UnopenedLog,
         reviewers: usize,
     ) -> Result<(Shared<J>, Vec<Reviewer<J>>), OfficeFault>
-        requires book { press.seen.book ≡ J.book }
+        requires book { unopened_log.seen.book ≡ J.book }
         requires some { (0 < reviewers) × (reviewers < 2 ^ 32) }
         ensures begins { IfOk result (λ o. o.0 ≡ []) }
         ensures reviewers { IfOk result (λ o. vec_len o.1 ≡ reviewers) }
         ensures seen { IfOk result (λ o. All (λ r. r ≡ nothing ∷ []) o.1.items) }
     {
         let core = Core::new(alloc)?;
-        match Publisher::open(rt, alloc, press, reviewers) {
+        match Publisher::open(rt, alloc, unopened_log, reviewers) {
             Ok((publisher, reviewers)) => Ok((Shared { core, publisher }, reviewers)),
             Err(fault) => {
                 drop(core);

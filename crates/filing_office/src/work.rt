@@ -3,7 +3,7 @@
 use crate::desk::Desk;
 use crate::outcome::Outcome;
 use filing_core::Step;
-use filing_editions::{Naming, Reviewer};
+use filing_publish::{Naming, Reviewer};
 use std::sync::ledger::Ledger;
 
 /// A step under the name that the desk gives to its session. A load has none, and its name is not looked at.

@@ -3,18 +3,18 @@ use Rattle.std.proofs.Common.{◌≡◌, ◌∙◌, refl, Bool, true, false, con
 use Rattle.std.specs.Option.{option_map_or}
 use Rattle.std.specs.declared.result.Result.{Result}
 use Rattle.std.specs.declared.result.Result.TheVariants.{Ok, Err}
-use Rattle.filing_model.specs.Text.{Text}
-use Rattle.filing_model.specs.Facts.{Fact, RawFact, fit_of}
-use Rattle.filing_model.specs.Reports.{Report}
-use Rattle.filing_model.specs.Repository.{Repository, report_at, fact_in, with_fact_at}
-use Rattle.filing_model.specs.Changes.{Change}
-use Rattle.filing_model.specs.Calls as call
-use Rattle.filing_model.specs.Calls.{Call, report_of_call}
-use Rattle.filing_model.specs.Replies as reply
-use Rattle.filing_model.specs.Things as thing
-use Rattle.filing_model.specs.Things.{Thing}
-use Rattle.filing_model.specs.Sessions.{Answer, answer_in, may_make, fitted}
-use Rattle.filing_model.specs.Touches.{read_in, read_by}
+use Rattle.filing_model.specs.Common.Text.{Text}
+use Rattle.filing_model.specs.Oim.Facts.{Fact, RawFact, fit_of}
+use Rattle.filing_model.specs.Oim.Reports.{Report}
+use Rattle.filing_model.specs.Sessions.Repository.{Repository, report_at, fact_in, with_fact_at}
+use Rattle.filing_model.specs.Sessions.Changes.{Change}
+use Rattle.filing_model.specs.Sessions.Calls as call
+use Rattle.filing_model.specs.Sessions.Calls.{Call, report_of_call}
+use Rattle.filing_model.specs.Sessions.Replies as reply
+use Rattle.filing_model.specs.Sessions.Things as thing
+use Rattle.filing_model.specs.Sessions.Things.{Thing}
+use Rattle.filing_model.specs.Sessions.Sessions.{Answer, answer_in, may_make, fitted}
+use Rattle.filing_model.specs.Histories.Touches.{read_in, read_by}
 use Rattle.filing_model.specs.declared.faults.FactFault.{FactFault}
 use Rattle.filing_model.specs.declared.kind.Kind.{Kind}
 use Rattle.filing_session.specs.States.{SessionState, with_thing, change_after}
@@ -63,7 +63,7 @@ module _ (s : SessionState) (read : Option Thing) where
   done_in : (ask : Call) (r : Report) → IsDone ask (answer_in s.copy ask r)
   done_in (call.Get name id) r = got_done name id (fact_in r id)
   done_in (call.Cell name dims) r = refl
-  done_in (call.Page name sought limit) r = refl
+  done_in (call.Page name query limit) r = refl
   done_in (call.Add name id raw) r = added_done name id raw (is_some (fact_in r id)) (fit_of r.names raw)
   done_in (call.Remove name id) r = removed_done name id (is_some (fact_in r id))
   done_in (call.Declared name) r = refl

@@ -1,19 +1,19 @@
 -- Worked examples: sessions call by call, what each is told, has read and has staged.
 use Rattle.std.proofs.Common.{◌≡◌, refl, List, [], ◌∷◌, Some, None, true, false}
 use Rattle.std.specs.Prelude.{codes}
-use Rattle.filing_model.specs.Text.{Text}
-use Rattle.filing_model.specs.TextMap.{empty, insert}
-use Rattle.filing_model.specs.Repository.{Repository}
-use Rattle.filing_model.specs.Changes.{change_at}
-use Rattle.filing_model.specs.Calls.{Call, Get, Cell, Page, Add, Remove, Declared, Declare, Without}
-use Rattle.filing_model.specs.Replies as reply
-use Rattle.filing_model.specs.Replies.{Reply}
-use Rattle.filing_model.specs.Things as thing
-use Rattle.filing_model.specs.Things.{Thing}
+use Rattle.filing_model.specs.Common.Text.{Text}
+use Rattle.filing_model.specs.Common.TextMap.{empty, insert}
+use Rattle.filing_model.specs.Sessions.Repository.{Repository}
+use Rattle.filing_model.specs.Sessions.Changes.{change_at}
+use Rattle.filing_model.specs.Sessions.Calls.{Call, Get, Cell, Page, Add, Remove, Declared, Declare, Without}
+use Rattle.filing_model.specs.Sessions.Replies as reply
+use Rattle.filing_model.specs.Sessions.Replies.{Reply}
+use Rattle.filing_model.specs.Sessions.Things as thing
+use Rattle.filing_model.specs.Sessions.Things.{Thing}
 use Rattle.filing_model.specs.declared.duplicates.Allowed.TheVariants.{Never, All}
 use Rattle.filing_model.specs.declared.duplicates.Class.TheVariants.{Single, Complete}
 use Rattle.filing_model.specs.declared.kind.Kind.TheVariants.{Review, Amend}
-use Rattle.filing_model.proofs.Examples.Setting.{holding, raw, fact, of_concept, sought, two}
+use Rattle.filing_model.proofs.Examples.Setting.{holding, raw, fact, of_concept, query, two}
 use Rattle.filing_session.specs.States.{SessionState, opened, after_calls, replies_to}
 use Rattle.filing_session.specs.Runs.{pruned}
 
@@ -37,24 +37,24 @@ reviewed calls = after_calls calls (opened Review base)
 -- ---- pages
 
 abbrev own_page_calls : List Call
-own_page_calls = Remove name (codes "a") ∷ Add name (codes "d") (raw (codes "y")) ∷ Page name (sought Without None) two ∷ []
+own_page_calls = Remove name (codes "a") ∷ Add name (codes "d") (raw (codes "y")) ∷ Page name (query Without None) two ∷ []
 
 -- a page is of the session's own copy, and so is the identifier at which its range ends
 pub own_page : replies_to own_page_calls (opened Amend base) ≡ reply.Staged ∷ reply.Staged ∷ reply.Page (codes "b" ∷ codes "c" ∷ []) true ∷ []
 own_page = refl
 
 pub own_page_is_read : (amended own_page_calls).reads ≡
-    thing.Id name (codes "a") ∷ thing.Id name (codes "d") ∷ thing.Range name (sought Without None) (Some (codes "d")) ∷ []
+    thing.Id name (codes "a") ∷ thing.Id name (codes "d") ∷ thing.Range name (query Without None) (Some (codes "d")) ∷ []
 own_page_is_read = refl
 
 abbrev last_page_calls : List Call
-last_page_calls = Remove name (codes "a") ∷ Page name (sought Without None) two ∷ []
+last_page_calls = Remove name (codes "a") ∷ Page name (query Without None) two ∷ []
 
 -- there is no more where what is left was removed, and the range has no end
 pub last_page : replies_to last_page_calls (opened Amend base) ≡ reply.Staged ∷ reply.Page (codes "b" ∷ codes "c" ∷ []) false ∷ []
 last_page = refl
 
-pub last_page_is_read : (amended last_page_calls).reads ≡ thing.Id name (codes "a") ∷ thing.Range name (sought Without None) None ∷ []
+pub last_page_is_read : (amended last_page_calls).reads ≡ thing.Id name (codes "a") ∷ thing.Range name (query Without None) None ∷ []
 last_page_is_read = refl
 
 -- ---- cells

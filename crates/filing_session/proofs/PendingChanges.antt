@@ -1,22 +1,22 @@
 -- What stands in a repository with a change laid over it, and that a change with one more put or declared value, laid over it, is the put or the value made in what was laid before.
 use Rattle.std.proofs.Common.{◌≡◌, ◌∙◌, ap, sym, refl, Bool, true, false, cond, Option, Some, None, option_map, unwrap_or}
 use Rattle.std.specs.Option.{option_map_or}
-use Rattle.filing_model.specs.Text.{Text, text_eq}
-use Rattle.filing_model.specs.TextMap.{get, insert}
-use Rattle.filing_model.specs.Facts.{Fact}
-use Rattle.filing_model.specs.Reports.{Report}
-use Rattle.filing_model.specs.DeclaredValue.{report_declaring}
-use Rattle.filing_model.specs.Repository.{Repository, report_at, fact_in, with_fact, with_report_at, with_fact_at, declaring_at}
-use Rattle.filing_model.specs.Changes.{ReportChange, Change, no_change, change_in, change_at, declared_in, with_change, with_declared, declaring_if, changed, laid_over}
+use Rattle.filing_model.specs.Common.Text.{Text, text_eq}
+use Rattle.filing_model.specs.Common.TextMap.{get, insert}
+use Rattle.filing_model.specs.Oim.Facts.{Fact}
+use Rattle.filing_model.specs.Oim.Reports.{Report}
+use Rattle.filing_model.specs.Reading.DeclaredValue.{report_declaring}
+use Rattle.filing_model.specs.Sessions.Repository.{Repository, report_at, fact_in, with_fact, with_report_at, with_fact_at, declaring_at}
+use Rattle.filing_model.specs.Sessions.Changes.{ReportChange, Change, no_change, change_in, change_at, declared_in, with_change, with_declared, declaring_if, changed, laid_over}
 use Rattle.filing_model.specs.declared.duplicates.Allowed.{Allowed}
 use Rattle.filing_version.specs.declared.got.Got.{Got}
 use Rattle.filing_version.specs.declared.got.Got.TheVariants.{NoReport, Absent, Found}
 use Rattle.filing_version.specs.Found.{got_of}
-use Rattle.filing_model.proofs.TextMaps.{get-insert}
-use Rattle.filing_model.proofs.Texts.{text_same}
-use Rattle.filing_laws.proofs.WithOneFact.{fact_in-with_fact}
-use Rattle.filing_laws.proofs.WithOneValue.{bare, bare-with_fact, bare-declaring_if, names-declaring_if, facts-declaring_if, declaring_twice}
-use Rattle.filing_laws.proofs.LaidOver.{bare-changed, fact_in-changed, reports_same, repositories_same, report_at-laid_over, count-laid_over}
+use Rattle.filing_model.proofs.Common.TextMaps.{get-insert}
+use Rattle.filing_model.proofs.Common.Texts.{text_same}
+use Rattle.filing_laws.proofs.Lists.WithOneFact.{fact_in-with_fact}
+use Rattle.filing_laws.proofs.Lists.WithOneValue.{bare, bare-with_fact, bare-declaring_if, names-declaring_if, facts-declaring_if, declaring_twice}
+use Rattle.filing_laws.proofs.Updating.LaidOver.{bare-changed, fact_in-changed, reports_same, repositories_same, report_at-laid_over, count-laid_over}
 
 -- ---- what stands there
 

@@ -3,25 +3,25 @@ use Rattle.std.proofs.Common.{◌≡◌, ◌∙◌, ap, sym, refl, Bool, true, f
 use Rattle.std.specs.List.{list_any}
 use Rattle.std.specs.Option.{option_or}
 use Rattle.std.specs.FinMap.Entries.{find, by_order, put, is_sorted, below_all}
-use Rattle.filing_model.specs.Text.{Text, text_cmp, text_eq}
-use Rattle.filing_model.specs.TextMap.{TextMap, empty, get, insert}
-use Rattle.filing_model.specs.Facts.{Fact}
-use Rattle.filing_model.specs.Repository.{Repository, fact_at}
-use Rattle.filing_model.specs.Changes.{ReportChange, Change, no_change, change_in, change_at, declared_in, with_change, with_declared}
-use Rattle.filing_model.specs.Calls.{Call}
-use Rattle.filing_model.specs.Sessions.{solo_copy, solo_replies}
-use Rattle.filing_model.specs.Touches.{staged_places, staged_values, change_between, with_values, net_change}
+use Rattle.filing_model.specs.Common.Text.{Text, text_cmp, text_eq}
+use Rattle.filing_model.specs.Common.TextMap.{TextMap, empty, get, insert}
+use Rattle.filing_model.specs.Oim.Facts.{Fact}
+use Rattle.filing_model.specs.Sessions.Repository.{Repository, fact_at}
+use Rattle.filing_model.specs.Sessions.Changes.{ReportChange, Change, no_change, change_in, change_at, declared_in, with_change, with_declared}
+use Rattle.filing_model.specs.Sessions.Calls.{Call}
+use Rattle.filing_model.specs.Sessions.Sessions.{solo_copy, solo_replies}
+use Rattle.filing_model.specs.Histories.Touches.{staged_places, staged_values, change_between, with_values, net_change}
 use Rattle.filing_model.specs.declared.duplicates.Allowed.{Allowed}
 use Rattle.filing_model.specs.declared.kind.Kind.TheVariants.{Amend}
-use Rattle.filing_model.proofs.Texts.{text_same, text_cmp-Equal}
-use Rattle.filing_model.proofs.TextMaps.{same_list, same_map, get-insert, get-from_entries}
-use Rattle.filing_model.proofs.Tests.{first_holds, second_holds}
-use Rattle.filing_model.proofs.MapsOfLists.{tied_is_not_found}
-use Rattle.filing_model.proofs.FilteredEntries.{only, find-filter}
-use Rattle.filing_laws.proofs.WithOneValue.{last_value}
-use Rattle.filing_laws.proofs.RunsAlike.{is_place}
-use Rattle.filing_laws.proofs.ChangedPlaces.{change_at-with_values, declared_in-with_values, declared_in-change_between}
-use Rattle.filing_laws.proofs.NetChanges.{change_at-change_between}
+use Rattle.filing_model.proofs.Common.Texts.{text_same, text_cmp-Equal}
+use Rattle.filing_model.proofs.Common.TextMaps.{same_list, same_map, get-insert, get-from_entries}
+use Rattle.filing_model.proofs.Common.Tests.{first_holds, second_holds}
+use Rattle.filing_model.proofs.Common.MapsOfLists.{tied_is_not_found}
+use Rattle.filing_model.proofs.Common.FilteredEntries.{only, find-filter}
+use Rattle.filing_laws.proofs.Lists.WithOneValue.{last_value}
+use Rattle.filing_laws.proofs.Agreement.RunsAlike.{is_place}
+use Rattle.filing_laws.proofs.Touching.ChangedPlaces.{change_at-with_values, declared_in-with_values, declared_in-change_between}
+use Rattle.filing_laws.proofs.Updating.NetChanges.{change_at-change_between}
 use Rattle.filing_session.specs.States.{opened, after_calls}
 use Rattle.filing_session.specs.Runs.{is_put, pruned_report, is_more, changes_something, pruned, EachAmendmentStagesItsNetChange}
 use Rattle.filing_session.proofs.StagedChanges.{value_is, put_is, makes_the_copy}

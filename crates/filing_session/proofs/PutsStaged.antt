@@ -1,18 +1,18 @@
 -- What additions and removals stage, by what was found.
 use Rattle.std.proofs.Common.{◌≡◌, ◌∙◌, ap, sym, refl, Bool, true, false, cond, ◌&&◌, Option, Some, None, is_some, option_map, Result, Ok}
 use Rattle.std.proofs.lemmas.Option.{same_Some}
-use Rattle.filing_model.specs.Text.{Text}
-use Rattle.filing_model.specs.Facts.{Fact, RawFact, Names, fit_of}
-use Rattle.filing_model.specs.Reports.{Report}
-use Rattle.filing_model.specs.Repository.{Repository, report_at, fact_in, fact_at, with_fact_at}
-use Rattle.filing_model.specs.Changes.{Change, with_change}
-use Rattle.filing_model.specs.Calls as call
-use Rattle.filing_model.specs.Replies as reply
-use Rattle.filing_model.specs.Things as thing
-use Rattle.filing_model.specs.Sessions.{Answer, fitted}
+use Rattle.filing_model.specs.Common.Text.{Text}
+use Rattle.filing_model.specs.Oim.Facts.{Fact, RawFact, Names, fit_of}
+use Rattle.filing_model.specs.Oim.Reports.{Report}
+use Rattle.filing_model.specs.Sessions.Repository.{Repository, report_at, fact_in, fact_at, with_fact_at}
+use Rattle.filing_model.specs.Sessions.Changes.{Change, with_change}
+use Rattle.filing_model.specs.Sessions.Calls as call
+use Rattle.filing_model.specs.Sessions.Replies as reply
+use Rattle.filing_model.specs.Sessions.Things as thing
+use Rattle.filing_model.specs.Sessions.Sessions.{Answer, fitted}
 use Rattle.filing_model.specs.declared.faults.FactFault.{FactFault}
-use Rattle.filing_model.proofs.Texts.{text_eq-refl}
-use Rattle.filing_laws.proofs.WithOneFact.{fact_at-with_fact_at}
+use Rattle.filing_model.proofs.Common.Texts.{text_eq-refl}
+use Rattle.filing_laws.proofs.Lists.WithOneFact.{fact_at-with_fact_at}
 use Rattle.filing_session.specs.Effects.{Effect, staged_by, effect_in, put_effect}
 
 module _ (c : Repository) (change : Change) (name id : Text) where

@@ -1,11 +1,11 @@
 -- A session after any calls is as the solo run leaves it.
 use Rattle.std.proofs.Common.{◌≡◌, ◌∙◌, ap, sym, refl, Bool, true, false, cond, not, ◌&&◌, ◌||◌, filter, List, [], ◌∷◌, ◌++◌, Option, Some, None, append_assoc, append-nil}
 use Rattle.std.specs.List.{cons_option}
-use Rattle.filing_model.specs.Calls.{Call}
-use Rattle.filing_model.specs.Things.{Thing, thing_eq, has_thing, each_once}
-use Rattle.filing_model.specs.Sessions.{answer, solo_copy, solo_replies}
-use Rattle.filing_model.specs.Touches.{read_by, reads, things_read}
-use Rattle.filing_laws.proofs.EqualThings.{thing_same, thing_itself}
+use Rattle.filing_model.specs.Sessions.Calls.{Call}
+use Rattle.filing_model.specs.Sessions.Things.{Thing, thing_eq, has_thing, each_once}
+use Rattle.filing_model.specs.Sessions.Sessions.{answer, solo_copy, solo_replies}
+use Rattle.filing_model.specs.Histories.Touches.{read_by, reads, things_read}
+use Rattle.filing_laws.proofs.Lists.EqualThings.{thing_same, thing_itself}
 use Rattle.filing_session.specs.States.{SessionState, opened, with_thing, called, after_calls, replies_to}
 use Rattle.filing_session.specs.Runs.{EachSessionRunsAlone}
 

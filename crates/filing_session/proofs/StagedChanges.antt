@@ -3,25 +3,25 @@ use Rattle.std.proofs.Common.{◌≡◌, ◌∙◌, ap, sym, refl, Bool, true, f
 use Rattle.std.specs.List.{list_any, cons_option}
 use Rattle.std.specs.Option.{option_map_or, option_or}
 use Rattle.std.proofs.lemmas.Bool.{and_parts}
-use Rattle.filing_model.specs.Text.{Text, text_eq}
-use Rattle.filing_model.specs.Facts.{Fact}
-use Rattle.filing_model.specs.Reports.{Report}
-use Rattle.filing_model.specs.Repository.{Repository, report_at, fact_in, fact_at}
-use Rattle.filing_model.specs.Changes.{Change, change_in, change_at, declared_in, with_change, declaring_if, changed, laid_over}
-use Rattle.filing_model.specs.Calls as call
-use Rattle.filing_model.specs.Calls.{Call, report_of_call}
-use Rattle.filing_model.specs.Replies as reply
-use Rattle.filing_model.specs.Replies.{Reply}
-use Rattle.filing_model.specs.Sessions.{answer, solo_copy, solo_replies}
-use Rattle.filing_model.specs.Touches.{if_staged, place_of_call, value_of_call, staged_places, staged_values}
+use Rattle.filing_model.specs.Common.Text.{Text, text_eq}
+use Rattle.filing_model.specs.Oim.Facts.{Fact}
+use Rattle.filing_model.specs.Oim.Reports.{Report}
+use Rattle.filing_model.specs.Sessions.Repository.{Repository, report_at, fact_in, fact_at}
+use Rattle.filing_model.specs.Sessions.Changes.{Change, change_in, change_at, declared_in, with_change, declaring_if, changed, laid_over}
+use Rattle.filing_model.specs.Sessions.Calls as call
+use Rattle.filing_model.specs.Sessions.Calls.{Call, report_of_call}
+use Rattle.filing_model.specs.Sessions.Replies as reply
+use Rattle.filing_model.specs.Sessions.Replies.{Reply}
+use Rattle.filing_model.specs.Sessions.Sessions.{answer, solo_copy, solo_replies}
+use Rattle.filing_model.specs.Histories.Touches.{if_staged, place_of_call, value_of_call, staged_places, staged_values}
 use Rattle.filing_model.specs.declared.duplicates.Allowed.{Allowed}
 use Rattle.filing_model.specs.declared.kind.Kind.TheVariants.{Review, Amend}
-use Rattle.filing_model.proofs.Texts.{text_same}
-use Rattle.filing_laws.proofs.WithOneValue.{bare, bare_at, value_for, last_value}
-use Rattle.filing_laws.proofs.RunsAlike.{is_place, run_leaves_facts, run_leaves_heads}
-use Rattle.filing_laws.proofs.ChangedPlaces.{change_at-with_change, declared_in-with_change, change_at-with_values, declared_in-with_values}
-use Rattle.filing_laws.proofs.NetChanges.{run_leaves_count}
-use Rattle.filing_laws.proofs.LaidOver.{bare-changed, fact_in-changed, reports_same, repositories_same, report_at-laid_over, count-laid_over}
+use Rattle.filing_model.proofs.Common.Texts.{text_same}
+use Rattle.filing_laws.proofs.Lists.WithOneValue.{bare, bare_at, value_for, last_value}
+use Rattle.filing_laws.proofs.Agreement.RunsAlike.{is_place, run_leaves_facts, run_leaves_heads}
+use Rattle.filing_laws.proofs.Touching.ChangedPlaces.{change_at-with_change, declared_in-with_change, change_at-with_values, declared_in-with_values}
+use Rattle.filing_laws.proofs.Updating.NetChanges.{run_leaves_count}
+use Rattle.filing_laws.proofs.Updating.LaidOver.{bare-changed, fact_in-changed, reports_same, repositories_same, report_at-laid_over, count-laid_over}
 use Rattle.filing_session.specs.States.{SessionState, opened, staging, change_after, called, after_calls}
 use Rattle.filing_session.specs.Runs.{EachReviewStagesNothing}
 use Rattle.filing_session.proofs.RunStates.{copy_after}
@@ -43,7 +43,7 @@ staged_at : (ask : Call) (copy : Repository) (change : Change) (m q : Text)
     → change_at (staging ask copy change) m q ≡ put_there (place_of_call ask) copy m q (change_at change m q)
 staged_at (call.Get name id) copy change m q = refl
 staged_at (call.Cell name dims) copy change m q = refl
-staged_at (call.Page name sought limit) copy change m q = refl
+staged_at (call.Page name query limit) copy change m q = refl
 staged_at (call.Add name id raw) copy change m q = put_at change copy name id m q
 staged_at (call.Remove name id) copy change m q = put_at change copy name id m q
 staged_at (call.Declared name) copy change m q = refl
@@ -57,7 +57,7 @@ after_at ask told copy change m q = refl
 staged_value : (ask : Call) (copy : Repository) (change : Change) (m : Text) → declared_in (staging ask copy change) m ≡ option_or (value_for m (value_of_call ask)) (declared_in change m)
 staged_value (call.Get name id) copy change m = refl
 staged_value (call.Cell name dims) copy change m = refl
-staged_value (call.Page name sought limit) copy change m = refl
+staged_value (call.Page name query limit) copy change m = refl
 staged_value (call.Add name id raw) copy change m = declared_in-with_change change name id (fact_at copy name id) m
 staged_value (call.Remove name id) copy change m = declared_in-with_change change name id (fact_at copy name id) m
 staged_value (call.Declared name) copy change m = refl
@@ -192,8 +192,8 @@ not_staged ask told after before same = refl
 review_stages_nothing : (ask : Call) (after : Repository) (before : Change) → change_after ask (answer Review ask after).0 (answer Review ask after).1 before ≡ before
 review_stages_nothing (call.Get name id) after before = not_staged (call.Get name id) (answer Review (call.Get name id) after).0 (answer Review (call.Get name id) after).1 before refl
 review_stages_nothing (call.Cell name dims) after before = not_staged (call.Cell name dims) (answer Review (call.Cell name dims) after).0 (answer Review (call.Cell name dims) after).1 before refl
-review_stages_nothing (call.Page name sought limit) after before = not_staged (call.Page name sought limit)
-    (answer Review (call.Page name sought limit) after).0 (answer Review (call.Page name sought limit) after).1
+review_stages_nothing (call.Page name query limit) after before = not_staged (call.Page name query limit)
+    (answer Review (call.Page name query limit) after).0 (answer Review (call.Page name query limit) after).1
     before refl
 review_stages_nothing (call.Add name id raw) after before = refl
 review_stages_nothing (call.Remove name id) after before = refl

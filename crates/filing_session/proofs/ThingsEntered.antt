@@ -2,7 +2,7 @@
 use Rattle.std.proofs.Common.{◌≡◌, ◌∙◌, ap, refl, Bool, true, false, cond, ◌||◌, List, [], ◌∷◌, ◌++◌, map, Some}
 use Rattle.std.specs.List.{list_any}
 use Rattle.indexmap.specs.IndexSet.{insert_key}
-use Rattle.filing_model.specs.Things.{thing_eq, has_thing}
+use Rattle.filing_model.specs.Sessions.Things.{thing_eq, has_thing}
 use Rattle.filing_step.specs.declared.thing.Thing.{Thing}
 use Rattle.filing_step.specs.Steps.{thing_of}
 use Rattle.filing_session.specs.States.{with_thing}

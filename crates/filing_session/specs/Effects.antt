@@ -1,18 +1,18 @@
 -- What a call does to a session, told before it is done. The project's own.
 use Rattle.std.specs.Prelude.{Option, Some, None}
 use Rattle.std.specs.Option.{option_map_or}
-use Rattle.filing_model.specs.Text.{Text}
-use Rattle.filing_model.specs.Facts.{Fact}
-use Rattle.filing_model.specs.Repository.{Repository, with_fact_at}
-use Rattle.filing_model.specs.Changes.{Change, with_change}
-use Rattle.filing_model.specs.Reports.{Report}
-use Rattle.filing_model.specs.Calls.{Call, report_of_call}
-use Rattle.filing_model.specs.Replies as reply
-use Rattle.filing_model.specs.Replies.{Reply}
-use Rattle.filing_model.specs.Things as thing
-use Rattle.filing_model.specs.Things.{Thing}
-use Rattle.filing_model.specs.Sessions.{Answer, answer_in, answer}
-use Rattle.filing_model.specs.Touches.{read_in, read_by}
+use Rattle.filing_model.specs.Common.Text.{Text}
+use Rattle.filing_model.specs.Oim.Facts.{Fact}
+use Rattle.filing_model.specs.Sessions.Repository.{Repository, with_fact_at}
+use Rattle.filing_model.specs.Sessions.Changes.{Change, with_change}
+use Rattle.filing_model.specs.Oim.Reports.{Report}
+use Rattle.filing_model.specs.Sessions.Calls.{Call, report_of_call}
+use Rattle.filing_model.specs.Sessions.Replies as reply
+use Rattle.filing_model.specs.Sessions.Replies.{Reply}
+use Rattle.filing_model.specs.Sessions.Things as thing
+use Rattle.filing_model.specs.Sessions.Things.{Thing}
+use Rattle.filing_model.specs.Sessions.Sessions.{Answer, answer_in, answer}
+use Rattle.filing_model.specs.Histories.Touches.{read_in, read_by}
 use Rattle.filing_model.specs.declared.kind.Kind.{Kind}
 use Rattle.filing_session.specs.States.{SessionState, with_thing, staging}
 

@@ -1,4 +1,4 @@
 pub mod States
 pub mod Effects
 pub mod Runs
-pub mod Held
+pub mod OpenSession

@@ -1,14 +1,14 @@
 -- What is known of a session after any calls. The project's own.
 use Rattle.std.specs.Prelude.{◌≡◌, Bool, true, false, ◌||◌, List, [], ◌∷◌, map, Option, is_some}
 use Rattle.std.specs.List.{filter}
-use Rattle.filing_model.specs.Text.{Text}
-use Rattle.filing_model.specs.TextMap.{empty, from_entries}
-use Rattle.filing_model.specs.Facts.{Fact}
-use Rattle.filing_model.specs.Repository.{Repository, fact_at}
-use Rattle.filing_model.specs.Changes.{ReportChange, Change, laid_over}
-use Rattle.filing_model.specs.Calls.{Call}
-use Rattle.filing_model.specs.Sessions.{solo_copy, solo_replies}
-use Rattle.filing_model.specs.Touches.{things_read, net_change}
+use Rattle.filing_model.specs.Common.Text.{Text}
+use Rattle.filing_model.specs.Common.TextMap.{empty, from_entries}
+use Rattle.filing_model.specs.Oim.Facts.{Fact}
+use Rattle.filing_model.specs.Sessions.Repository.{Repository, fact_at}
+use Rattle.filing_model.specs.Sessions.Changes.{ReportChange, Change, laid_over}
+use Rattle.filing_model.specs.Sessions.Calls.{Call}
+use Rattle.filing_model.specs.Sessions.Sessions.{solo_copy, solo_replies}
+use Rattle.filing_model.specs.Histories.Touches.{things_read, net_change}
 use Rattle.filing_model.specs.declared.kind.Kind.{Kind}
 use Rattle.filing_model.specs.declared.kind.Kind.TheVariants.{Review, Amend}
 use Rattle.filing_session.specs.Effects.{effect_on, with_effect}

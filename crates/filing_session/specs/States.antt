@@ -1,15 +1,15 @@
 -- A session as its calls leave it. The project's own.
 use Rattle.std.specs.Prelude.{cond, List, [], ◌∷◌, ◌++◌, Option, Some, None}
-use Rattle.filing_model.specs.TextMap.{empty}
-use Rattle.filing_model.specs.Repository.{Repository, fact_at}
-use Rattle.filing_model.specs.Changes.{Change, with_change, with_declared}
-use Rattle.filing_model.specs.Calls as call
-use Rattle.filing_model.specs.Calls.{Call}
-use Rattle.filing_model.specs.Replies as reply
-use Rattle.filing_model.specs.Replies.{Reply}
-use Rattle.filing_model.specs.Things.{Thing, has_thing}
-use Rattle.filing_model.specs.Sessions.{answer}
-use Rattle.filing_model.specs.Touches.{read_by}
+use Rattle.filing_model.specs.Common.TextMap.{empty}
+use Rattle.filing_model.specs.Sessions.Repository.{Repository, fact_at}
+use Rattle.filing_model.specs.Sessions.Changes.{Change, with_change, with_declared}
+use Rattle.filing_model.specs.Sessions.Calls as call
+use Rattle.filing_model.specs.Sessions.Calls.{Call}
+use Rattle.filing_model.specs.Sessions.Replies as reply
+use Rattle.filing_model.specs.Sessions.Replies.{Reply}
+use Rattle.filing_model.specs.Sessions.Things.{Thing, has_thing}
+use Rattle.filing_model.specs.Sessions.Sessions.{answer}
+use Rattle.filing_model.specs.Histories.Touches.{read_by}
 use Rattle.filing_model.specs.declared.kind.Kind.{Kind}
 
 -- the repository of its opening, its own copy of it, what it has staged, and the things that it has read, each once

@@ -1,23 +1,32 @@
 //! Sessions: each reads and stages over a version that does not change.
 //!
-//! `session` is `Session`, `staging` what it has staged, and `ready` what is made ready of a call before anything changes. `looks` answers the calls that only look, `pages` those for pages, and `stages` those that stage. `reviewed` answers a review for which no session is kept. `runs` has the laws: what a session is after any calls.
+//! - `session`: an open session.
+//! - `staging`: what a session has staged.
+//! - `ready`: what is made ready of a call before anything changes.
+//! - `reads`: the calls that only read, but for pages.
+//! - `pages`: the calls that read a page.
+//! - `writes`: the calls that stage.
+//! - `reviewed`: the reply to a review for which no session is kept.
+//! - `runs`: the laws of what a session is after any calls.
 //!
-//! A session has a copy of its version of its own, which shares with the version all that is not staged. What is staged is laid over it when a cell or a page is asked for; what stands at an identifier is told by both. The crate knows nothing of histories, of other sessions, or of how a commit is decided.
+//! A session has a copy of its version of its own, which shares with the version all that is not staged. What is staged is applied to it when a cell or a page is read; what stands at an identifier is told by both.
+//!
+//! It knows nothing of histories, of other sessions, or of how a commit is decided.
 #![tactic(auto)]
 
-mod looks;
 mod pages;
+mod reads;
 mod ready;
 mod reviewed;
 mod runs;
 mod session;
-mod stages;
 mod staging;
+mod writes;
 
 pub use filing_model::Kind;
-pub use filing_step::{Asked, Call, Limit, Reply, Sought, Thing};
-pub use looks::texts_of;
+pub use filing_step::{Call, Limit, PageQuery, PeriodFilter, Reply, Thing};
 pub use pages::period_of;
+pub use reads::texts_of;
 pub use ready::Ready;
 pub use reviewed::reply_at;
 pub use runs::{

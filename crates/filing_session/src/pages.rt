@@ -1,28 +1,28 @@
-//! Pages: the first identifiers of what is sought.
+//! Pages: the first identifiers that a query finds.
 ghost use Rattle.std.specs.Prelude.{◌≡◌, map, string_bytes, IfOk};
-ghost use Rattle.filing_model.specs.Calls as call;
-ghost use Rattle.filing_model.specs.Changes.{Change};
-ghost use Rattle.filing_model.specs.Queries.{page_ids, first_cut};
-ghost use Rattle.filing_model.specs.Repository.{report_at};
+ghost use Rattle.filing_model.specs.Sessions.Calls as call;
+ghost use Rattle.filing_model.specs.Sessions.Changes.{Change};
+ghost use Rattle.filing_model.specs.Sessions.Queries.{page_ids, first_cut};
+ghost use Rattle.filing_model.specs.Sessions.Repository.{report_at};
 ghost use Rattle.oim_fact.specs.Texts.{text_view};
-ghost use Rattle.filing_index.specs.Wanted as borrowed;
-ghost use Rattle.filing_step.specs.Asked.{asked_of};
+ghost use Rattle.filing_facts.specs.PeriodFilterRef as borrowed;
+ghost use Rattle.filing_step.specs.PeriodFilter.{period_filter_of};
 ghost use Rattle.filing_session.specs.Effects.{effect_in};
 
 use crate::ready::Ready;
 use crate::staging::Staging;
-use filing_step::{Asked, Limit, Reply, Sought, Thing};
-use filing_version::{Asked as Period, Ids};
+use filing_step::{Limit, PageQuery, PeriodFilter, Reply, Thing};
+use filing_version::{Ids, PeriodFilterRef};
 use std::alloc::{AllocError, Global};
 
-/// The period that is asked for, without a text of its own. It takes no memory.
-pub fn period_of(asked: &Asked) -> Period<'_>
-    ensures { borrowed.asked_of result ≡ asked_of asked.now }
+/// A period filter, without a text of its own. It takes no memory.
+pub fn period_of(asked: &PeriodFilter) -> PeriodFilterRef<'_>
+    ensures { borrowed.period_filter_of result ≡ period_filter_of asked.now }
 {
     match asked {
-        Asked::Any => Period::Any,
-        Asked::Without => Period::Without,
-        Asked::Text(period) => Period::Text(period),
+        PeriodFilter::Any => PeriodFilterRef::Any,
+        PeriodFilter::Without => PeriodFilterRef::Without,
+        PeriodFilter::Text(period) => PeriodFilterRef::Text(period),
     }
 }
 
@@ -52,19 +52,19 @@ pub(crate) fn page(
     alloc: Global,
     staging: &Staging,
     report: String,
-    sought: Sought,
+    query: PageQuery,
     limit: Limit,
 ) -> Result<Ready, AllocError>
-    ensures { (change : Change) → IfOk result (λ r. r ≡ effect_in (call.Page (string_bytes report) sought limit)
+    ensures { (change : Change) → IfOk result (λ r. r ≡ effect_in (call.Page (string_bytes report) query limit)
         staging.now.0 change (report_at staging.now.0 (string_bytes report))) }
 {
     let copy = staging.copy(alloc)?;
-    let period = period_of(&sought.period);
-    let (ids, cut) = match copy.query(&report, &sought.concept, period, sought.after.as_deref()) {
+    let period = period_of(&query.period);
+    let (ids, cut) = match copy.query(&report, &query.concept, period, query.after.as_deref()) {
         None => return Ok(Ready::nowhere(report)),
         Some(ids) => page_of(alloc, ids, limit.number())?,
     };
     let reply = Reply::Page(ids, cut.is_some());
-    let sought = Box::new(alloc, sought)?;
-    Ok(Ready::read(reply, Thing::Range(report, sought, cut)))
+    let query = Box::new(alloc, query)?;
+    Ok(Ready::read(reply, Thing::Range(report, query, cut)))
 }

@@ -1,7 +1,7 @@
 //! `Ready`: what a call is answered and what it leaves, before anything changes.
 ghost use Rattle.std.specs.Prelude.{◌≡◌, Some, None, string_bytes};
-ghost use Rattle.filing_model.specs.Replies as reply;
-ghost use Rattle.filing_model.specs.Things as thing;
+ghost use Rattle.filing_model.specs.Sessions.Replies as reply;
+ghost use Rattle.filing_model.specs.Sessions.Things as thing;
 ghost use Rattle.filing_step.specs.Steps.{reply_of, thing_of};
 ghost use Rattle.filing_session.specs.Effects.{no_effect};
 
@@ -9,7 +9,7 @@ use crate::staging::Staging;
 use filing_step::{Reply, Thing};
 use std::marker::Model;
 
-/// A call for which all growths are made. Contracts see its effect.
+/// A call for which all memory is taken. Contracts see its effect.
 #[derive(Drop)]
 pub struct Ready {
     pub(crate) reply: Reply,

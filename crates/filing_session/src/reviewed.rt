@@ -1,7 +1,7 @@
 //! What a review is answered at a version, where no session is kept.
 ghost use Rattle.std.specs.Prelude.{◌≡◌, IfOk};
 ghost use Rattle.std.specs.Arc.{arc_value};
-ghost use Rattle.filing_model.specs.Sessions.{answer};
+ghost use Rattle.filing_model.specs.Sessions.Sessions.{answer};
 ghost use Rattle.filing_model.specs.declared.kind.Kind.TheVariants as kind;
 ghost use Rattle.filing_step.specs.Steps.{call_of, reply_of};
 ghost use Rattle.filing_version.specs.Filed.{repository_in};
@@ -11,7 +11,7 @@ use crate::session::effect;
 use crate::staging::Staging;
 use filing_model::Kind;
 use filing_step::{Call, Reply};
-use filing_version::{Keyring, RepoVersion};
+use filing_version::{KeyCache, RepoVersion};
 use std::alloc::{AllocError, Global};
 use std::sync::Arc;
 
@@ -34,8 +34,8 @@ pub fn reply_at(alloc: Global, version: &Arc<RepoVersion>, call: Call) -> Result
         ≡ (answer kind.Review (call_of call) (repository_in (arc_value version.now))).0) }
 {
     let staging = Staging::new(alloc, Arc::try_clone(version)?);
-    let mut keyring = Keyring::new(alloc);
-    let ready = effect(alloc, Kind::Review, &staging, &mut keyring, call);
+    let mut key_cache = KeyCache::new(alloc);
+    let ready = effect(alloc, Kind::Review, &staging, &mut key_cache, call);
     drop(staging);
     Ok(told(ready?))
 }

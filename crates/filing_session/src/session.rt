@@ -3,24 +3,24 @@ ghost use Rattle.std.specs.Prelude.{◌≡◌, ◌<◌, map, true, option_map, s
 ghost use Rattle.std.specs.Arc.{arc_value};
 ghost use Rattle.indexmap.specs.IndexSet.{spare};
 ghost use Rattle.std.specs.Option.{option_map_or};
-ghost use Rattle.filing_model.specs.Calls as call;
-ghost use Rattle.filing_model.specs.Calls.{report_of_call};
-ghost use Rattle.filing_model.specs.Repository.{report_at};
+ghost use Rattle.filing_model.specs.Sessions.Calls as call;
+ghost use Rattle.filing_model.specs.Sessions.Calls.{report_of_call};
+ghost use Rattle.filing_model.specs.Sessions.Repository.{report_at};
 ghost use Rattle.oim_fact.specs.Texts.{text_view};
-ghost use Rattle.filing_step.specs.Asked.{asked_of};
+ghost use Rattle.filing_step.specs.PeriodFilter.{period_filter_of};
 ghost use Rattle.filing_step.specs.Steps.{call_of, reply_of, thing_of};
 ghost use Rattle.filing_version.specs.Filed.{repository_in};
 ghost use Rattle.filing_session.specs.States.{opened, with_thing};
 ghost use Rattle.filing_session.specs.Effects.{effect_in, effect_on, effect_of, with_effect};
-ghost use Rattle.filing_session.specs.Held.{Answers};
-ghost use Rattle.filing_model.specs.Sessions.{may_make};
+ghost use Rattle.filing_session.specs.OpenSession.{Answers};
+ghost use Rattle.filing_model.specs.Sessions.Sessions.{may_make};
 
 use crate::ready::Ready;
 use crate::staging::Staging;
-use crate::{looks, pages, stages};
+use crate::{pages, reads, writes};
 use filing_model::Kind;
-use filing_step::{Asked, Call, Limit, Reply, Sought, Thing};
-use filing_version::{Change, Keyring, RepoVersion};
+use filing_step::{Call, Limit, PageQuery, PeriodFilter, Reply, Thing};
+use filing_version::{Change, KeyCache, RepoVersion};
 use indexmap::IndexSet;
 use oim_fact::{Allowed, DimSet, RawFact};
 use std::alloc::{AllocError, Global};
@@ -35,12 +35,12 @@ pub struct Session {
     kind: Kind,
     base: Arc<RepoVersion>,
     staging: Staging,
-    keyring: Keyring,
+    key_cache: KeyCache,
     reads: IndexSet<Thing>,
 }
 
 impl Model for Session {
-    ghost use Rattle.filing_session.specs.Held.{OpenSession};
+    ghost use Rattle.filing_session.specs.OpenSession.{OpenSession};
 
     ghost Value = { OpenSession };
 
@@ -75,50 +75,50 @@ fn may_make(kind: Kind, call: &Call) -> bool
     }
 }
 
-/// Lays what is pending over the version, where a call is answered by facts in order and not by one alone.
-fn lay_for(alloc: Global, staging: &mut Staging, call: &Call) -> Result<(), AllocError>
+/// Applies what is pending to the version, where a call is answered by facts in order and not by one alone.
+fn apply_pending_for(alloc: Global, staging: &mut Staging, call: &Call) -> Result<(), AllocError>
     ensures { staging.new ≡ staging.old }
 {
     match call {
-        Call::Cell(..) | Call::Page(..) => staging.lay(alloc),
+        Call::Cell(..) | Call::Page(..) => staging.apply_pending(alloc),
         Call::Get(..) | Call::Add(..) | Call::Remove(..) | Call::Declared(..) | Call::Declare(..) =>
             { Ok(()) }
     }
 }
 
-/// Makes the growths of a call that may be made.
-fn made(
+/// Prepares a call that may be made: allocates all that it needs.
+fn prepare_call(
     alloc: Global,
     staging: &Staging,
-    keyring: &mut Keyring,
+    key_cache: &mut KeyCache,
     call: Call,
 ) -> Result<Ready, AllocError>
     ensures { IfOk result (λ r. r ≡ effect_in (call_of call) staging.now.0 staging.now.1
         (report_at staging.now.0 (report_of_call (call_of call)))) }
 {
     match call {
-        Call::Get(report, id) => looks::get(staging, report, id),
-        Call::Cell(report, dims) => looks::cell(alloc, staging, report, dims),
-        Call::Page(report, sought, limit) => pages::page(alloc, staging, report, sought, limit),
-        Call::Add(report, id, fact) => stages::add(alloc, staging, keyring, report, id, fact),
-        Call::Remove(report, id) => stages::remove(alloc, staging, keyring, report, id),
-        Call::Declared(report) => Ok(looks::declared(staging, report)),
-        Call::Declare(report, allowed) => stages::declare(staging, report, allowed),
+        Call::Get(report, id) => reads::get(staging, report, id),
+        Call::Cell(report, dims) => reads::cell(alloc, staging, report, dims),
+        Call::Page(report, query, limit) => pages::page(alloc, staging, report, query, limit),
+        Call::Add(report, id, fact) => writes::add(alloc, staging, key_cache, report, id, fact),
+        Call::Remove(report, id) => writes::remove(alloc, staging, key_cache, report, id),
+        Call::Declared(report) => Ok(reads::declared(staging, report)),
+        Call::Declare(report, allowed) => writes::declare(staging, report, allowed),
     }
 }
 
-/// Makes the growths of a call.
+/// Prepares a call: allocates all that it needs.
 pub(crate) fn effect(
     alloc: Global,
     kind: Kind,
     staging: &Staging,
-    keyring: &mut Keyring,
+    key_cache: &mut KeyCache,
     call: Call,
 ) -> Result<Ready, AllocError>
     ensures { IfOk result (λ r. r ≡ effect_of kind (call_of call) staging.now.0 staging.now.1) }
 {
     if may_make(kind, &call) {
-        made(alloc, staging, keyring, call)
+        prepare_call(alloc, staging, key_cache, call)
     } else {
         Ok(Ready::read_only())
     }
@@ -158,7 +158,7 @@ impl Session {
             kind,
             base,
             staging: Staging::new(alloc, version),
-            keyring: Keyring::new(alloc),
+            key_cache: KeyCache::new(alloc),
             reads: IndexSet::new(alloc),
         })
     }
@@ -190,19 +190,19 @@ impl Session {
         self.staging.change()
     }
 
-    /// Makes all growths of a call. No reply changes, and nothing is read or staged.
+    /// Prepares a call: allocates all that it needs. No reply changes, and nothing is read or staged.
     pub fn ready(&mut self, call: Call) -> Result<Ready, AllocError>
         ensures effect { IfOk result (λ r. r ≡ effect_on (call_of call) self.old.state) }
         ensures room { OnOk result (self.new.has_room ≡ true) }
         ensures state { self.new.state ≡ self.old.state }
     {
         self.reads.reserve(1)?;
-        lay_for(self.alloc, &mut self.staging, &call)?;
+        apply_pending_for(self.alloc, &mut self.staging, &call)?;
         effect(
             self.alloc,
             self.kind,
             &self.staging,
-            &mut self.keyring,
+            &mut self.key_cache,
             call,
         )
     }
@@ -245,27 +245,27 @@ impl Session {
         self.call(Call::Cell(report, dims))
     }
 
-    /// The first identifiers, as many as the limit, of the facts with a concept and a period that is asked for; those that are greater than one, where one is given.
+    /// The first identifiers, as many as the limit, of the facts with a concept and a period that passes the filter; those that are greater than one, where one is given.
     pub fn page(
         &mut self,
         report: String,
         concept: String,
-        period: Asked,
+        period: PeriodFilter,
         after: Option<String>,
         limit: Limit,
     ) -> Result<Reply, AllocError>
         ensures { Answers (call.Page (string_bytes report) (record {
           concept = string_bytes concept;
-          period = asked_of period;
+          period = period_filter_of period;
           after = text_view after;
         }) limit) self.old.state self.new.state result }
     {
-        let sought = Sought {
+        let query = PageQuery {
             concept,
             period,
             after,
         };
-        self.call(Call::Page(report, sought, limit))
+        self.call(Call::Page(report, query, limit))
     }
 
     /// A fact goes under an identifier that is not there.

@@ -1,9 +1,9 @@
 //! `Staging`: what a session has staged, and the copy of its version in which that shows.
 ghost use Rattle.std.specs.Prelude.{◌≡◌, Some, option_map, string_bytes, unwrap_or, IfOk};
 ghost use Rattle.std.specs.Arc.{arc_value};
-ghost use Rattle.filing_model.specs.TextMap.{empty};
-ghost use Rattle.filing_model.specs.Changes.{laid_over, with_change, with_declared};
-ghost use Rattle.filing_model.specs.Repository.{report_at, fact_in, with_fact_at, declaring_at};
+ghost use Rattle.filing_model.specs.Common.TextMap.{empty};
+ghost use Rattle.filing_model.specs.Sessions.Changes.{laid_over, with_change, with_declared};
+ghost use Rattle.filing_model.specs.Sessions.Repository.{report_at, fact_in, with_fact_at, declaring_at};
 ghost use Rattle.filing_version.specs.Filed.{repository_in};
 ghost use Rattle.filing_version.specs.Found.{got_of};
 ghost use Rattle.filing_version.specs.Puts.{fact_seen};
@@ -15,7 +15,7 @@ use std::marker::Model;
 use std::mem;
 use std::sync::Arc;
 
-/// What is staged, and a version that has some of it. What it does not have yet is laid over it all at once, when a cell or a page is asked for; what stands at an identifier is told by both. Contracts see the copy with all that is staged, and the change.
+/// What is staged, and a version that has some of it. What it does not have yet is applied to it all at once, when a cell or a page is read; what stands at an identifier is told by both. Contracts see the copy with all that is staged, and the change.
 #[derive(Drop)]
 pub(crate) struct Staging {
     /// The version of the opening, where the other one has some of what is staged.
@@ -28,14 +28,14 @@ pub(crate) struct Staging {
 }
 
 impl Model for Staging {
-    ghost use Rattle.filing_model.specs.Repository.{Repository};
-    ghost use Rattle.filing_model.specs.Changes.{Change as PlainChange};
+    ghost use Rattle.filing_model.specs.Sessions.Repository.{Repository};
+    ghost use Rattle.filing_model.specs.Sessions.Changes.{Change as PlainChange};
 
     ghost Value = { Repository × PlainChange };
 
     ghost use Rattle.std.specs.Prelude.{◌≡◌, unwrap_or};
     ghost use Rattle.std.specs.Arc.{arc_value};
-    ghost use Rattle.filing_model.specs.Changes.{laid_over};
+    ghost use Rattle.filing_model.specs.Sessions.Changes.{laid_over};
     ghost use Rattle.filing_version.specs.Filed.{repository_in};
 
     ghost view = { λ s. (laid_over (unwrap_or s.pending s.change) (repository_in (arc_value s.version)), s.change) };
@@ -178,8 +178,8 @@ impl Staging {
         laid(alloc, &self.version, pending)
     }
 
-    /// Lays what is pending over the version, so that cells and pages are looked up in it. It changes nothing that is staged.
-    pub(crate) fn lay(&mut self, alloc: Global) -> Result<(), AllocError>
+    /// Applies what is pending to the version, so that cells and pages are looked up in it. It changes nothing that is staged.
+    pub(crate) fn apply_pending(&mut self, alloc: Global) -> Result<(), AllocError>
         ensures { self.new ≡ self.old }
     {
         if pending_of(&self.pending, &self.change).is_empty() {

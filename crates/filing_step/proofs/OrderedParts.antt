@@ -3,11 +3,11 @@ use Rattle.std.proofs.Common.{◌≡◌, ◌∙◌, ap, refl, [], ◌∷◌, ◌
 use Rattle.std.specs.Cmp.Lexicographic.{slice_cmp}
 use Rattle.std.specs.Option.{option_cmp}
 use Rattle.std.specs.Ordering.{ordering_then}
-use Rattle.filing_model.specs.Text.{Text, text_cmp}
-use Rattle.filing_model.specs.Dimensions.{Dims, dims_cmp}
-use Rattle.filing_model.specs.Calls.{Asked, Any, Without, Exactly, Sought}
-use Rattle.filing_model.specs.Things.{asked_parts, dim_parts}
-use Rattle.filing_step.specs.Ordered.{sought_order}
+use Rattle.filing_model.specs.Common.Text.{Text, text_cmp}
+use Rattle.filing_model.specs.Oim.Dimensions.{Dims, dims_cmp}
+use Rattle.filing_model.specs.Sessions.Calls.{PeriodFilter, Any, Without, Exactly, PageQuery}
+use Rattle.filing_model.specs.Sessions.Things.{asked_parts, dim_parts}
+use Rattle.filing_step.specs.Ordered.{page_query_order}
 
 abbrev part_cmp : Option Text → Option Text → Ordering
 part_cmp = option_cmp text_cmp
@@ -43,7 +43,7 @@ joined Equal Equal Equal Equal Equal Less = refl
 joined Equal Equal Equal Equal Equal Equal = refl
 joined Equal Equal Equal Equal Equal Greater = refl
 
-ranges_with : (r : Ordering) (c : Ordering) (p q : Asked) (a b u v : Option Text)
+ranges_with : (r : Ordering) (c : Ordering) (p q : PeriodFilter) (a b u v : Option Text)
     → ordering_then (ordering_then r (ordering_then (ordering_then c (slice_cmp part_cmp (asked_parts p) (asked_parts q))) (part_cmp a b))) (part_cmp u v)
     ≡ ordering_then r (ordering_then c (slice_cmp part_cmp (asked_parts p ++ a ∷ u ∷ []) (asked_parts q ++ b ∷ v ∷ [])))
 ranges_with r c Any Any a b u v = joined r c (part_cmp None None) (part_cmp None None) (part_cmp a b) (part_cmp u v)
@@ -56,8 +56,8 @@ ranges_with r c (Exactly x) Any a b u v = joined r c (part_cmp (Some x) None) (p
 ranges_with r c (Exactly x) Without a b u v = joined r c (part_cmp (Some x) None) (part_cmp None (Some [])) (part_cmp a b) (part_cmp u v)
 ranges_with r c (Exactly x) (Exactly y) a b u v = joined r c (part_cmp (Some x) (Some y)) (part_cmp None None) (part_cmp a b) (part_cmp u v)
 
-pub ranges_by_parts : (name other : Text) (s t : Sought) (u v : Option Text)
-    → ordering_then (ordering_then (text_cmp name other) (sought_order s t)) (part_cmp u v)
+pub ranges_by_parts : (name other : Text) (s t : PageQuery) (u v : Option Text)
+    → ordering_then (ordering_then (text_cmp name other) (page_query_order s t)) (part_cmp u v)
     ≡ slice_cmp part_cmp (Some name ∷ Some s.concept ∷ (asked_parts s.period ++ s.after ∷ u ∷ []))
     (Some other ∷ Some t.concept ∷ (asked_parts t.period ++ t.after ∷ v ∷ []))
 ranges_by_parts name other s t u v = ranges_with (text_cmp name other) (text_cmp s.concept t.concept) s.period t.period s.after t.after u v

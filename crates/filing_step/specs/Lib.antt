@@ -1,4 +1,4 @@
 -- What the types of steps, calls and replies are seen as.
-pub mod Asked
+pub mod PeriodFilter
 pub mod Steps
 pub mod Ordered

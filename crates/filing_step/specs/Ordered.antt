@@ -1,15 +1,15 @@
--- How two things that pages look for stand to each other, part by part. The project's own.
+-- How two page queries stand to each other, part by part. The project's own.
 use Rattle.std.specs.Cmp.Lexicographic.{slice_cmp}
 use Rattle.std.specs.Option.{option_cmp}
 use Rattle.std.specs.Ordering.{ordering_then}
 use Rattle.std.specs.declared.cmp.Ordering.{Ordering}
-use Rattle.filing_model.specs.Text.{text_cmp}
-use Rattle.filing_model.specs.Calls.{Sought}
-use Rattle.filing_model.specs.Things.{asked_parts}
+use Rattle.filing_model.specs.Common.Text.{text_cmp}
+use Rattle.filing_model.specs.Sessions.Calls.{PageQuery}
+use Rattle.filing_model.specs.Sessions.Things.{asked_parts}
 
 -- by concept, then by period, any before none, then by the identifier after which they begin, none before any
-abbrev pub sought_order : Sought → Sought → Ordering
-sought_order a b =
+abbrev pub page_query_order : PageQuery → PageQuery → Ordering
+page_query_order a b =
     ordering_then (ordering_then (text_cmp a.concept b.concept)
     (slice_cmp (option_cmp text_cmp) (asked_parts a.period) (asked_parts b.period)))
     (option_cmp text_cmp a.after b.after)

@@ -1,7 +1,7 @@
 //! `Call`: what a session may be asked.
 
-use crate::asked::Sought;
 use crate::limit::Limit;
+use crate::page_query::PageQuery;
 use oim_fact::{Allowed, DimSet, RawFact};
 
 /// What a session may be asked. Each call names its report first.
@@ -11,8 +11,8 @@ pub enum Call {
     Get(String, String),
     /// The class of a cell, and the identifiers of its facts.
     Cell(String, DimSet),
-    /// The first identifiers of what is sought.
-    Page(String, Sought, Limit),
+    /// The first identifiers that a query finds.
+    Page(String, PageQuery, Limit),
     /// A fact goes under an identifier that is not there.
     Add(String, String, RawFact),
     /// The fact of an identifier goes away.

@@ -4,14 +4,14 @@ ghost use Rattle.std.specs.Prelude.{◌≡◌};
 ghost use Rattle.std.specs.List.{fold};
 ghost use Rattle.std.specs.Bool.{Decides};
 ghost use Rattle.std.specs.Cmp.{eq_by_cmp_equiv, partial_equiv_from_equiv, on_total};
-ghost use Rattle.filing_model.specs.Things as thing;
-ghost use Rattle.filing_model.specs.Things.{thing_cmp, thing_eq, asked_hash, sought_hash, thing_hash};
-ghost use Rattle.filing_model.proofs.Things.{thing_cmp-total, things_are_keys};
+ghost use Rattle.filing_model.specs.Sessions.Things as thing;
+ghost use Rattle.filing_model.specs.Sessions.Things.{thing_cmp, thing_eq, asked_hash, page_query_hash, thing_hash};
+ghost use Rattle.filing_model.proofs.Sessions.Things.{thing_cmp-total, things_are_keys};
 ghost use Rattle.oim_fact.specs.Texts.{text_view};
-ghost use Rattle.filing_step.specs.Asked.{asked_of};
+ghost use Rattle.filing_step.specs.PeriodFilter.{period_filter_of};
 ghost use Rattle.filing_step.specs.Steps.{thing_of};
 
-use crate::asked::{Asked, Sought};
+use crate::page_query::{PageQuery, PeriodFilter};
 use crate::thing::Thing;
 use filing_model::is_same_text;
 use oim_fact::DimSet;
@@ -35,20 +35,20 @@ fn is_nullable(a: &Option<String>, b: &Option<String>) -> bool
     }
 }
 
-fn is_asked(a: &Asked, b: &Asked) -> bool
-    ensures { Decides result (asked_of a.now ≡ asked_of b.now) }
+fn is_asked(a: &PeriodFilter, b: &PeriodFilter) -> bool
+    ensures { Decides result (period_filter_of a.now ≡ period_filter_of b.now) }
 {
     match a {
-        Asked::Any => matches!(b, Asked::Any),
-        Asked::Without => matches!(b, Asked::Without),
-        Asked::Text(a) => match b {
-            Asked::Text(b) => is_text(a, b),
-            Asked::Any | Asked::Without => false,
+        PeriodFilter::Any => matches!(b, PeriodFilter::Any),
+        PeriodFilter::Without => matches!(b, PeriodFilter::Without),
+        PeriodFilter::Text(a) => match b {
+            PeriodFilter::Text(b) => is_text(a, b),
+            PeriodFilter::Any | PeriodFilter::Without => false,
         },
     }
 }
 
-fn is_sought(a: &Sought, b: &Sought) -> bool
+fn is_page_query(a: &PageQuery, b: &PageQuery) -> bool
     ensures { Decides result (a.now ≡ b.now) }
 {
     is_text(&a.concept, &b.concept)
@@ -89,13 +89,13 @@ fn is_cell(report: &str, dims: &DimSet, other: &Thing) -> bool
     }
 }
 
-fn is_range(report: &str, sought: &Sought, upto: &Option<String>, other: &Thing) -> bool
-    ensures { Decides result (thing.Range report.now sought.now (text_view upto.now) ≡ thing_of other.now) }
+fn is_range(report: &str, query: &PageQuery, upto: &Option<String>, other: &Thing) -> bool
+    ensures { Decides result (thing.Range report.now query.now (text_view upto.now) ≡ thing_of other.now) }
 {
     match other {
-        Thing::Range(name, other_sought, other_upto) => {
+        Thing::Range(name, other_query, other_upto) => {
             is_text(report, name)
-                && is_sought(sought, other_sought)
+                && is_page_query(query, other_query)
                 && is_nullable(upto, other_upto)
         }
         Thing::Report(..) | Thing::Id(..) | Thing::Cell(..) | Thing::Policy(..) => false,
@@ -118,7 +118,7 @@ fn is_thing(a: &Thing, b: &Thing) -> bool
         Thing::Report(report) => is_report(report, b),
         Thing::Id(report, id) => is_id(report, id, b),
         Thing::Cell(report, dims) => is_cell(report, dims, b),
-        Thing::Range(report, sought, upto) => is_range(report, sought, upto, b),
+        Thing::Range(report, query, upto) => is_range(report, query, upto, b),
         Thing::Policy(report) => is_policy(report, b),
     }
 }
@@ -137,25 +137,25 @@ impl Eq for Thing {
     ghost laws = { eq_by_cmp_equiv (on_total thing_of thing_cmp-total) };
 }
 
-fn hash_asked<H: Hasher>(asked: &Asked, state: &mut H)
-    ensures { state.new ≡ fold H.write state.old (asked_hash (asked_of asked.now)) }
+fn hash_asked<H: Hasher>(asked: &PeriodFilter, state: &mut H)
+    ensures { state.new ≡ fold H.write state.old (asked_hash (period_filter_of asked.now)) }
 {
     match asked {
-        Asked::Any => 0u8.hash(state),
-        Asked::Without => 1u8.hash(state),
-        Asked::Text(period) => {
+        PeriodFilter::Any => 0u8.hash(state),
+        PeriodFilter::Without => 1u8.hash(state),
+        PeriodFilter::Text(period) => {
             2u8.hash(state);
             period.hash(state);
         }
     }
 }
 
-fn hash_sought<H: Hasher>(sought: &Sought, state: &mut H)
-    ensures { state.new ≡ fold H.write state.old (sought_hash sought.now) }
+fn hash_page_query<H: Hasher>(query: &PageQuery, state: &mut H)
+    ensures { state.new ≡ fold H.write state.old (page_query_hash query.now) }
 {
-    sought.concept.hash(state);
-    hash_asked(&sought.period, state);
-    sought.after.hash(state);
+    query.concept.hash(state);
+    hash_asked(&query.period, state);
+    query.after.hash(state);
 }
 
 impl Hash for Thing {
@@ -179,10 +179,10 @@ impl Hash for Thing {
                 report.hash(state);
                 dims.hash(state);
             }
-            Thing::Range(report, sought, upto) => {
+            Thing::Range(report, query, upto) => {
                 3u8.hash(state);
                 report.hash(state);
-                hash_sought(sought, state);
+                hash_page_query(query, state);
                 upto.hash(state);
             }
             Thing::Policy(report) => {

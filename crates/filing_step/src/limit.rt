@@ -1,7 +1,7 @@
 //! `Limit`: how many identifiers a page has at most.
 
 ghost use Rattle.std.specs.Prelude.{◌≡◌, T};
-ghost use Rattle.filing_model.specs.Calls.{is_limit, limit_of};
+ghost use Rattle.filing_model.specs.Sessions.Calls.{is_limit, limit_of};
 
 use std::marker::Model;
 
@@ -13,7 +13,7 @@ pub struct Limit {
 }
 
 impl Model for Limit {
-    ghost use Rattle.filing_model.specs.Calls.{Limit as PlainLimit};
+    ghost use Rattle.filing_model.specs.Sessions.Calls.{Limit as PlainLimit};
 
     ghost Value = { PlainLimit };
 

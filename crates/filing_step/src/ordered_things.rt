@@ -4,15 +4,15 @@ ghost use Rattle.std.specs.Prelude.{◌≡◌, option_map, refl, Some};
 ghost use Rattle.std.specs.Cmp.{on_total, partial_order_from_agreeing_total};
 ghost use Rattle.std.specs.Cmp.Lexicographic.{slice_cmp};
 ghost use Rattle.std.specs.Option.{option_cmp};
-ghost use Rattle.filing_model.specs.Text.{text_cmp};
-ghost use Rattle.filing_model.specs.Things.{rank_of, asked_parts, parts_of, thing_cmp};
-ghost use Rattle.filing_model.proofs.Things.{thing_cmp-total};
+ghost use Rattle.filing_model.specs.Common.Text.{text_cmp};
+ghost use Rattle.filing_model.specs.Sessions.Things.{rank_of, asked_parts, parts_of, thing_cmp};
+ghost use Rattle.filing_model.proofs.Sessions.Things.{thing_cmp-total};
 ghost use Rattle.oim_fact.specs.Texts.{text_view};
-ghost use Rattle.filing_step.specs.Asked.{asked_of};
-ghost use Rattle.filing_step.specs.Ordered.{sought_order};
+ghost use Rattle.filing_step.specs.PeriodFilter.{period_filter_of};
+ghost use Rattle.filing_step.specs.Ordered.{page_query_order};
 ghost use Rattle.filing_step.specs.Steps.{thing_of};
 
-use crate::asked::{Asked, Sought};
+use crate::page_query::{PageQuery, PeriodFilter};
 use crate::thing::Thing;
 use std::cmp::Ordering;
 
@@ -30,20 +30,22 @@ fn order_nullable(one: &Option<String>, other: &Option<String>) -> Ordering
 }
 
 /// Any period, then none, then each by its bytes.
-fn order_asked(one: &Asked, other: &Asked) -> Ordering
-    ensures { result ≡ slice_cmp (option_cmp text_cmp) (asked_parts (asked_of one.now))
-        (asked_parts (asked_of other.now)) }
+fn order_asked(one: &PeriodFilter, other: &PeriodFilter) -> Ordering
+    ensures { result ≡ slice_cmp (option_cmp text_cmp) (asked_parts (period_filter_of one.now))
+        (asked_parts (period_filter_of other.now)) }
 {
     match (one, other) {
-        (Asked::Any, Asked::Any) | (Asked::Without, Asked::Without) => Ordering::Equal,
-        (Asked::Text(one), Asked::Text(other)) => one.cmp(other),
-        (Asked::Any, _) | (Asked::Without, Asked::Text(_)) => Ordering::Less,
-        (Asked::Without, Asked::Any) | (Asked::Text(_), _) => Ordering::Greater,
+        (PeriodFilter::Any, PeriodFilter::Any) | (PeriodFilter::Without, PeriodFilter::Without) =>
+            Ordering::Equal,
+        (PeriodFilter::Text(one), PeriodFilter::Text(other)) => one.cmp(other),
+        (PeriodFilter::Any, _) | (PeriodFilter::Without, PeriodFilter::Text(_)) => Ordering::Less,
+        (PeriodFilter::Without, PeriodFilter::Any) | (PeriodFilter::Text(_), _) =>
+            Ordering::Greater,
     }
 }
 
-fn order_sought(one: &Sought, other: &Sought) -> Ordering
-    ensures { result ≡ sought_order one.now other.now }
+fn order_sought(one: &PageQuery, other: &PageQuery) -> Ordering
+    ensures { result ≡ page_query_order one.now other.now }
 {
     one.concept
         .cmp(&other.concept)
@@ -76,10 +78,10 @@ fn order_alike(one: &Thing, other: &Thing) -> Ordering
         (Thing::Cell(report, dims), Thing::Cell(other, other_dims)) => {
             report.cmp(other).then(dims.cmp(other_dims))
         }
-        (Thing::Range(report, sought, upto), Thing::Range(other, other_sought, other_upto)) => {
+        (Thing::Range(report, query, upto), Thing::Range(other, other_query, other_upto)) => {
             report
                 .cmp(other)
-                .then(order_sought(sought, other_sought))
+                .then(order_sought(query, other_query))
                 .then(order_nullable(upto, other_upto))
         }
         (Thing::Report(report), Thing::Report(other))

@@ -1,7 +1,7 @@
 //! `SessionNames`: the names in use.
 
 ghost use Rattle.std.specs.Prelude.{◌≡◌, None, option_copied, OnOk, OnErr};
-ghost use Rattle.filing_model.specs.TextMap.{empty, get, insert, remove};
+ghost use Rattle.filing_model.specs.Common.TextMap.{empty, get, insert, remove};
 
 use std::alloc::{AllocError, Global};
 use std::collections::BTreeMap;
@@ -14,15 +14,15 @@ pub struct SessionNames<V: Drop> {
 }
 
 impl<V: Drop> Model for SessionNames<V> {
-    ghost use Rattle.filing_model.specs.TextMap.{TextMap};
-    ghost use Rattle.filing_model.specs.Keyed.{keyed_map};
+    ghost use Rattle.filing_model.specs.Common.TextMap.{TextMap};
+    ghost use Rattle.filing_model.specs.Common.Keyed.{keyed_map};
 
     ghost Value = { TextMap V };
 
     ghost view = { λ s. keyed_map (λ v. v) s.by_name.entries };
 }
 
-#[tactic(auto, using(filing_model::proofs::KeyedMaps::get_keyed_map, filing_model::proofs::KeyedMaps::keyed_map_insert_entry))]
+#[tactic(auto, using(filing_model::proofs::Common::KeyedMaps::get_keyed_map, filing_model::proofs::Common::KeyedMaps::keyed_map_insert_entry))]
 impl<V: Drop> SessionNames<V> {
     ghost use Rattle.std.specs.Prelude.{string_bytes};
 

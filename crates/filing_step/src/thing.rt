@@ -1,7 +1,7 @@
 //! `Thing`: what a session reads, and a load or a commit touches.
 
-use crate::asked::{Sought, clone_text};
-use oim_fact::DimSet;
+use crate::page_query::PageQuery;
+use oim_fact::{DimSet, clone_text};
 use std::alloc::AllocError;
 
 /// What can be read and touched. Each thing names its report first.
@@ -13,8 +13,8 @@ pub enum Thing {
     Id(String, String),
     /// A cell.
     Cell(String, DimSet),
-    /// What is sought, up to an identifier where one is given. What is sought stands by itself, so that other things and replies take half as much room.
-    Range(String, Box<Sought>, Option<String>),
+    /// A page query, up to an identifier where one is given. The query is boxed, so that other things and replies take half as much room.
+    Range(String, Box<PageQuery>, Option<String>),
     /// The allowed duplicates that the report declares.
     Policy(String),
 }
@@ -30,9 +30,9 @@ impl Clone for Thing {
             Thing::Report(report) => Ok(Thing::Report(report.clone()?)),
             Thing::Id(report, id) => Ok(Thing::Id(report.clone()?, id.clone()?)),
             Thing::Cell(report, dims) => Ok(Thing::Cell(report.clone()?, dims.clone()?)),
-            Thing::Range(report, sought, upto) => Ok(Thing::Range(
+            Thing::Range(report, query, upto) => Ok(Thing::Range(
                 report.clone()?,
-                sought.clone()?,
+                query.clone()?,
                 clone_text(upto)?,
             )),
             Thing::Policy(report) => Ok(Thing::Policy(report.clone()?)),

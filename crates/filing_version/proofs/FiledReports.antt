@@ -6,27 +6,27 @@ use Rattle.std.specs.Prelude.{◌≤◌}
 use Rattle.std.specs.List.{list_any}
 use Rattle.std.specs.Option.{option_map_or}
 use Rattle.std.specs.FinMap.Entries.{find, is_sorted, below_all}
-use Rattle.filing_model.specs.Text.{Text, text_cmp, text_eq}
-use Rattle.filing_model.specs.TextMap.{TextMap, get, insert}
-use Rattle.filing_model.specs.Facts.{Fact}
-use Rattle.filing_model.specs.Reports.{Report}
-use Rattle.filing_model.specs.Duplicates.{has_dims}
-use Rattle.filing_model.specs.Queries.{answers_query}
-use Rattle.filing_model.specs.Repository.{Repository, report_at, fact_at, fact_in, with_report}
-use Rattle.filing_model.specs.Changes.{ReportChange, Change, no_change, change_in, changed, after_change}
-use Rattle.filing_model.specs.Things as thing
-use Rattle.filing_model.specs.Things.{Thing, thing_eq, report_of}
-use Rattle.filing_model.specs.Touches.{passes_at, is_within}
-use Rattle.filing_model.specs.Stamps.{is_stamped, version_after, version_with}
-use Rattle.filing_model.proofs.TextMaps.{get-insert, get-from_entries}
-use Rattle.filing_model.proofs.Texts.{text_same, text_eq-refl}
-use Rattle.filing_model.proofs.Tests.{first_holds, second_holds}
-use Rattle.filing_model.proofs.MapsOfLists.{tied_is_not_found}
-use Rattle.filing_laws.proofs.EachElement.{Each}
-use Rattle.filing_laws.proofs.FirstFound.{each_is_found}
-use Rattle.filing_laws.proofs.EqualThings.{thing_same, thing_itself}
-use Rattle.filing_laws.proofs.LaidOver.{report_at-laid_over, fact_in-changed, repositories_same}
-use Rattle.filing_index.specs.Moves.{Move, Id, Cell, Range, moves_of, passes, is_moved_in, is_moved}
+use Rattle.filing_model.specs.Common.Text.{Text, text_cmp, text_eq}
+use Rattle.filing_model.specs.Common.TextMap.{TextMap, get, insert}
+use Rattle.filing_model.specs.Oim.Facts.{Fact}
+use Rattle.filing_model.specs.Oim.Reports.{Report}
+use Rattle.filing_model.specs.Oim.Duplicates.{has_dims}
+use Rattle.filing_model.specs.Sessions.Queries.{answers_query}
+use Rattle.filing_model.specs.Sessions.Repository.{Repository, report_at, fact_at, fact_in, with_report}
+use Rattle.filing_model.specs.Sessions.Changes.{ReportChange, Change, no_change, change_in, changed, after_change}
+use Rattle.filing_model.specs.Sessions.Things as thing
+use Rattle.filing_model.specs.Sessions.Things.{Thing, thing_eq, report_of}
+use Rattle.filing_model.specs.Histories.Touches.{passes_at, is_within}
+use Rattle.filing_model.specs.Histories.Stamps.{is_stamped, version_after, version_with}
+use Rattle.filing_model.proofs.Common.TextMaps.{get-insert, get-from_entries}
+use Rattle.filing_model.proofs.Common.Texts.{text_same, text_eq-refl}
+use Rattle.filing_model.proofs.Common.Tests.{first_holds, second_holds}
+use Rattle.filing_model.proofs.Common.MapsOfLists.{tied_is_not_found}
+use Rattle.filing_laws.proofs.Lists.EachElement.{Each}
+use Rattle.filing_laws.proofs.Updating.FirstFound.{each_is_found}
+use Rattle.filing_laws.proofs.Lists.EqualThings.{thing_same, thing_itself}
+use Rattle.filing_laws.proofs.Updating.LaidOver.{report_at-laid_over, fact_in-changed, repositories_same}
+use Rattle.filing_facts.specs.FactChanges.{FactChange, Id, Cell, Range, fact_changes_of, passes, is_touched_by, is_touched}
 use Rattle.filing_version.specs.Filed.{Filed, mapped, stamp_in, stamp_at, version_of, newly_filed, changed_filed, filed_after, ChangesWhatIsThere, IsStampedUpTo}
 
 -- ---- maps whose values are looked at
@@ -126,7 +126,7 @@ module _ (number : ℕ) (change : Change) (filed : TextMap Filed) where
         ∙ ap (λ o. Some (changed (unwrap_or o no_change) f.report)) changes)
         ∙ fact_in-changed c f.report id
 
-    abbrev move_at : Text × Option Fact → Move
+    abbrev move_at : Text × Option Fact → FactChange
     move_at e = record { id = e.0; old = get f.report.facts e.0; new = e.1 }
 
     passes_there : (test : Fact → Bool) (id : Text) (new : Option Fact) → get c.facts id ≡ Some new
@@ -135,8 +135,8 @@ module _ (number : ℕ) (change : Change) (filed : TextMap Filed) where
         option_map_or test (sym (fact_before id) i) false
         || option_map_or test (sym (fact_after id ∙ ap (λ o. unwrap_or o (fact_in f.report id)) found) i) false
 
-    -- a test of moves and one of identifiers that tell the same of each
-    any_same : (p : Move → Bool) (q : Text → Bool) (es : List (Text × Option Fact))
+    -- a test of fact changes and one of identifiers that tell the same of each
+    any_same : (p : FactChange → Bool) (q : Text → Bool) (es : List (Text × Option Fact))
         → ((id : Text) (new : Option Fact) → get c.facts id ≡ Some new → p (move_at (id, new)) ≡ q id)
         → Each (λ e. find text_cmp e.0 c.facts.entries ≡ Some e.1) es
         → list_any p (map move_at es) ≡ list_any (λ e. q e.0) es
@@ -146,18 +146,18 @@ module _ (number : ℕ) (change : Change) (filed : TextMap Filed) where
     each_there : Each (λ e. find text_cmp e.0 c.facts.entries ≡ Some e.1) c.facts.entries
     each_there = each_is_found c.facts.entries c.facts.sorted
 
-    abbrev moves : List Move
-    moves = moves_of c.facts.entries f.report.facts
+    abbrev fact_changes : List FactChange
+    fact_changes = fact_changes_of c.facts.entries f.report.facts
 
-    moved_cell : (dims : _) → is_moved moves (Cell dims) ≡ list_any (λ e. passes_at (has_dims dims) base next name e.0) c.facts.entries
-    moved_cell dims = any_same (is_moved_in (Cell dims)) (λ id. passes_at (has_dims dims) base next name id) c.facts.entries
+    moved_cell : (dims : _) → is_touched fact_changes (Cell dims) ≡ list_any (λ e. passes_at (has_dims dims) base next name e.0) c.facts.entries
+    moved_cell dims = any_same (is_touched_by (Cell dims)) (λ id. passes_at (has_dims dims) base next name id) c.facts.entries
         (λ id new found. passes_there (has_dims dims) id new found) each_there
 
-    moved_range : (sought : _) (upto : Option Text) → is_moved moves (Range sought upto)
-        ≡ list_any (λ e. is_within sought.after upto e.0 && passes_at (answers_query sought.concept sought.period) base next name e.0) c.facts.entries
-    moved_range sought upto = any_same (is_moved_in (Range sought upto)) (λ id. is_within sought.after upto id
-        && passes_at (answers_query sought.concept sought.period) base next name id) c.facts.entries
-        (λ id new found. ap (λ b. is_within sought.after upto id && b) (passes_there (answers_query sought.concept sought.period) id new found)) each_there
+    moved_range : (query : _) (upto : Option Text) → is_touched fact_changes (Range query upto)
+        ≡ list_any (λ e. is_within query.after upto e.0 && passes_at (answers_query query.concept query.period) base next name e.0) c.facts.entries
+    moved_range query upto = any_same (is_touched_by (Range query upto)) (λ id. is_within query.after upto id
+        && passes_at (answers_query query.concept query.period) base next name id) c.facts.entries
+        (λ id new found. ap (λ b. is_within query.after upto id && b) (passes_there (answers_query query.concept query.period) id new found)) each_there
 
     -- one identifier is among the changed ones exactly where something is found under it
     one_of : (q : Text → Bool) (id : Text) (es : List (Text × Option Fact))
@@ -176,9 +176,9 @@ module _ (number : ℕ) (change : Change) (filed : TextMap Filed) where
             (λ i. q (sym (text_same id e.0 same) i) || later i) ∙ absorbed (q id) (find text_cmp id es)
         by false other later = later
 
-    moved_id : (id : Text) → is_moved moves (Id id) ≡ (is_some (get c.facts id) && passes_at (λ fact. true) base next name id)
+    moved_id : (id : Text) → is_touched fact_changes (Id id) ≡ (is_some (get c.facts id) && passes_at (λ fact. true) base next name id)
     moved_id id =
-        any_same (is_moved_in (Id id)) (λ other. text_eq id other && passes_at (λ fact. true) base next name other) c.facts.entries
+        any_same (is_touched_by (Id id)) (λ other. text_eq id other && passes_at (λ fact. true) base next name other) c.facts.entries
         (λ other new found. ap (λ b. text_eq id other && b) (passes_there (λ fact. true) other new found)) each_there
         ∙ one_of (λ other. passes_at (λ fact. true) base next name other) id c.facts.entries
 
@@ -191,11 +191,11 @@ module _ (number : ℕ) (change : Change) (filed : TextMap Filed) where
     stamped_there (thing.Cell other dims) is =
         ap (λ b. cond b (number + 1) (f.stamp (Cell dims)))
         (moved_cell dims ∙ λ i. list_any (λ e. passes_at (has_dims dims) base next (sym is i) e.0) (unwrap_or (sym (ap (get change) is ∙ changes) i) no_change).facts.entries)
-    stamped_there (thing.Range other sought upto) is =
-        ap (λ b. cond b (number + 1) (f.stamp (Range sought upto)))
-        (moved_range sought upto
-        ∙ λ i. list_any (λ e. is_within sought.after upto e.0
-        && passes_at (answers_query sought.concept sought.period) base next (sym is i) e.0)
+    stamped_there (thing.Range other query upto) is =
+        ap (λ b. cond b (number + 1) (f.stamp (Range query upto)))
+        (moved_range query upto
+        ∙ λ i. list_any (λ e. is_within query.after upto e.0
+        && passes_at (answers_query query.concept query.period) base next (sym is i) e.0)
         (unwrap_or (sym (ap (get change) is ∙ changes) i) no_change).facts.entries)
     stamped_there (thing.Policy other) is =
         ap (λ o. cond (is_some (unwrap_or o no_change).declared) (number + 1) f.declared) (sym (ap (get change) is ∙ changes))
@@ -209,9 +209,9 @@ module _ (number : ℕ) (change : Change) (filed : TextMap Filed) where
   unstamped (thing.Cell name dims) is = ap
       (λ o. list_any (λ e. passes_at (has_dims dims) (version_of number filed).repository
       (after_change change (version_of number filed).repository) name e.0) (unwrap_or o no_change).facts.entries) is
-  unstamped (thing.Range name sought upto) is = ap
-      (λ o. list_any (λ e. is_within sought.after upto e.0
-      && passes_at (answers_query sought.concept sought.period) (version_of number filed).repository
+  unstamped (thing.Range name query upto) is = ap
+      (λ o. list_any (λ e. is_within query.after upto e.0
+      && passes_at (answers_query query.concept query.period) (version_of number filed).repository
       (after_change change (version_of number filed).repository) name e.0) (unwrap_or o no_change).facts.entries) is
   unstamped (thing.Policy name) is = ap (λ o. is_some (unwrap_or o no_change).declared) is
 
@@ -267,7 +267,7 @@ module _ (number : ℕ) (name : Text) (r : Report) (filed : TextMap Filed) where
   new_stamp (thing.Report other) is = sym (ap (λ b. cond b (number + 1) 0) (ap (λ n. thing_eq (thing.Report n) (thing.Report name)) is ∙ thing_itself (thing.Report name)))
   new_stamp (thing.Id other id) is = refl
   new_stamp (thing.Cell other dims) is = refl
-  new_stamp (thing.Range other sought upto) is = refl
+  new_stamp (thing.Range other query upto) is = refl
   new_stamp (thing.Policy other) is = refl
 
   other_thing : (t : Thing) → text_eq (report_of t) name ≡ false → thing_eq t (thing.Report name) ≡ false

@@ -1,15 +1,15 @@
 -- A change laid over a repository report by report, from the first to the last.
 use Rattle.std.proofs.Common.{◌≡◌, ◌∙◌, ap, sym, refl, Bool, true, false, cond, T, List, [], ◌∷◌, Option, Some, None, option_map, unwrap_or}
 use Rattle.std.specs.FinMap.Entries.{find, is_sorted, below_all}
-use Rattle.filing_model.specs.Text.{Text, text_cmp, text_eq}
-use Rattle.filing_model.specs.TextMap.{empty, insert}
-use Rattle.filing_model.specs.Reports.{Report}
-use Rattle.filing_model.specs.Repository.{Repository, report_at}
-use Rattle.filing_model.specs.Changes.{ReportChange, Change, no_change, changed, changed_at, laid_over}
-use Rattle.filing_model.specs.Stamps.{Version}
-use Rattle.filing_model.proofs.Tests.{first_holds, second_holds}
-use Rattle.filing_model.proofs.MapsOfLists.{tied_is_not_found}
-use Rattle.filing_laws.proofs.LaidOver.{repositories_same, report_at-laid_over, count-laid_over}
+use Rattle.filing_model.specs.Common.Text.{Text, text_cmp, text_eq}
+use Rattle.filing_model.specs.Common.TextMap.{empty, insert}
+use Rattle.filing_model.specs.Oim.Reports.{Report}
+use Rattle.filing_model.specs.Sessions.Repository.{Repository, report_at}
+use Rattle.filing_model.specs.Sessions.Changes.{ReportChange, Change, no_change, changed, changed_at, laid_over}
+use Rattle.filing_model.specs.Histories.Stamps.{Version}
+use Rattle.filing_model.proofs.Common.Tests.{first_holds, second_holds}
+use Rattle.filing_model.proofs.Common.MapsOfLists.{tied_is_not_found}
+use Rattle.filing_laws.proofs.Updating.LaidOver.{repositories_same, report_at-laid_over, count-laid_over}
 
 abbrev laid_in_turn : List (Text × ReportChange) → Repository → Repository
 laid_in_turn [] c = c

@@ -5,27 +5,27 @@ use Rattle.std.proofs.Common.{is_some, ℕ, arith}
 use Rattle.std.specs.Prelude.{◌≤◌}
 use Rattle.std.specs.Option.{option_map_or, option_or}
 use Rattle.std.proofs.lemmas.Bool.{and_parts}
-use Rattle.filing_model.specs.Text.{Text, text_eq}
-use Rattle.filing_model.specs.TextMap.{TextMap, get, insert}
-use Rattle.filing_model.specs.Reports.{Report}
-use Rattle.filing_model.specs.Repository.{Repository, report_at, with_fact, with_report_at}
-use Rattle.filing_model.specs.Dimensions.{Dims}
-use Rattle.filing_model.specs.Facts.{Fact}
-use Rattle.filing_model.specs.Changes.{ReportChange, Change, with_facts, declaring_if, changed, changed_at, least_changed, find_map, first_disallowed, after_change}
-use Rattle.filing_model.specs.Duplicates.{has_dims, lesser_dims}
-use Rattle.filing_model.specs.Sessions.{repository_obeys, refusal_of}
-use Rattle.filing_laws.specs.NetChange.{refusal_at}
-use Rattle.filing_laws.proofs.NewFacts.{each_change_is_decided_by_its_new_facts}
-use Rattle.filing_model.specs.Queries.{answers_query}
-use Rattle.filing_model.specs.Touches.{is_within}
+use Rattle.filing_model.specs.Common.Text.{Text, text_eq}
+use Rattle.filing_model.specs.Common.TextMap.{TextMap, get, insert}
+use Rattle.filing_model.specs.Oim.Reports.{Report}
+use Rattle.filing_model.specs.Sessions.Repository.{Repository, report_at, with_fact, with_report_at}
+use Rattle.filing_model.specs.Oim.Dimensions.{Dims}
+use Rattle.filing_model.specs.Oim.Facts.{Fact}
+use Rattle.filing_model.specs.Sessions.Changes.{ReportChange, Change, with_facts, declaring_if, changed, changed_at, least_changed, find_map, first_disallowed, after_change}
+use Rattle.filing_model.specs.Oim.Duplicates.{has_dims, lesser_dims}
+use Rattle.filing_model.specs.Sessions.Sessions.{repository_obeys, refusal_of}
+use Rattle.filing_laws.specs.Updating.NetChange.{refusal_at}
+use Rattle.filing_laws.proofs.Updating.NewFacts.{each_change_is_decided_by_its_new_facts}
+use Rattle.filing_model.specs.Sessions.Queries.{answers_query}
+use Rattle.filing_model.specs.Histories.Touches.{is_within}
 use Rattle.filing_model.specs.declared.duplicates.Allowed.{Allowed}
-use Rattle.filing_model.specs.Things as thing
-use Rattle.filing_model.specs.Things.{Thing, report_of}
-use Rattle.filing_model.proofs.TextMaps.{same_map, get-insert}
-use Rattle.filing_model.proofs.Texts.{text_same}
-use Rattle.filing_index.specs.Moves.{Part, Id, Cell, Range, Move, moves_of, passes, is_moved_in, is_moved, stamped_by, with_changes}
-use Rattle.filing_index.specs.Moved.{moves_in}
-use Rattle.filing_index.specs.Stamps.{stamp_in as part_stamp}
+use Rattle.filing_model.specs.Sessions.Things as thing
+use Rattle.filing_model.specs.Sessions.Things.{Thing, report_of}
+use Rattle.filing_model.proofs.Common.TextMaps.{same_map, get-insert}
+use Rattle.filing_model.proofs.Common.Texts.{text_same}
+use Rattle.filing_facts.specs.FactChanges.{Part, Id, Cell, Range, FactChange, fact_changes_of, passes, is_touched_by, is_touched, stamped_by, with_changes}
+use Rattle.filing_index.specs.ChangedIndexes.{fact_changes_in}
+use Rattle.filing_stamps.specs.Stamps.{stamp_in as part_stamp}
 use Rattle.filing_version.specs.Filed.{Filed, mapped, stamp_in, stamp_at, changed_filed, filed_after}
 use Rattle.filing_version.specs.Filed.{StampedReport, filed_of, StampedReports, KeepsItsStamps, IsStampedUpTo}
 use Rattle.filing_version.specs.Filed.{version_of, version_in, repository_in}
@@ -87,7 +87,7 @@ parts_up_to number m name r held up_to part = at part
     at : (part : Part) → part_stamp r.stamps part ≤ number
     at (Id id) = seen (thing.Id name id) refl
     at (Cell dims) = seen (thing.Cell name dims) refl
-    at (Range sought upto) = seen (thing.Range name sought upto) refl
+    at (Range query upto) = seen (thing.Range name query upto) refl
 
 -- ---- a report put
 
@@ -124,9 +124,9 @@ lays_one number all first e es m f held h = record {
 
     within : (t : Thing) → stamp_in t f ≤ number → stamp_in t (changed_filed number e.1 f) ≤ number
     within (thing.Report name) h = h
-    within (thing.Id name id) h = capped (is_moved (moves_of e.1.facts.entries f.report.facts) (Id id)) (f.stamp (Id id)) h
-    within (thing.Cell name dims) h = capped (is_moved (moves_of e.1.facts.entries f.report.facts) (Cell dims)) (f.stamp (Cell dims)) h
-    within (thing.Range name sought upto) h = capped (is_moved (moves_of e.1.facts.entries f.report.facts) (Range sought upto)) (f.stamp (Range sought upto)) h
+    within (thing.Id name id) h = capped (is_touched (fact_changes_of e.1.facts.entries f.report.facts) (Id id)) (f.stamp (Id id)) h
+    within (thing.Cell name dims) h = capped (is_touched (fact_changes_of e.1.facts.entries f.report.facts) (Cell dims)) (f.stamp (Cell dims)) h
+    within (thing.Range name query upto) h = capped (is_touched (fact_changes_of e.1.facts.entries f.report.facts) (Range query upto)) (f.stamp (Range query upto)) h
     within (thing.Policy name) h = capped (is_some e.1.declared) f.declared h
 
     by : (t : Thing) (b : Bool) → text_eq (report_of t) e.0 ≡ b → option_map_or (stamp_in t) (cond b (Some (changed_filed number e.1 f)) (get m (report_of t))) 0 ≤ number
@@ -202,10 +202,10 @@ with_facts-report (e ∷ es) r = ap (λ (x : Report). with_fact x e.0 e.1) (with
     by (Some fact) = refl
     by None = refl
 
--- ---- moves that touch nothing
+-- ---- fact changes that touch nothing
 
 -- what passes a test stands there
-there_where_passes : (test : Fact → Bool) (m : Move) → passes test m ≡ true → passes (λ fact. true) m ≡ true
+there_where_passes : (test : Fact → Bool) (m : FactChange) → passes test m ≡ true → passes (λ fact. true) m ≡ true
 there_where_passes test m h = by m.old m.new h
   where
     by : (o n : Option Fact) → (option_map_or test o false || option_map_or test n false) ≡ true → (option_map_or (λ fact. true) o false || option_map_or (λ fact. true) n false) ≡ true
@@ -213,26 +213,26 @@ there_where_passes test m h = by m.old m.new h
     by None (Some f) h = refl
     by (Some f) n h = refl
 
-touches_where_there : (part : Part) (m : Move) → is_moved_in part m ≡ true → passes (λ fact. true) m ≡ true
+touches_where_there : (part : Part) (m : FactChange) → is_touched_by part m ≡ true → passes (λ fact. true) m ≡ true
 touches_where_there (Id id) m h = (and_parts (text_eq id m.id) (passes (λ fact. true) m) h).1
 touches_where_there (Cell dims) m h = there_where_passes (has_dims dims) m h
-touches_where_there (Range sought upto) m h =
-    there_where_passes (answers_query sought.concept sought.period) m (and_parts (is_within sought.after upto m.id) (passes (answers_query sought.concept sought.period) m) h).1
+touches_where_there (Range query upto) m h =
+    there_where_passes (answers_query query.concept query.period) m (and_parts (is_within query.after upto m.id) (passes (answers_query query.concept query.period) m) h).1
 
-any_there : (part : Part) (ms : List Move) → is_moved (filter (passes (λ fact. true)) ms) part ≡ is_moved ms part
+any_there : (part : Part) (ms : List FactChange) → is_touched (filter (passes (λ fact. true)) ms) part ≡ is_touched ms part
 any_there part [] = refl
-any_there part (m ∷ ms) = by (any_there part ms) (passes (λ fact. true) m) refl (is_moved_in part m) refl
+any_there part (m ∷ ms) = by (any_there part ms) (passes (λ fact. true) m) refl (is_touched_by part m) refl
   where
-    by : is_moved (filter (passes (λ fact. true)) ms) part ≡ is_moved ms part → (b : Bool) → passes (λ fact. true) m ≡ b → (t : Bool) → is_moved_in part m ≡ t
-        → is_moved (cond b (m ∷ filter (passes (λ fact. true)) ms) (filter (passes (λ fact. true)) ms)) part ≡ (is_moved_in part m || is_moved ms part)
-    by later true is t touches = ap (λ b. is_moved_in part m || b) later
+    by : is_touched (filter (passes (λ fact. true)) ms) part ≡ is_touched ms part → (b : Bool) → passes (λ fact. true) m ≡ b → (t : Bool) → is_touched_by part m ≡ t
+        → is_touched (cond b (m ∷ filter (passes (λ fact. true)) ms) (filter (passes (λ fact. true)) ms)) part ≡ (is_touched_by part m || is_touched ms part)
+    by later true is t touches = ap (λ b. is_touched_by part m || b) later
     by later false is true touches = absurd (true≢false (sym (touches_where_there part m touches) ∙ is))
-    by later false is false touches = later ∙ sym (ap (λ b. b || is_moved ms part) touches)
+    by later false is false touches = later ∙ sym (ap (λ b. b || is_touched ms part) touches)
 
--- so what moves stamp is told by those that have a fact
-pub stamped_by-moves_in : (changes : List (Text × Option Fact)) (facts : TextMap Fact) (number : ℕ) (stamp : Part → ℕ)
-    → stamped_by (moves_in changes facts) number stamp ≡ stamped_by (moves_of changes facts) number stamp
-stamped_by-moves_in changes facts number stamp = λ i part. cond (any_there part (moves_of changes facts) i) number (stamp part)
+-- so what fact changes stamp is told by those that have a fact
+pub stamped_by-fact_changes_in : (changes : List (Text × Option Fact)) (facts : TextMap Fact) (number : ℕ) (stamp : Part → ℕ)
+    → stamped_by (fact_changes_in changes facts) number stamp ≡ stamped_by (fact_changes_of changes facts) number stamp
+stamped_by-fact_changes_in changes facts number stamp = λ i part. cond (any_there part (fact_changes_of changes facts) i) number (stamp part)
 
 -- ---- a changed report
 
@@ -240,20 +240,20 @@ declared_facts : (o : Option Allowed) (r : Report) → (declaring_if o r).facts 
 declared_facts None r = refl
 declared_facts (Some value) r = refl
 
-same_front : (o : Option Allowed) (front : Report) (facts after : TextMap Fact)
-    → record (declaring_if o front) { facts = after } ≡ record (declaring_if o (record front { facts = facts })) { facts = after }
-same_front None front facts after = refl
-same_front (Some value) front facts after = refl
+same_front : (o : Option Allowed) (header : Report) (facts after : TextMap Fact)
+    → record (declaring_if o header) { facts = after } ≡ record (declaring_if o (record header { facts = facts })) { facts = after }
+same_front None header facts after = refl
+same_front (Some value) header facts after = refl
 
--- the front with its declared value and the facts with their changes are the report with both
-pub changed_front : (change : ReportChange) (front : Report) (facts : TextMap Fact)
-    → record (declaring_if change.declared front) { facts = with_changes change.facts.entries facts } ≡ changed change (record front { facts = facts })
-changed_front change front facts =
-    same_front change.declared front facts (with_changes change.facts.entries facts)
-    ∙ ap (λ m. record (declaring_if change.declared (record front { facts = facts }))
+-- the header with its declared value and the facts with their changes are the report with both
+pub changed_front : (change : ReportChange) (header : Report) (facts : TextMap Fact)
+    → record (declaring_if change.declared header) { facts = with_changes change.facts.entries facts } ≡ changed change (record header { facts = facts })
+changed_front change header facts =
+    same_front change.declared header facts (with_changes change.facts.entries facts)
+    ∙ ap (λ m. record (declaring_if change.declared (record header { facts = facts }))
     { facts = with_changes change.facts.entries m })
-    (sym (declared_facts change.declared (record front { facts = facts })))
-    ∙ sym (with_facts-report change.facts.entries (declaring_if change.declared (record front { facts = facts })))
+    (sym (declared_facts change.declared (record header { facts = facts })))
+    ∙ sym (with_facts-report change.facts.entries (declaring_if change.declared (record header { facts = facts })))
 
 -- ---- another report of the same stamps
 
@@ -274,7 +274,7 @@ stamp_of_another : (t : Thing) (f : Filed) (r : Report) → stamp_in t (record f
 stamp_of_another (thing.Report name) f r = refl
 stamp_of_another (thing.Id name id) f r = refl
 stamp_of_another (thing.Cell name dims) f r = refl
-stamp_of_another (thing.Range name sought upto) f r = refl
+stamp_of_another (thing.Range name query upto) f r = refl
 stamp_of_another (thing.Policy name) f r = refl
 
 module _ (v : StampedReports) (name : Text) (old new : StampedReport) (keeps : KeepsItsStamps v.reports name old new) where

@@ -1,16 +1,16 @@
 -- The reports of a version, each with the stamps of its parts. The project's own.
 use Rattle.std.specs.Prelude.{◌≡◌, ℕ, ◌≤◌, cond, List, [], ◌∷◌, map, None, Some, is_some}
 use Rattle.std.specs.Option.{option_map_or}
-use Rattle.filing_model.specs.Text.{Text}
-use Rattle.filing_model.specs.TextMap.{TextMap, empty, get, insert, from_entries}
-use Rattle.filing_model.specs.Reports.{Report}
-use Rattle.filing_model.specs.Repository.{Repository}
-use Rattle.filing_model.specs.Changes.{ReportChange, Change, changed}
-use Rattle.filing_model.specs.Things as thing
-use Rattle.filing_model.specs.Things.{Thing, report_of}
-use Rattle.filing_model.specs.Stamps.{Version}
-use Rattle.filing_index.specs.Moves.{Part, Id, Cell, Range, moves_of, stamped_by}
-use Rattle.filing_index.specs.Stamps.{Stamp, stamp_in as part_stamp}
+use Rattle.filing_model.specs.Common.Text.{Text}
+use Rattle.filing_model.specs.Common.TextMap.{TextMap, empty, get, insert, from_entries}
+use Rattle.filing_model.specs.Oim.Reports.{Report}
+use Rattle.filing_model.specs.Sessions.Repository.{Repository}
+use Rattle.filing_model.specs.Sessions.Changes.{ReportChange, Change, changed}
+use Rattle.filing_model.specs.Sessions.Things as thing
+use Rattle.filing_model.specs.Sessions.Things.{Thing, report_of}
+use Rattle.filing_model.specs.Histories.Stamps.{Version}
+use Rattle.filing_facts.specs.FactChanges.{Part, Id, Cell, Range, fact_changes_of, stamped_by}
+use Rattle.filing_stamps.specs.Stamps.{Stamp, stamp_in as part_stamp}
 
 -- a report with the number of its load, that of the last commit that declared its value, and those of its parts
 pub record Filed : Type 0 where
@@ -28,7 +28,7 @@ abbrev pub stamp_in : Thing → Filed → ℕ
 stamp_in (thing.Report name) f = f.loaded
 stamp_in (thing.Id name id) f = f.stamp (Id id)
 stamp_in (thing.Cell name dims) f = f.stamp (Cell dims)
-stamp_in (thing.Range name sought upto) f = f.stamp (Range sought upto)
+stamp_in (thing.Range name query upto) f = f.stamp (Range query upto)
 stamp_in (thing.Policy name) f = f.declared
 
 abbrev pub stamp_at : TextMap Filed → Thing → ℕ
@@ -57,7 +57,7 @@ changed_filed number change f = record {
   report = changed change f.report;
   loaded = f.loaded;
   declared = cond (is_some change.declared) number f.declared;
-  stamp = stamped_by (moves_of change.facts.entries f.report.facts) number f.stamp;
+  stamp = stamped_by (fact_changes_of change.facts.entries f.report.facts) number f.stamp;
 }
 
 -- the reports with the change of each of these laid over it, one after another

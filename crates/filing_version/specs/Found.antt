@@ -1,7 +1,7 @@
 -- What a version finds, as code hands it out. The project's own.
 use Rattle.std.specs.Prelude.{Option, Some, None}
 use Rattle.std.specs.Arc.{arc_value}
-use Rattle.filing_model.specs.Facts.{Fact}
+use Rattle.filing_model.specs.Oim.Facts.{Fact}
 use Rattle.filing_version.specs.declared.got.Got.{Got}
 use Rattle.filing_version.specs.declared.got.Got.TheVariants.{NoReport, Absent, Found}
 

@@ -3,9 +3,9 @@ use Rattle.std.specs.Prelude.{List, [], map, Option, Some, None, option_map}
 use Rattle.std.specs.List.{flat_map}
 use Rattle.std.specs.Borrow.{Bor}
 use Rattle.std.specs.Arc.{arc_value}
-use Rattle.filing_model.specs.Text.{Text}
-use Rattle.filing_model.specs.Facts.{Fact}
-use Rattle.filing_model.specs.Changes.{ReportChange, Change}
+use Rattle.filing_model.specs.Common.Text.{Text}
+use Rattle.filing_model.specs.Oim.Facts.{Fact}
+use Rattle.filing_model.specs.Sessions.Changes.{ReportChange, Change}
 use Rattle.oim_fact.specs.SharedFacts.{FactRef}
 
 -- a report, an identifier, and the fact that is put there, or none where it is removed

@@ -1,19 +1,20 @@
 //! `Change`: what a session puts, removes and declares, by report.
 ghost use Rattle.std.specs.Prelude.{◌≡◌, ◌↔◌, option_copied, option_map, string_bytes, unwrap_or, IfOk, IsTrue, OnOk, OnErr};
 ghost use Rattle.std.specs.Arc.{arc_value};
-ghost use Rattle.filing_model.specs.TextMap.{empty, get, insert};
-ghost use Rattle.filing_model.specs.Changes.{change_at, declared_in, with_change, with_declared};
+ghost use Rattle.filing_model.specs.Common.TextMap.{empty, get, insert};
+ghost use Rattle.filing_model.specs.Sessions.Changes.{change_at, declared_in, with_change, with_declared};
 ghost use Rattle.filing_version.specs.Puts.{fact_seen, puts_of};
 
 use crate::changed_report::{ChangedReport, fact_of};
 use crate::put_record::PutRecord;
 use crate::puts::Puts;
-use filing_pages::{Named, Range, TextPages};
 use oim_fact::{Allowed, Fact};
+use sorted_pages::Range;
 use std::alloc::{AllocError, Global};
 use std::marker::Model;
 use std::mem;
 use std::sync::Arc;
+use text_map::{NamedValue, TextPages};
 
 /// What is put, removed and declared, by report. Contracts see the plain change.
 #[derive(Drop)]
@@ -23,7 +24,7 @@ pub struct Change {
 }
 
 impl Model for Change {
-    ghost use Rattle.filing_model.specs.Changes.{Change as PlainChange};
+    ghost use Rattle.filing_model.specs.Sessions.Changes.{Change as PlainChange};
 
     ghost Value = { PlainChange };
 
@@ -37,7 +38,7 @@ pub struct ReadyPut {
 }
 
 impl Model for ReadyPut {
-    ghost use Rattle.filing_model.specs.Changes.{Change as PlainChange};
+    ghost use Rattle.filing_model.specs.Sessions.Changes.{Change as PlainChange};
 
     ghost Value = { PlainChange };
 
@@ -51,7 +52,7 @@ pub struct ReadyDeclare {
 }
 
 impl Model for ReadyDeclare {
-    ghost use Rattle.filing_model.specs.Changes.{Change as PlainChange};
+    ghost use Rattle.filing_model.specs.Sessions.Changes.{Change as PlainChange};
 
     ghost Value = { PlainChange };
 
@@ -113,7 +114,7 @@ impl Change {
         self.with_record(report, put)
     }
 
-    /// Makes the growths of `put`. The change stays as it is.
+    /// Allocates all that `put` needs. The change stays as it is.
     pub fn ready(
         &self,
         report: &str,
@@ -161,7 +162,7 @@ impl Change {
         self.with_report(report, changed)
     }
 
-    /// Makes the growths of `declare`. The change stays as it is.
+    /// Allocates all that `declare` needs. The change stays as it is.
     pub fn ready_declare(&self, report: &str, allowed: Allowed) -> Result<ReadyDeclare, AllocError>
         ensures { IfOk result (λ next. next ≡ with_declared self.now report.now allowed) }
     {
@@ -213,7 +214,7 @@ impl Change {
     }
 
     /// The changed reports in byte order of their names. It takes no memory.
-    pub(crate) fn reports(&self) -> Range<'_, Named<ChangedReport>>
+    pub(crate) fn reports(&self) -> Range<'_, NamedValue<ChangedReport>>
         ensures { result ≡ self.now.entries }
     {
         self.reports.iter()

@@ -1,25 +1,26 @@
 //! What a change puts, removes and declares in one report.
 ghost use Rattle.std.specs.Prelude.{◌≡◌, Some, option_map, IfOk};
 ghost use Rattle.std.specs.Arc.{arc_value};
-ghost use Rattle.filing_model.specs.TextMap.{insert};
-ghost use Rattle.filing_model.specs.Changes.{no_change};
+ghost use Rattle.filing_model.specs.Common.TextMap.{insert};
+ghost use Rattle.filing_model.specs.Sessions.Changes.{no_change};
 ghost use Rattle.filing_version.specs.Puts.{fact_seen};
 
-use filing_pages::{Held, Keyring, Named, TextPages};
+use filing_facts::{IndexedFact, KeyCache};
 use oim_fact::{Allowed, Fact};
 use std::alloc::{AllocError, Global};
 use std::marker::Model;
 use std::sync::Arc;
+use text_map::{NamedValue, TextPages};
 
 /// The value that a report is to declare, if any, and by identifier the fact that is put there, or none where it is removed.
 #[derive(Drop)]
 pub(crate) struct ChangedReport {
     declared: Option<Allowed>,
-    facts: TextPages<Option<Held>>,
+    facts: TextPages<Option<IndexedFact>>,
 }
 
 impl Model for ChangedReport {
-    ghost use Rattle.filing_model.specs.Changes.{ReportChange};
+    ghost use Rattle.filing_model.specs.Sessions.Changes.{ReportChange};
 
     ghost Value = { ReportChange };
 
@@ -27,23 +28,23 @@ impl Model for ChangedReport {
 }
 
 /// The fact that is put, or none where it is removed.
-pub(crate) fn fact_of(put: &Option<Held>) -> Option<&Arc<Fact>>
+pub(crate) fn fact_of(put: &Option<IndexedFact>) -> Option<&Arc<Fact>>
     ensures { fact_seen result ≡ put.now }
 {
-    put.as_ref().map(Held::fact)
+    put.as_ref().map(IndexedFact::fact)
 }
 
 /// A fact that is put, or none.
 pub(crate) fn held_among(
     alloc: Global,
-    keyring: &mut Keyring,
+    key_cache: &mut KeyCache,
     fact: Option<Arc<Fact>>,
-) -> Result<Option<Held>, AllocError>
+) -> Result<Option<IndexedFact>, AllocError>
     ensures { IfOk result (λ put. put ≡ option_map arc_value fact) }
 {
     match fact {
         None => Ok(None),
-        Some(fact) => Ok(Some(Held::among(alloc, keyring, fact)?)),
+        Some(fact) => Ok(Some(IndexedFact::among(alloc, key_cache, fact)?)),
     }
 }
 
@@ -64,7 +65,7 @@ impl ChangedReport {
         self.declared
     }
 
-    pub(crate) fn facts(&self) -> &TextPages<Option<Held>>
+    pub(crate) fn facts(&self) -> &TextPages<Option<IndexedFact>>
         ensures { result.now ≡ self.now.facts }
     {
         &self.facts
@@ -74,7 +75,7 @@ impl ChangedReport {
     pub(crate) fn with_entry(
         &self,
         alloc: Global,
-        entry: Named<Option<Held>>,
+        entry: NamedValue<Option<IndexedFact>>,
     ) -> Result<ChangedReport, AllocError>
         ensures { IfOk result (λ r. r ≡ record self.now { facts = insert self.now.facts entry.0 entry.1 }) }
     {

@@ -1,23 +1,30 @@
 //! Unchanging versions of the repository, and changes of them.
 //!
-//! `change` is what a session puts, removes and declares, `changed_report` that of one report, and `puts` its puts one by one. `entries` goes through the facts of a report.
+//! - `version`: one state of the repository.
+//! - `stamped_report`: one report of a version, with the stamps of its parts.
+//! - `change`: what a session puts, removes and declares.
+//! - `changed_report`: what a change puts, removes and declares in one report.
+//! - `put_record`: a put that several changes may hold.
+//! - `puts`: the puts of a change, one by one.
+//! - `fact_entries`: the facts of a report, one by one.
+//! - `got`: what stands at an identifier.
 //!
 //! It knows nothing of sessions, of the history or of devices.
 #![tactic(auto)]
 
 mod change;
 mod changed_report;
-mod entries;
-mod filed;
+mod fact_entries;
 mod got;
 mod put_record;
 mod puts;
+mod stamped_report;
 mod version;
 
 pub use change::{Change, ReadyDeclare, ReadyPut};
-pub use entries::Entries;
-pub use filing_index::{Asked, Ids};
-pub use filing_pages::Keyring;
+pub use fact_entries::FactEntries;
+pub use filing_facts::{KeyCache, PeriodFilterRef};
+pub use filing_index::Ids;
 pub use got::Got;
 pub use put_record::PutRecord;
 pub use puts::{Put, Puts};

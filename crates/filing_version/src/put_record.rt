@@ -3,23 +3,24 @@ ghost use Rattle.std.specs.Prelude.{◌≡◌, option_map, string_bytes, IfOk};
 ghost use Rattle.std.specs.Arc.{arc_value};
 
 use crate::changed_report::held_among;
-use filing_pages::{Held, Keyring, Named};
+use filing_facts::{IndexedFact, KeyCache};
 use oim_fact::Fact;
-use sorted_pages::Entry;
+use sorted_pages::PageEntry;
 use std::alloc::{AllocError, Global};
 use std::marker::Model;
 use std::sync::Arc;
+use text_map::NamedValue;
 
 /// An identifier with the fact that is put there, or none where it is removed. Several changes may hold it. Contracts see the two.
 #[derive(Drop)]
 pub struct PutRecord {
-    entry: Named<Option<Held>>,
+    entry: NamedValue<Option<IndexedFact>>,
 }
 
 impl Model for PutRecord {
     ghost use Rattle.std.specs.Prelude.{Option};
-    ghost use Rattle.filing_model.specs.Text.{Text};
-    ghost use Rattle.filing_model.specs.Facts.{Fact as PlainFact};
+    ghost use Rattle.filing_model.specs.Common.Text.{Text};
+    ghost use Rattle.filing_model.specs.Oim.Facts.{Fact as PlainFact};
 
     ghost Value = { Text × Option PlainFact };
 
@@ -31,20 +32,20 @@ impl PutRecord {
     pub fn of(alloc: Global, id: String, fact: Option<Arc<Fact>>) -> Result<PutRecord, AllocError>
         ensures { IfOk result (λ p. p ≡ (string_bytes id, option_map arc_value fact)) }
     {
-        PutRecord::among(alloc, &mut Keyring::new(alloc), id, fact)
+        PutRecord::among(alloc, &mut KeyCache::new(alloc), id, fact)
     }
 
     /// A put among others, which shares what its fact has in common with those before it.
     pub fn among(
         alloc: Global,
-        keyring: &mut Keyring,
+        key_cache: &mut KeyCache,
         id: String,
         fact: Option<Arc<Fact>>,
     ) -> Result<PutRecord, AllocError>
         ensures { IfOk result (λ p. p ≡ (string_bytes id, option_map arc_value fact)) }
     {
-        let put = held_among(alloc, keyring, fact)?;
-        let entry = Named::new(alloc, id, put)?;
+        let put = held_among(alloc, key_cache, fact)?;
+        let entry = NamedValue::new(alloc, id, put)?;
         Ok(PutRecord { entry })
     }
 
@@ -56,7 +57,7 @@ impl PutRecord {
         Ok(PutRecord { entry })
     }
 
-    pub(crate) fn into_entry(self) -> Named<Option<Held>>
+    pub(crate) fn into_entry(self) -> NamedValue<Option<IndexedFact>>
         ensures { result ≡ self }
     {
         let PutRecord { entry } = self;

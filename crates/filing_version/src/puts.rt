@@ -5,10 +5,12 @@ ghost use Rattle.std.specs.Iterator.{YieldsFirstBy, item_count};
 ghost use Rattle.filing_version.specs.Puts.{put_seen, puts_in, puts_left};
 
 use crate::changed_report::{ChangedReport, fact_of};
-use filing_pages::{Held, Named, Range};
+use filing_facts::IndexedFact;
 use oim_fact::Fact;
+use sorted_pages::Range;
 use std::marker::Model;
 use std::sync::Arc;
+use text_map::NamedValue;
 
 /// A report, an identifier, and the fact that is put there, or none where it is removed.
 pub type Put<'a> = (&'a str, &'a str, Option<&'a Arc<Fact>>);
@@ -17,7 +19,7 @@ pub type Put<'a> = (&'a str, &'a str, Option<&'a Arc<Fact>>);
 #[derive(Drop)]
 struct InReport<'a> {
     report: &'a str,
-    facts: Range<'a, Named<Option<Held>>>,
+    facts: Range<'a, NamedValue<Option<IndexedFact>>>,
 }
 
 impl<'a> Model for InReport<'a> {
@@ -30,7 +32,7 @@ impl<'a> Model for InReport<'a> {
 }
 
 impl<'a> InReport<'a> {
-    fn of(report: &'a Named<ChangedReport>) -> InReport<'a>
+    fn of(report: &'a NamedValue<ChangedReport>) -> InReport<'a>
         ensures { result ≡ puts_in report.now }
     {
         InReport {
@@ -59,7 +61,7 @@ impl<'a> Iterator for InReport<'a> {
 #[derive(Drop)]
 pub struct Puts<'a> {
     current: Option<InReport<'a>>,
-    reports: Range<'a, Named<ChangedReport>>,
+    reports: Range<'a, NamedValue<ChangedReport>>,
 }
 
 impl<'a> Model for Puts<'a> {
@@ -74,7 +76,7 @@ impl<'a> Model for Puts<'a> {
 
 impl<'a> Puts<'a> {
     /// The puts of these reports.
-    pub(crate) fn of(reports: Range<'a, Named<ChangedReport>>) -> Puts<'a>
+    pub(crate) fn of(reports: Range<'a, NamedValue<ChangedReport>>) -> Puts<'a>
         ensures { result ≡ flat_map puts_in reports.entry }
     {
         Puts {
@@ -95,7 +97,9 @@ fn next_of<'a>(current: &mut Option<InReport<'a>>) -> Option<Put<'a>>
 }
 
 /// The first put of these reports, and those that follow it in its report.
-fn first_of<'a>(reports: &mut Range<'a, Named<ChangedReport>>) -> Option<(Put<'a>, InReport<'a>)>
+fn first_of<'a>(
+    reports: &mut Range<'a, NamedValue<ChangedReport>>,
+) -> Option<(Put<'a>, InReport<'a>)>
     ensures { MatchOption result
         ((flat_map puts_in reports.old ≡ []) × (flat_map puts_in reports.new ≡ []))
         (λ first. flat_map puts_in reports.old ≡ put_seen first.0 ∷ (first.1 ++ flat_map puts_in reports.new)) }

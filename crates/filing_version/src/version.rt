@@ -1,39 +1,40 @@
 //! `RepoVersion`: one unchanging state of the repository.
 ghost use Rattle.std.specs.Prelude.{◌≡◌, ◌+◌, ◌<◌, ◌^◌, [], ◌∷◌, None, Ok, true, Option, option_map, option_and_then, string_bytes, unwrap_or, IfOk};
 ghost use Rattle.std.specs.Arc.{arc_value};
-ghost use Rattle.filing_model.specs.Text.{Text};
-ghost use Rattle.filing_model.specs.TextMap.{get as value_at, insert};
-ghost use Rattle.filing_model.specs.Repository.{Repository, report_at, fact_in, with_report_at};
-ghost use Rattle.filing_model.specs.Things as thing;
-ghost use Rattle.filing_model.specs.Stamps.{first_version, version_after, version_with};
-ghost use Rattle.filing_model.specs.Changes.{after_change, changed, changed_at, first_disallowed, laid_over};
-ghost use Rattle.filing_model.specs.Duplicates.{class_of, least_disallowed};
-ghost use Rattle.filing_model.specs.Queries.{cell_facts, cell_ids, ids_for};
-ghost use Rattle.filing_model.specs.Sessions.{repository_obeys, refusal_of};
-ghost use Rattle.filing_laws.specs.NetChange.{refusal_at};
-ghost use Rattle.filing_index.specs.Wanted.{asked_of};
+ghost use Rattle.filing_model.specs.Common.Text.{Text};
+ghost use Rattle.filing_model.specs.Common.TextMap.{get as value_at, insert};
+ghost use Rattle.filing_model.specs.Sessions.Repository.{Repository, report_at, fact_in, with_report_at};
+ghost use Rattle.filing_model.specs.Sessions.Things as thing;
+ghost use Rattle.filing_model.specs.Histories.Stamps.{first_version, version_after, version_with};
+ghost use Rattle.filing_model.specs.Sessions.Changes.{after_change, changed, changed_at, first_disallowed, laid_over};
+ghost use Rattle.filing_model.specs.Oim.Duplicates.{class_of, least_disallowed};
+ghost use Rattle.filing_model.specs.Sessions.Queries.{cell_facts, cell_ids, ids_for};
+ghost use Rattle.filing_model.specs.Sessions.Sessions.{repository_obeys, refusal_of};
+ghost use Rattle.filing_laws.specs.Updating.NetChange.{refusal_at};
+ghost use Rattle.filing_facts.specs.PeriodFilterRef.{period_filter_of};
 ghost use Rattle.filing_version.specs.Found.{got_of};
-ghost use Rattle.filing_version.specs.Filed.{StampedReport, KeepsItsStamps, version_in, repository_in};
+ghost use Rattle.filing_version.specs.Filed.{StampedReport as PlainStampedReport, KeepsItsStamps, version_in, repository_in};
 ghost use Rattle.filing_version.specs.Filed.{mapped, filed_of, filed_after, IsStampedUpTo};
 
 use crate::change::Change;
 use crate::changed_report::ChangedReport;
-use crate::entries::Entries;
-use crate::filed::FiledReport;
+use crate::fact_entries::FactEntries;
 use crate::got::Got;
-use filing_index::{Asked, Ids};
-use filing_pages::{Named, TextPages};
+use crate::stamped_report::StampedReport;
+use filing_facts::PeriodFilterRef;
+use filing_index::Ids;
 use oim_fact::{Allowed, Class, DimSet, Fact, Names};
 use oim_report::Report;
 use std::alloc::{AllocError, Global};
 use std::marker::Model;
 use std::sync::Arc;
+use text_map::{NamedValue, TextPages};
 
 /// One state of the repository, which never changes: its reports, and the stamp of each thing, the number of the last load or commit that touched it. Reports and facts are shared with other versions. Contracts see the plain repository with its stamps, by `version_in`.
 #[derive(Drop)]
 pub struct RepoVersion {
     number: u64,
-    reports: TextPages<FiledReport>,
+    reports: TextPages<StampedReport>,
 }
 
 impl Model for RepoVersion {
@@ -50,24 +51,24 @@ impl Model for RepoVersion {
 fn changed_entry(
     alloc: Global,
     name: String,
-    filed: FiledReport,
+    filed: StampedReport,
     change: &ChangedReport,
-) -> Result<Named<FiledReport>, AllocError>
+) -> Result<NamedValue<StampedReport>, AllocError>
     ensures name { IfOk result (λ n. n.0 ≡ string_bytes name) }
     ensures report { IfOk result (λ n. filed_of n.1
         ≡ record (filed_of filed) { report = changed change.now filed.report }) }
 {
     let changed = filed.into_with_change(alloc, change)?;
-    Named::new(alloc, name, changed)
+    NamedValue::new(alloc, name, changed)
 }
 
 /// The reports with an entry, where it could be made.
 fn with_entry(
     alloc: Global,
-    reports: TextPages<FiledReport>,
-    entry: Result<Named<FiledReport>, AllocError>,
-) -> Result<TextPages<FiledReport>, AllocError>
-    ensures { IfOk result (λ next. (made : Text × StampedReport) × (entry ≡ Ok made)
+    reports: TextPages<StampedReport>,
+    entry: Result<NamedValue<StampedReport>, AllocError>,
+) -> Result<TextPages<StampedReport>, AllocError>
+    ensures { IfOk result (λ next. (made : Text × PlainStampedReport) × (entry ≡ Ok made)
         × (next ≡ insert reports made.0 made.1)) }
 {
     match entry {
@@ -82,10 +83,10 @@ fn with_entry(
 /// The reports with the change of one of them laid over it, stamped with this number; none where it is not there.
 fn with_stamped_part(
     alloc: Global,
-    reports: &TextPages<FiledReport>,
-    part: &Named<ChangedReport>,
+    reports: &TextPages<StampedReport>,
+    part: &NamedValue<ChangedReport>,
     number: u64,
-) -> Result<Option<TextPages<FiledReport>>, AllocError>
+) -> Result<Option<TextPages<StampedReport>>, AllocError>
     requires { IsStampedUpTo number (mapped filed_of reports.now) }
     ensures { IfOk result (λ o. unwrap_or (option_map (mapped filed_of) o) (mapped filed_of reports.now)
         ≡ filed_after number (part.now ∷ []) (mapped filed_of reports.now)) }
@@ -102,10 +103,10 @@ fn with_stamped_part(
 /// The same in the place of these reports, which stay where it is not there.
 fn into_stamped_part(
     alloc: Global,
-    reports: TextPages<FiledReport>,
-    part: &Named<ChangedReport>,
+    reports: TextPages<StampedReport>,
+    part: &NamedValue<ChangedReport>,
     number: u64,
-) -> Result<TextPages<FiledReport>, AllocError>
+) -> Result<TextPages<StampedReport>, AllocError>
     requires { IsStampedUpTo number (mapped filed_of reports) }
     ensures { IfOk result (λ next. mapped filed_of next
         ≡ filed_after number (part.now ∷ []) (mapped filed_of reports)) }
@@ -164,17 +165,17 @@ impl RepoVersion {
         Some(facts.cell(dims))
     }
 
-    /// The identifiers, in byte order, of the facts with a concept and a period that is asked for; those that are greater than one, where one is given. None where the report is not there.
+    /// The identifiers, in byte order, of the facts with a concept and a period that passes the filter; those that are greater than one, where one is given. None where the report is not there.
     pub fn query<'a>(
         &'a self,
         report: &str,
         concept: &'a str,
-        period: Asked<'a>,
+        period: PeriodFilterRef<'a>,
         after: Option<&str>,
     ) -> Option<Ids<'a>>
         ensures { result ≡ option_map (λ r. ids_for (record {
           concept = concept.now;
-          period = asked_of period.entry;
+          period = period_filter_of period.entry;
           after = option_map (λ t. t.now) after.entry;
         }) r.facts) (report_at (repository_in self.now) report.now) }
     {
@@ -183,10 +184,10 @@ impl RepoVersion {
     }
 
     /// The facts of a report under their identifiers, in byte order of these, or none where it is not there.
-    pub fn entries(&self, report: &str) -> Option<Entries<'_>>
+    pub fn entries(&self, report: &str) -> Option<FactEntries<'_>>
         ensures { result ≡ option_map (λ r. r.facts.entries) (report_at (repository_in self.now) report.now) }
     {
-        Some(Entries::of(self.reports.get(report)?.facts().iter()))
+        Some(FactEntries::of(self.reports.get(report)?.facts().iter()))
     }
 
     /// The compact text of the `documentInfo` of a report, or none where it is not there.
@@ -233,7 +234,7 @@ impl RepoVersion {
             ≡ version_with (string_bytes name) (arc_value report.now) (version_in self.now)) }
     {
         let number = self.number + 1;
-        let filed = FiledReport::new(alloc, report, number)?;
+        let filed = StampedReport::new(alloc, report, number)?;
         let reports = self.reports.with(alloc, name, filed)?;
         Ok(RepoVersion { number, reports })
     }
@@ -269,9 +270,9 @@ impl RepoVersion {
         &self,
         alloc: Global,
         name: String,
-        filed: FiledReport,
+        filed: StampedReport,
     ) -> Result<RepoVersion, AllocError>
-        requires { (old : StampedReport) × KeepsItsStamps self.now.reports (string_bytes name) old filed }
+        requires { (old : PlainStampedReport) × KeepsItsStamps self.now.reports (string_bytes name) old filed }
         ensures { IfOk result (λ v. version_in v ≡ record (version_in self.now) {
           repository = with_report_at (repository_in self.now) (string_bytes name) filed.report;
         }) }
@@ -287,7 +288,7 @@ impl RepoVersion {
     fn with_part(
         &self,
         alloc: Global,
-        part: &Named<ChangedReport>,
+        part: &NamedValue<ChangedReport>,
     ) -> Result<RepoVersion, AllocError>
         ensures { IfOk result (λ v. version_in v
             ≡ record (version_in self.now) { repository = changed_at (repository_in self.now) part.now }) }
@@ -313,7 +314,7 @@ impl RepoVersion {
     fn into_with_copied_part(
         self,
         alloc: Global,
-        part: &Named<ChangedReport>,
+        part: &NamedValue<ChangedReport>,
     ) -> Result<RepoVersion, AllocError>
         ensures { IfOk result (λ v. version_in v
             ≡ record (version_in self) { repository = changed_at (repository_in self) part.now }) }
@@ -327,7 +328,7 @@ impl RepoVersion {
     fn into_with_part(
         self,
         alloc: Global,
-        part: &Named<ChangedReport>,
+        part: &NamedValue<ChangedReport>,
     ) -> Result<RepoVersion, AllocError>
         ensures { IfOk result (λ v. version_in v
             ≡ record (version_in self) { repository = changed_at (repository_in self) part.now }) }
@@ -381,7 +382,7 @@ impl RepoVersion {
         Some(self.reports.get(report)?.allowed())
     }
 
-    /// Asked of the version that a change made: the least report, and in it the least dimensions, whose cell it does not allow, among the cells of the facts that are put, and among all cells of a report for which a value is declared.
+    /// In the version that a change made: the least report, and in it the least dimensions, whose cell it does not allow, among the cells of the facts that are put, and among all cells of a report for which a value is declared.
     ///
     /// Where the version before obeyed, this decides the commit: it is the least of all.
     pub fn first_disallowed<'a>(&'a self, change: &'a Change) -> Option<(&'a str, &'a DimSet)>
@@ -441,18 +442,18 @@ impl RepoVersion {
         }
     }
 
-    /// The number of the last commit that touched what is asked for, up to an identifier where one is given, or 0.
+    /// The number of the last commit that touched what a query finds, up to an identifier where one is given, or 0.
     pub fn stamp_range(
         &self,
         report: &str,
         concept: &str,
-        period: Asked<'_>,
+        period: PeriodFilterRef<'_>,
         after: Option<&str>,
         upto: Option<&str>,
     ) -> u64
         ensures { result ≡ (version_in self.now).stamp (thing.Range report.now (record {
           concept = concept.now;
-          period = asked_of period.entry;
+          period = period_filter_of period.entry;
           after = option_map (λ t. t.now) after.entry;
         }) (option_map (λ t. t.now) upto.entry)) }
     {

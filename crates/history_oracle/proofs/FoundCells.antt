@@ -7,18 +7,18 @@ use Rattle.std.specs.Option.{option_map_or}
 use Rattle.std.specs.declared.sync.Arc.{Arc}
 use Rattle.std.specs.declared.alloc.Global.{Global}
 use borrow.Author.Tests.{ltb-true, ltb-false}
-use Rattle.filing_model.specs.Text.{Text}
-use Rattle.filing_model.specs.Dimensions.{Dims}
-use Rattle.filing_model.specs.Facts.{Fact}
-use Rattle.filing_model.specs.Reports.{Report}
-use Rattle.filing_model.specs.Replies as reply
-use Rattle.filing_model.specs.Duplicates.{class_of, facts_of, cell_of, has_dims, least_disallowed}
-use Rattle.filing_model.specs.Sessions.{disallowed_cell}
-use Rattle.filing_model.specs.ByPairs.{least_disallowed_place}
+use Rattle.filing_model.specs.Common.Text.{Text}
+use Rattle.filing_model.specs.Oim.Dimensions.{Dims}
+use Rattle.filing_model.specs.Oim.Facts.{Fact}
+use Rattle.filing_model.specs.Oim.Reports.{Report}
+use Rattle.filing_model.specs.Sessions.Replies as reply
+use Rattle.filing_model.specs.Oim.Duplicates.{class_of, facts_of, cell_of, has_dims, least_disallowed}
+use Rattle.filing_model.specs.Sessions.Sessions.{disallowed_cell}
+use Rattle.filing_model.specs.Oim.ByPairs.{least_disallowed_place}
 use Rattle.filing_model.specs.declared.duplicates.Class.{Class}
 use Rattle.filing_model.specs.declared.duplicates.Class.TheVariants.{Empty}
-use Rattle.filing_model.proofs.ByPairs.{position_view}
-use Rattle.filing_model.proofs.DimensionSets.{dims_decides}
+use Rattle.filing_model.proofs.Oim.ByPairs.{position_view}
+use Rattle.filing_model.proofs.Oim.DimensionSets.{dims_decides}
 use Rattle.oim_fact.specs.declared.fact.Fact as code
 use Rattle.oim_report.specs.Parts.{facts_view}
 use Rattle.history_oracle.specs.Cells.{IsCellOf}

@@ -7,7 +7,7 @@ use Rattle.std.specs.declared.sync.Arc.{Arc}
 use Rattle.std.specs.declared.alloc.Global.{Global}
 use Rattle.std.specs.declared.cmp.Ordering.TheVariants.{Less, Equal, Greater}
 use Rattle.std.specs.FinMap.Entries.{find, put, where_key, by_order}
-use Rattle.filing_model.specs.Text.{Text, text_cmp, text_eq}
+use Rattle.filing_model.specs.Common.Text.{Text, text_cmp, text_eq}
 use Rattle.oim_fact.specs.declared.fact.Fact as code
 use Rattle.oim_report.specs.Parts.{facts_view}
 use Rattle.history_oracle.specs.Named.{named}

@@ -5,14 +5,14 @@ use Rattle.std.specs.Cmp.Lexicographic.{nat_list_cmp_total}
 use Rattle.std.specs.List.{filter}
 use Rattle.std.specs.FinMap.{slice_cmp-IsAntisymmetric, nat_cmp-IsAntisymmetric}
 use Rattle.std.specs.FinMap.Entries.{find, put, where_key, is_sorted, is_sorted-put, is_sorted-where_key, find-where_key}
-use Rattle.filing_model.specs.Text.{Text, text_cmp, text_eq}
-use Rattle.filing_model.specs.TextMap.{TextMap, get, insert, remove, from_entries}
-use Rattle.filing_model.specs.Facts.{Fact}
-use Rattle.filing_model.specs.Reports.{Report}
-use Rattle.filing_model.specs.Repository.{Repository, report_at, with_fact, with_report, with_report_at}
-use Rattle.filing_model.proofs.TextMaps.{get-from_entries, from_entries-put, same_map}
-use Rattle.filing_model.specs.Sessions.{refusal_of}
-use Rattle.filing_model.proofs.MapsOfLists.{from_entries-sorted}
+use Rattle.filing_model.specs.Common.Text.{Text, text_cmp, text_eq}
+use Rattle.filing_model.specs.Common.TextMap.{TextMap, get, insert, remove, from_entries}
+use Rattle.filing_model.specs.Oim.Facts.{Fact}
+use Rattle.filing_model.specs.Oim.Reports.{Report}
+use Rattle.filing_model.specs.Sessions.Repository.{Repository, report_at, with_fact, with_report, with_report_at}
+use Rattle.filing_model.proofs.Common.TextMaps.{get-from_entries, from_entries-put, same_map}
+use Rattle.filing_model.specs.Sessions.Sessions.{refusal_of}
+use Rattle.filing_model.proofs.Common.MapsOfLists.{from_entries-sorted}
 use Rattle.oim_report.specs.Parts.{Parts, AreParts, parts_of, whole}
 use Rattle.history_oracle.specs.Cells.{refusal_among}
 

@@ -2,13 +2,13 @@
 use Rattle.std.specs.Prelude.{◌≡◌, Bool, not, List, map, Option, option_map}
 use Rattle.std.specs.List.{find}
 use Rattle.std.specs.Arc.{arc_value}
-use Rattle.filing_model.specs.Text.{Text}
-use Rattle.filing_model.specs.Dimensions.{Dims}
-use Rattle.filing_model.specs.Facts.{Fact}
-use Rattle.filing_model.specs.Reports.{Report}
-use Rattle.filing_model.specs.Replies.{Reply}
-use Rattle.filing_model.specs.Sessions.{report_obeys, disallowed_cell}
-use Rattle.filing_model.specs.Duplicates.{obeys, cell_of, facts_of}
+use Rattle.filing_model.specs.Common.Text.{Text}
+use Rattle.filing_model.specs.Oim.Dimensions.{Dims}
+use Rattle.filing_model.specs.Oim.Facts.{Fact}
+use Rattle.filing_model.specs.Oim.Reports.{Report}
+use Rattle.filing_model.specs.Sessions.Replies.{Reply}
+use Rattle.filing_model.specs.Sessions.Sessions.{report_obeys, disallowed_cell}
+use Rattle.filing_model.specs.Oim.Duplicates.{obeys, cell_of, facts_of}
 use Rattle.filing_model.specs.declared.duplicates.Allowed.{Allowed}
 use Rattle.history_oracle.specs.declared.cells.Held.{Held}
 

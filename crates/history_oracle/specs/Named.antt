@@ -2,7 +2,7 @@
 use Rattle.std.specs.Prelude.{List, ◌++◌, Option, Some, None, map, String, string_bytes}
 use Rattle.std.specs.FinMap.Entries.{put}
 use Rattle.std.specs.declared.alloc.Global.{Global}
-use Rattle.filing_model.specs.Text.{Text, text_cmp}
+use Rattle.filing_model.specs.Common.Text.{Text, text_cmp}
 
 abbrev pub named : {X : Type 0} → List (String Global × X) → List (Text × X)
 named entries = map (λ e. (string_bytes e.0, e.1)) entries

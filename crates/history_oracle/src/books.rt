@@ -2,9 +2,9 @@
 
 ghost use Rattle.std.specs.Prelude.{◌≡◌, ◌+◌, ◌<◌, ◌^◌, Some, None, option_map, string_bytes, IfOk};
 ghost use Rattle.std.specs.Arc.{arc_value};
-ghost use Rattle.filing_model.specs.Repository.{nothing, report_at, fact_in, fact_at, with_fact, with_fact_at, with_report, with_report_at, declaring_at};
-ghost use Rattle.filing_model.specs.DeclaredValue.{report_declaring};
-ghost use Rattle.filing_model.specs.Sessions.{refusal_of, commit_reply, commit_result};
+ghost use Rattle.filing_model.specs.Sessions.Repository.{nothing, report_at, fact_in, fact_at, with_fact, with_fact_at, with_report, with_report_at, declaring_at};
+ghost use Rattle.filing_model.specs.Reading.DeclaredValue.{report_declaring};
+ghost use Rattle.filing_model.specs.Sessions.Sessions.{refusal_of, commit_reply, commit_result};
 ghost use Rattle.filing_step.specs.Steps.{reply_of};
 ghost use Rattle.history_oracle.specs.Named.{named};
 ghost use Rattle.history_oracle.specs.Cells.{refusal_among};
@@ -28,9 +28,9 @@ pub struct Books {
 impl Model for Books {
     ghost use Rattle.std.specs.Prelude.{T};
     ghost use Rattle.std.specs.FinMap.Entries.{is_sorted};
-    ghost use Rattle.filing_model.specs.Text.{text_cmp};
-    ghost use Rattle.filing_model.specs.TextMap.{from_entries};
-    ghost use Rattle.filing_model.specs.Repository.{Repository};
+    ghost use Rattle.filing_model.specs.Common.Text.{text_cmp};
+    ghost use Rattle.filing_model.specs.Common.TextMap.{from_entries};
+    ghost use Rattle.filing_model.specs.Sessions.Repository.{Repository};
     ghost use Rattle.history_oracle.specs.Named.{named};
 
     ghost Value = { Repository };

@@ -3,8 +3,8 @@
 ghost use Rattle.std.specs.Prelude.{◌≡◌, map, string_bytes, IfOk};
 ghost use Rattle.std.specs.Arc.{arc_value};
 ghost use Rattle.std.specs.List.{list_all};
-ghost use Rattle.filing_model.specs.Duplicates.{permits, pair_of, facts_of};
-ghost use Rattle.filing_model.specs.Sessions.{report_obeys, disallowed_cell, cell_found};
+ghost use Rattle.filing_model.specs.Oim.Duplicates.{permits, pair_of, facts_of};
+ghost use Rattle.filing_model.specs.Sessions.Sessions.{report_obeys, disallowed_cell, cell_found};
 ghost use Rattle.oim_report.specs.Parts.{facts_view};
 ghost use Rattle.filing_step.specs.Steps.{reply_of};
 ghost use Rattle.history_oracle.specs.Cells.{held_fact, obey, IsCellOf};

@@ -2,7 +2,7 @@
 
 ghost use Rattle.std.specs.Prelude.{◌≡◌, ◌∷◌, List, Some, not, option_map, string_bytes, IfOk};
 ghost use Rattle.std.specs.FinMap.Entries.{find, put, where_key};
-ghost use Rattle.filing_model.specs.Text.{Text, text_cmp, text_eq};
+ghost use Rattle.filing_model.specs.Common.Text.{Text, text_cmp, text_eq};
 ghost use Rattle.history_oracle.specs.Named.{named, put_into};
 
 use filing_model::is_same_text;

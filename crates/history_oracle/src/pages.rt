@@ -3,14 +3,14 @@
 ghost use Rattle.std.specs.Prelude.{◌≡◌, ◌&&◌, ℕ, map, option_map, string_bytes, IfOk};
 ghost use Rattle.oim_fact.specs.Texts.{text_view};
 ghost use Rattle.oim_report.specs.Parts.{facts_view};
-ghost use Rattle.filing_model.specs.Queries.{is_asked, answers_query, is_after, ids_for, first_cut};
-ghost use Rattle.filing_model.specs.Sessions.{page_found};
-ghost use Rattle.filing_step.specs.Asked.{asked_of};
+ghost use Rattle.filing_model.specs.Sessions.Queries.{is_asked, answers_query, is_after, ids_for, first_cut};
+ghost use Rattle.filing_model.specs.Sessions.Sessions.{page_found};
+ghost use Rattle.filing_step.specs.PeriodFilter.{period_filter_of};
 ghost use Rattle.filing_step.specs.Steps.{reply_of};
-ghost use Rattle.history_oracle.specs.Pages.{is_sought, ids_among};
+ghost use Rattle.history_oracle.specs.Pages.{is_page_query, ids_among};
 
 use filing_model::is_same_text;
-use filing_step::{Asked, Limit, Reply, Sought};
+use filing_step::{Limit, PageQuery, PeriodFilter, Reply};
 use oim_fact::Fact;
 use oim_report::Report;
 use std::alloc::{AllocError, Global};
@@ -18,13 +18,13 @@ use std::cmp::Ordering;
 use std::sync::Arc;
 
 /// Whether a period, or none, is one that was asked for.
-fn is_asked(asked: &Asked, period: Option<&str>) -> bool
-    ensures { result ≡ is_asked (asked_of asked.now) (option_map (λ t. t.now) period.entry) }
+fn is_asked(asked: &PeriodFilter, period: Option<&str>) -> bool
+    ensures { result ≡ is_asked (period_filter_of asked.now) (option_map (λ t. t.now) period.entry) }
 {
     match asked {
-        Asked::Any => true,
-        Asked::Without => period.is_none(),
-        Asked::Text(text) => match period {
+        PeriodFilter::Any => true,
+        PeriodFilter::Without => period.is_none(),
+        PeriodFilter::Text(text) => match period {
             Some(period) => is_same_text(text, period),
             None => false,
         },
@@ -32,40 +32,39 @@ fn is_asked(asked: &Asked, period: Option<&str>) -> bool
 }
 
 /// Whether a fact has the concept and a period asked for.
-pub(crate) fn answers_query(sought: &Sought, fact: &Fact) -> bool
-    ensures { result ≡ answers_query sought.now.concept sought.now.period fact.now }
+pub(crate) fn answers_query(query: &PageQuery, fact: &Fact) -> bool
+    ensures { result ≡ answers_query query.now.concept query.now.period fact.now }
 {
-    is_same_text(&sought.concept, fact.dims.concept())
-        && is_asked(&sought.period, fact.dims.period())
+    is_same_text(&query.concept, fact.dims.concept()) && is_asked(&query.period, fact.dims.period())
 }
 
 /// Whether an identifier is greater than the one that a page goes on after.
-pub(crate) fn is_after(sought: &Sought, id: &str) -> bool
-    ensures { result ≡ is_after sought.now.after id.now }
+pub(crate) fn is_after(query: &PageQuery, id: &str) -> bool
+    ensures { result ≡ is_after query.now.after id.now }
 {
-    match &sought.after {
+    match &query.after {
         Some(last) => last.as_str().cmp(id) == Ordering::Less,
         None => true,
     }
 }
 
-fn is_sought(sought: &Sought, id: &str, fact: &Fact) -> bool
-    ensures { result ≡ is_sought sought.now (id.now, fact.now) }
+fn is_page_query(query: &PageQuery, id: &str, fact: &Fact) -> bool
+    ensures { result ≡ is_page_query query.now (id.now, fact.now) }
 {
-    answers_query(sought, fact) && is_after(sought, id)
+    answers_query(query, fact) && is_after(query, id)
 }
 
 /// The identifiers of those among some facts that are looked for.
 fn ids_among(
     alloc: Global,
-    sought: &Sought,
+    query: &PageQuery,
     facts: &[(String, Arc<Fact>)],
 ) -> Result<Vec<String>, AllocError>
-    ensures { IfOk result (λ v. map string_bytes v.items ≡ ids_among sought.now (facts_view facts.now)) }
+    ensures { IfOk result (λ v. map string_bytes v.items ≡ ids_among query.now (facts_view facts.now)) }
 {
     let mut ids = Vec::new(alloc);
     for (id, fact) in facts {
-        if is_sought(sought, id, fact) {
+        if is_page_query(query, id, fact) {
             ids.push(id.clone()?)?;
         }
     }
@@ -75,12 +74,12 @@ fn ids_among(
 /// All that a page looks for, in byte order.
 pub(crate) fn ids_for(
     alloc: Global,
-    sought: &Sought,
+    query: &PageQuery,
     report: &Report,
 ) -> Result<Vec<String>, AllocError>
-    ensures { IfOk result (λ v. map string_bytes v.items ≡ ids_for sought.now report.now.facts) }
+    ensures { IfOk result (λ v. map string_bytes v.items ≡ ids_for query.now report.now.facts) }
 {
-    ids_among(alloc, sought, report.facts())
+    ids_among(alloc, query, report.facts())
 }
 
 /// The first identifier that the limit cuts.
@@ -98,13 +97,13 @@ pub(crate) fn first_cut(limit: u64, ids: &[String]) -> Option<&String>
 /// The reply that tells a page of a report.
 pub(crate) fn page_found(
     alloc: Global,
-    sought: &Sought,
+    query: &PageQuery,
     limit: Limit,
     report: &Report,
 ) -> Result<Reply, AllocError>
-    ensures { IfOk result (λ r. reply_of r ≡ page_found sought.now limit report.now) }
+    ensures { IfOk result (λ r. reply_of r ≡ page_found query.now limit report.now) }
 {
-    let mut ids = ids_for(alloc, sought, report)?;
+    let mut ids = ids_for(alloc, query, report)?;
     let more = first_cut(limit.number(), &ids).is_some();
     ids.truncate(limit.number() as usize);
     Ok(Reply::Page(ids, more))

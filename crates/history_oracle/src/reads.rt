@@ -3,18 +3,18 @@
 ghost use Rattle.std.specs.Prelude.{◌≡◌, ◌∷◌, not, map, IfOk, option_map, string_bytes};
 ghost use Rattle.std.specs.List.{filter};
 ghost use Rattle.oim_fact.specs.Texts.{text_view};
-ghost use Rattle.filing_model.specs.Calls.{report_of_call};
-ghost use Rattle.filing_model.specs.Queries.{ids_for, first_cut};
-ghost use Rattle.filing_model.specs.Sessions.{answer};
-ghost use Rattle.filing_model.specs.Things as thing;
-ghost use Rattle.filing_model.specs.Things.{thing_eq};
-ghost use Rattle.filing_model.specs.Touches.{read_in, read_by, things_read};
+ghost use Rattle.filing_model.specs.Sessions.Calls.{report_of_call};
+ghost use Rattle.filing_model.specs.Sessions.Queries.{ids_for, first_cut};
+ghost use Rattle.filing_model.specs.Sessions.Sessions.{answer};
+ghost use Rattle.filing_model.specs.Sessions.Things as thing;
+ghost use Rattle.filing_model.specs.Sessions.Things.{thing_eq};
+ghost use Rattle.filing_model.specs.Histories.Touches.{read_in, read_by, things_read};
 ghost use Rattle.filing_step.specs.Steps.{call_of, thing_of};
 
 use crate::answers::{answer, may_make};
 use crate::books::Books;
 use crate::pages::{first_cut, ids_for};
-use filing_step::{Call, Kind, Limit, Sought, Thing};
+use filing_step::{Call, Kind, Limit, PageQuery, Thing};
 use oim_report::Report;
 use std::alloc::{AllocError, Global};
 
@@ -35,13 +35,13 @@ fn report_name(call: &Call) -> &str
 /// The first identifier that a page's limit cuts.
 fn cut_of(
     alloc: Global,
-    sought: &Sought,
+    query: &PageQuery,
     limit: Limit,
     report: &Report,
 ) -> Result<Option<String>, AllocError>
-    ensures { IfOk result (λ o. text_view o ≡ first_cut limit.number (ids_for sought.now report.now.facts)) }
+    ensures { IfOk result (λ o. text_view o ≡ first_cut limit.number (ids_for query.now report.now.facts)) }
 {
-    let ids = ids_for(alloc, sought, report)?;
+    let ids = ids_for(alloc, query, report)?;
     match first_cut(limit.number(), &ids) {
         Some(id) => Ok(Some(id.clone()?)),
         None => Ok(None),
@@ -59,16 +59,16 @@ fn thing_at(name: &String, id: &String) -> Result<Thing, AllocError>
 fn range_of(
     alloc: Global,
     name: &String,
-    sought: &Sought,
+    query: &PageQuery,
     limit: Limit,
     report: &Report,
 ) -> Result<Thing, AllocError>
-    ensures { IfOk result (λ t. thing_of t ≡ thing.Range (string_bytes name.now) sought.now
-        (first_cut limit.number (ids_for sought.now report.now.facts))) }
+    ensures { IfOk result (λ t. thing_of t ≡ thing.Range (string_bytes name.now) query.now
+        (first_cut limit.number (ids_for query.now report.now.facts))) }
 {
-    let upto = cut_of(alloc, sought, limit, report)?;
-    let sought = Box::new(alloc, sought.clone()?)?;
-    Ok(Thing::Range(name.clone()?, sought, upto))
+    let upto = cut_of(alloc, query, limit, report)?;
+    let query = Box::new(alloc, query.clone()?)?;
+    Ok(Thing::Range(name.clone()?, query, upto))
 }
 
 /// What a call looks at in its report.
@@ -80,8 +80,8 @@ fn read_in(alloc: Global, call: &Call, report: &Report) -> Result<Option<Thing>,
         Call::Remove(name, id) => Ok(Some(thing_at(name, id)?)),
         Call::Add(name, id, _) => Ok(Some(thing_at(name, id)?)),
         Call::Cell(name, dims) => Ok(Some(Thing::Cell(name.clone()?, dims.clone()?))),
-        Call::Page(name, sought, limit) => {
-            Ok(Some(range_of(alloc, name, sought, *limit, report)?))
+        Call::Page(name, query, limit) => {
+            Ok(Some(range_of(alloc, name, query, *limit, report)?))
         }
         Call::Declared(name) => Ok(Some(Thing::Policy(name.clone()?))),
         Call::Declare(_, _) => Ok(None),

@@ -3,17 +3,17 @@
 ghost use Rattle.std.specs.Prelude.{◌≡◌, false, map, IfOk, option_map, string_bytes};
 ghost use Rattle.std.specs.Option.{option_map_or};
 ghost use Rattle.oim_fact.specs.Texts.{text_view};
-ghost use Rattle.filing_model.specs.Repository.{fact_at};
-ghost use Rattle.filing_model.specs.Duplicates.{has_dims};
-ghost use Rattle.filing_model.specs.Queries.{answers_query};
-ghost use Rattle.filing_model.specs.Touches.{is_within};
+ghost use Rattle.filing_model.specs.Sessions.Repository.{fact_at};
+ghost use Rattle.filing_model.specs.Oim.Duplicates.{has_dims};
+ghost use Rattle.filing_model.specs.Sessions.Queries.{answers_query};
+ghost use Rattle.filing_model.specs.Histories.Touches.{is_within};
 ghost use Rattle.filing_step.specs.Steps.{call_of, reply_of, thing_of};
 ghost use Rattle.history_oracle.specs.Touched.{is_kept, lies_in, put_touches, declares_in, call_touches, some_call_touches};
 
 use crate::books::Books;
 use crate::pages::{answers_query, is_after};
 use filing_model::is_same_text;
-use filing_step::{Call, Reply, Sought, Thing};
+use filing_step::{Call, PageQuery, Reply, Thing};
 use oim_fact::DimSet;
 use std::cmp::Ordering;
 
@@ -37,21 +37,21 @@ fn is_in_cell(dims: &DimSet, books: &Books, name: &str, id: &str) -> bool
 }
 
 /// Whether a fact is there that is looked for.
-fn is_in_query(sought: &Sought, books: &Books, name: &str, id: &str) -> bool
-    ensures { result ≡ option_map_or (answers_query sought.now.concept sought.now.period)
+fn is_in_query(query: &PageQuery, books: &Books, name: &str, id: &str) -> bool
+    ensures { result ≡ option_map_or (answers_query query.now.concept query.now.period)
         (fact_at books.now name.now id.now) false }
 {
     match books.fact(name, id) {
-        Some(fact) => answers_query(sought, fact),
+        Some(fact) => answers_query(query, fact),
         None => false,
     }
 }
 
 /// Whether an identifier is one that a page looked at, as far as this one.
-fn is_within(sought: &Sought, upto: &Option<String>, id: &str) -> bool
-    ensures { result ≡ is_within sought.now.after (text_view upto.now) id.now }
+fn is_within(query: &PageQuery, upto: &Option<String>, id: &str) -> bool
+    ensures { result ≡ is_within query.now.after (text_view upto.now) id.now }
 {
-    is_after(sought, id)
+    is_after(query, id)
         && match upto {
             Some(last) => last.as_str().cmp(id) != Ordering::Less,
             None => true,
@@ -77,11 +77,11 @@ fn lies_in(commit: &Commit, thing: &Thing, name: &str, id: &str) -> bool
                 && (is_in_cell(dims, &commit.before, report, id)
                     || is_in_cell(dims, &commit.after, report, id))
         }
-        Thing::Range(report, sought, upto) => {
+        Thing::Range(report, query, upto) => {
             is_same_text(report, name)
-                && is_within(sought, upto, id)
-                && (is_in_query(sought, &commit.before, report, id)
-                    || is_in_query(sought, &commit.after, report, id))
+                && is_within(query, upto, id)
+                && (is_in_query(query, &commit.before, report, id)
+                    || is_in_query(query, &commit.after, report, id))
         }
     }
 }

@@ -6,8 +6,8 @@ use Rattle.std.specs.Bool.{⊤, passes}
 use Rattle.std.specs.List.{list_all}
 use Rattle.std.proofs.lemmas.Int.{ints, clamps}
 use Rattle.std.proofs.lemmas.Bool.{and_parts}
-use Rattle.filing_model.specs.Intervals.{Interval, IsWithin, meets}
-use Rattle.filing_model.specs.Duplicates.{every_pair}
+use Rattle.filing_model.specs.Oim.Intervals.{Interval, IsWithin, meets}
+use Rattle.filing_model.specs.Oim.Duplicates.{every_pair}
 
 not_above_itself : (x : ℤ) → x ≤ℤ x
 not_above_itself x = omega (arith, ints)

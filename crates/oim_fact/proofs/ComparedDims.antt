@@ -10,8 +10,8 @@ use Rattle.std.specs.Hash.{HashWrites}
 use Rattle.std.specs.String.{string_cmp, string_eq}
 use Rattle.std.specs.declared.alloc.Global.{Global}
 use Rattle.std.specs.Cmp.{tied_then}
-use Rattle.filing_model.specs.Text.{text_cmp}
-use Rattle.filing_model.specs.Dimensions.{dims_cmp, dims_eq, dims_hash}
+use Rattle.filing_model.specs.Common.Text.{text_cmp}
+use Rattle.filing_model.specs.Oim.Dimensions.{dims_cmp, dims_eq, dims_hash}
 use Rattle.oim_fact.specs.Texts.{text_view}
 use Rattle.oim_fact.specs.Dims.{dims_view}
 

@@ -8,15 +8,15 @@ use Rattle.std.specs.Cmp.Lexicographic.{nat_list_cmp_total}
 use Rattle.std.specs.List.Sorted.{IsSortedBy, IsSearchInRange, IsBinarySearchResult}
 use Rattle.std.specs.FinMap.Entries.{is_sorted}
 use Rattle.std.proofs.lemmas.List.Sorted.{IsPermutation-map, ranks_by}
-use Rattle.filing_model.specs.Text.{Text, text_cmp, has_repeats}
-use Rattle.filing_model.specs.TextMap.{TextMap, get, from_entries}
-use Rattle.filing_model.specs.Facts.{Names, Table}
+use Rattle.filing_model.specs.Common.Text.{Text, text_cmp, has_repeats}
+use Rattle.filing_model.specs.Common.TextMap.{TextMap, get, from_entries}
+use Rattle.filing_model.specs.Oim.Facts.{Names, Table}
 use Rattle.filing_model.specs.declared.faults.NamesFault.{NamesFault}
 use Rattle.filing_model.specs.declared.faults.NamesFault.TheVariants.{NameTwice, AliasTwice}
-use Rattle.filing_model.proofs.DimensionSets.{prefixes_of-IsPermutation}
-use Rattle.filing_model.proofs.MapsOfLists.{sorted_from_rises}
-use Rattle.filing_model.proofs.Texts.{has_repeats-IsPermutation}
-use Rattle.filing_model.proofs.TextMaps.{get-from_entries}
+use Rattle.filing_model.proofs.Oim.DimensionSets.{prefixes_of-IsPermutation}
+use Rattle.filing_model.proofs.Common.MapsOfLists.{sorted_from_rises}
+use Rattle.filing_model.proofs.Common.Texts.{has_repeats-IsPermutation}
+use Rattle.filing_model.proofs.Common.TextMaps.{get-from_entries}
 use Rattle.oim_fact.proofs.SearchedEntries.{searched}
 use Rattle.oim_fact.specs.Texts.{row_of, rows_view, names_in, NoneFalls, has_neighbours}
 use Rattle.oim_fact.specs.Names.{names_of, text_in, column}

@@ -12,11 +12,11 @@ use Rattle.std.specs.List.Sorted.{IsStrictlySortedBy, IsSearchInRange, IsBinaryS
 use Rattle.std.specs.FinMap.Entries.{find, put, by_order, below_all, is_sorted, is_sorted-put, is_some-find, same_entries}
 use Rattle.std.specs.declared.alloc.Global.{Global}
 use Rattle.std.proofs.lemmas.List.Sorted.{list_any-IsPermutation, IsPermutation-map}
-use Rattle.filing_model.specs.Text.{Text, text_cmp, text_eq}
-use Rattle.filing_model.specs.Facts.{Table, is_numeric}
-use Rattle.filing_model.specs.Tables.{row_cmp, table_of}
-use Rattle.filing_model.proofs.NumericTables.{row_cmp-total, row_cmp-Equal, is_numeric-table_of}
-use Rattle.filing_model.proofs.Tests.{both_hold, asked_twice}
+use Rattle.filing_model.specs.Common.Text.{Text, text_cmp, text_eq}
+use Rattle.filing_model.specs.Oim.Facts.{Table, is_numeric}
+use Rattle.filing_model.specs.Oim.Tables.{row_cmp, table_of}
+use Rattle.filing_model.proofs.Oim.NumericTables.{row_cmp-total, row_cmp-Equal, is_numeric-table_of}
+use Rattle.filing_model.proofs.Common.Tests.{both_hold, asked_twice}
 use Rattle.oim_fact.specs.Texts.{row_of, rows_view}
 use Rattle.oim_fact.specs.Tables.{row_entries, is_table}
 use Rattle.oim_fact.proofs.SearchedEntries.{search_finds}

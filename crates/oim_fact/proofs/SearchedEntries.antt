@@ -8,7 +8,7 @@ use Rattle.std.specs.List.Sorted.{IsSortedBy, IsBinarySearchResult, IsSearchInRa
 use Rattle.std.specs.FinMap.Entries.{find, below_all, is_sorted}
 use Rattle.std.proofs.lemmas.List.Sorted.{searchable_from_sorted}
 use Rattle.std.proofs.lemmas.Bool.{cases_lt}
-use Rattle.filing_model.proofs.Tests.{first_holds, second_holds, less_from_is_lt}
+use Rattle.filing_model.proofs.Common.Tests.{first_holds, second_holds, less_from_is_lt}
 
 module _ {P K X : Type 0} (R : K → K → Ordering) (o : IsTotalOrder R) (entry : P → K × X) where
   abbrev entries : List P → List (K × X)

@@ -6,13 +6,13 @@ use Rattle.std.specs.Ordering.{ordering_then}
 use Rattle.std.specs.List.{list_any}
 use Rattle.std.specs.String.{string_cmp}
 use Rattle.std.proofs.lemmas.List.Sorted.{IsPermutation-map}
-use Rattle.filing_model.specs.TextMap.{from_entries}
-use Rattle.filing_model.specs.Text.{has_repeats}
-use Rattle.filing_model.specs.Dimensions.{Dims, dims_of, is_null_core, is_concept, is_long_dim}
+use Rattle.filing_model.specs.Common.TextMap.{from_entries}
+use Rattle.filing_model.specs.Common.Text.{has_repeats}
+use Rattle.filing_model.specs.Oim.Dimensions.{Dims, dims_of, is_null_core, is_concept, is_long_dim}
 use Rattle.filing_model.specs.declared.faults.DimFault.{DimFault}
 use Rattle.filing_model.specs.declared.faults.DimFault.TheVariants.{NameTwice, NullCore, NoConcept, TooLong}
-use Rattle.filing_model.proofs.DimensionSets.{dims_of-IsPermutation, judged}
-use Rattle.filing_model.proofs.MapsOfLists.{sorted_from_rises, from_entries-sorted}
+use Rattle.filing_model.proofs.Oim.DimensionSets.{dims_of-IsPermutation, judged}
+use Rattle.filing_model.proofs.Common.MapsOfLists.{sorted_from_rises, from_entries-sorted}
 use Rattle.oim_fact.specs.Texts.{text_view, names_in, NoneFalls, has_neighbours}
 use Rattle.oim_fact.specs.Dims.{dims_view, unless}
 use Rattle.oim_fact.proofs.SortedTexts.{Rises-names, repeated_are_neighbours, NoneFalls-sorted}

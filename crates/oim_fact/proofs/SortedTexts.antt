@@ -5,9 +5,9 @@ use Rattle.std.specs.List.{list_any}
 use Rattle.std.specs.List.Sorted.{IsSortedBy}
 use Rattle.std.specs.Cmp.Lexicographic.{nat_list_cmp_total}
 use Rattle.std.specs.FinMap.Entries.{is_sorted}
-use Rattle.filing_model.specs.Text.{Text, text_cmp, text_eq, has_repeats}
-use Rattle.filing_model.proofs.MapsOfLists.{Rises, sorted_from_rises, no_repeats_from_sorted, below_from_less}
-use Rattle.filing_model.proofs.Tests.{both_hold, first_holds, less_from_not_greater}
+use Rattle.filing_model.specs.Common.Text.{Text, text_cmp, text_eq, has_repeats}
+use Rattle.filing_model.proofs.Common.MapsOfLists.{Rises, sorted_from_rises, no_repeats_from_sorted, below_from_less}
+use Rattle.filing_model.proofs.Common.Tests.{both_hold, first_holds, less_from_not_greater}
 use Rattle.oim_fact.specs.Texts.{names_in, NoneFalls, has_neighbours}
 
 module _ {X : Type 0} where

@@ -4,18 +4,18 @@ use Rattle.std.specs.List.{list_all}
 use Rattle.std.proofs.lemmas.Int.{ints}
 use Rattle.std.proofs.lemmas.List.Folds.{list_all-append}
 use Rattle.std.proofs.lemmas.Bool.{and_parts, and_from}
-use Rattle.filing_model.specs.Facts.{Fact}
-use Rattle.filing_model.specs.Intervals.{Interval, meets}
-use Rattle.filing_model.specs.Duplicates.{every_pair, pair_of, value_pair, is_apart, is_complete, is_consistent, has_dims, class_of}
+use Rattle.filing_model.specs.Oim.Facts.{Fact}
+use Rattle.filing_model.specs.Oim.Intervals.{Interval, meets}
+use Rattle.filing_model.specs.Oim.Duplicates.{every_pair, pair_of, value_pair, is_apart, is_complete, is_consistent, has_dims, class_of}
 use Rattle.filing_model.specs.declared.duplicates.Class.TheVariants as class
 use Rattle.filing_model.specs.declared.duplicates.Pair.{Pair}
 use Rattle.filing_model.specs.declared.duplicates.Pair.TheVariants as pair
-use Rattle.filing_model.proofs.DimensionSets.{dims_decides}
+use Rattle.filing_model.proofs.Oim.DimensionSets.{dims_decides}
 use Rattle.oim_fact.specs.declared.tally.Tally.{Tally}
 use Rattle.oim_fact.specs.Tallies.{Describes, IsCommonPart, IsFilled, IsIn, IsInAll, interval_in, has_value_of, is_empty}
 use Rattle.oim_fact.proofs.CommonNumbers.{IsInEach, number_in_common}
-use Rattle.filing_model.proofs.MixedFacts.{have_same_dims, mixed_where_dims_differ, together as together_in_cell}
-use Rattle.filing_model.proofs.EveryPair.{all_implied, pairs_implied, pairs_same, every_pair_with_the_first}
+use Rattle.filing_model.proofs.Oim.MixedFacts.{have_same_dims, mixed_where_dims_differ, together as together_in_cell}
+use Rattle.filing_model.proofs.Oim.EveryPair.{all_implied, pairs_implied, pairs_same, every_pair_with_the_first}
 use Rattle.oim_fact.proofs.ValuePairs.{complete_with_one, interval_for, filled_for, consistent_meet, consistent_at, in_its_interval, number_with_number, complete_without_interval}
 
 -- ---- pairs in one cell

@@ -6,13 +6,13 @@ use Rattle.std.specs.Ordering.{int_eq}
 use Rattle.std.specs.Option.{option_eq}
 use Rattle.std.proofs.lemmas.Bool.Decides.{Decides-int_eq}
 use Rattle.std.proofs.lemmas.Bool.{and_parts, and_from, or_right}
-use Rattle.filing_model.specs.Text.{text_eq}
-use Rattle.filing_model.specs.Facts.{FactValue, Nil, Written, Number}
-use Rattle.filing_model.specs.Intervals.{Interval, IsWithin, interval_of, meets}
-use Rattle.filing_model.specs.Duplicates.{value_pair, is_complete, is_consistent}
+use Rattle.filing_model.specs.Common.Text.{text_eq}
+use Rattle.filing_model.specs.Oim.Facts.{FactValue, Nil, Written, Number}
+use Rattle.filing_model.specs.Oim.Intervals.{Interval, IsWithin, interval_of, meets}
+use Rattle.filing_model.specs.Oim.Duplicates.{value_pair, is_complete, is_consistent}
 use Rattle.filing_model.specs.declared.duplicates.Pair.TheVariants as pair
-use Rattle.filing_model.proofs.Texts.{text_decides}
-use Rattle.filing_model.proofs.Intervals.{meets_where_a_number_is_shared, numbers_have_their_interval}
+use Rattle.filing_model.proofs.Common.Texts.{text_decides}
+use Rattle.filing_model.proofs.Oim.Intervals.{meets_where_a_number_is_shared, numbers_have_their_interval}
 use Rattle.oim_fact.specs.Tallies.{interval_in, IsIn}
 
 -- ---- complete values

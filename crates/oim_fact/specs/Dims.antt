@@ -2,7 +2,7 @@
 use Rattle.std.specs.Prelude.{List, map, Option, Some, None, Result, Ok, Err, String, string_bytes}
 use Rattle.std.specs.Arc.{arc_value}
 use Rattle.std.specs.declared.alloc.Global.{Global}
-use Rattle.filing_model.specs.Dimensions.{Dims}
+use Rattle.filing_model.specs.Oim.Dimensions.{Dims}
 use Rattle.filing_model.specs.declared.faults.DimFault.{DimFault}
 use Rattle.oim_fact.specs.Texts.{text_view}
 use Rattle.oim_fact.specs.declared.dims.Pairs.{Pairs}

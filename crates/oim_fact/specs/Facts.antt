@@ -1,6 +1,6 @@
 -- What a fact's value means.
 use Rattle.std.specs.Prelude.{Result, Ok, Err, string_bytes}
-use Rattle.filing_model.specs.Facts as model
+use Rattle.filing_model.specs.Oim.Facts as model
 use Rattle.filing_model.specs.declared.faults.FactFault.{FactFault}
 use Rattle.oim_value.specs.Accuracies.{decimals_of}
 use Rattle.oim_fact.specs.declared.fact.FactValue.{FactValue}

@@ -1,9 +1,9 @@
 -- The names of a report, and the columns of its prefixes.
 use Rattle.std.specs.Prelude.{List, map, Result}
 use Rattle.std.specs.Result.{result_map_both}
-use Rattle.filing_model.specs.Text.{Text}
-use Rattle.filing_model.specs.Prefixes.{prefixes_of}
-use Rattle.filing_model.specs.Facts.{Names, Table}
+use Rattle.filing_model.specs.Common.Text.{Text}
+use Rattle.filing_model.specs.Oim.Prefixes.{prefixes_of}
+use Rattle.filing_model.specs.Oim.Facts.{Names, Table}
 use Rattle.filing_model.specs.declared.faults.NamesFault.{NamesFault}
 use Rattle.oim_fact.specs.declared.names.Column.{Column}
 use Rattle.oim_fact.specs.declared.names.Column.TheVariants.{Prefix, Uri}

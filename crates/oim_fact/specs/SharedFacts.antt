@@ -4,7 +4,7 @@ use Rattle.std.specs.Borrow.{Bor}
 use Rattle.std.specs.Arc.{arc_value}
 use Rattle.std.specs.declared.sync.Arc.{Arc}
 use Rattle.std.specs.declared.alloc.Global.{Global}
-use Rattle.filing_model.specs.Facts.{Fact}
+use Rattle.filing_model.specs.Oim.Facts.{Fact}
 
 -- a reference to a shared fact
 abbrev pub FactRef : Type 0

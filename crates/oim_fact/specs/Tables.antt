@@ -1,9 +1,9 @@
 -- Rows of a numeric table in order.
 use Rattle.std.specs.Prelude.{Bool, List, map}
 use Rattle.std.specs.FinMap.Entries.{is_sorted}
-use Rattle.filing_model.specs.Text.{Text}
-use Rattle.filing_model.specs.Facts.{Table}
-use Rattle.filing_model.specs.Tables.{row_cmp}
+use Rattle.filing_model.specs.Common.Text.{Text}
+use Rattle.filing_model.specs.Oim.Facts.{Table}
+use Rattle.filing_model.specs.Oim.Tables.{row_cmp}
 
 -- rows as the keys of a map to nothing
 abbrev pub row_entries : Table → List ((Text × Text) × Unit {0})

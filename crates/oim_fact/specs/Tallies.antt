@@ -1,9 +1,9 @@
 -- What a tally tells of the facts that it was made of.
 use Rattle.std.specs.Prelude.{◌≡◌, ⊤, ℤ, ◌≤ℤ◌, ◌↔◌, Bool, true, false, IfSome, IsSomeAnd, List, [], ◌∷◌, Option, Some, None}
 use Rattle.std.specs.List.{list_all}
-use Rattle.filing_model.specs.Facts.{Fact, FactValue, Number}
-use Rattle.filing_model.specs.Intervals.{Interval, interval_of, IsWithin}
-use Rattle.filing_model.specs.Duplicates.{has_dims, is_complete, value_pair}
+use Rattle.filing_model.specs.Oim.Facts.{Fact, FactValue, Number}
+use Rattle.filing_model.specs.Oim.Intervals.{Interval, interval_of, IsWithin}
+use Rattle.filing_model.specs.Oim.Duplicates.{has_dims, is_complete, value_pair}
 use Rattle.oim_fact.specs.declared.tally.Tally.{Tally}
 
 -- the interval of a number; null and texts have none

@@ -2,7 +2,7 @@
 use Rattle.std.specs.Prelude.{◌≡◌, ⊤, Bool, false, ◌||◌, List, [], ◌∷◌, map, Option, option_map, String, string_bytes}
 use Rattle.std.specs.Ordering.{is_lt}
 use Rattle.std.specs.declared.alloc.Global.{Global}
-use Rattle.filing_model.specs.Text.{Text, text_cmp, text_eq}
+use Rattle.filing_model.specs.Common.Text.{Text, text_cmp, text_eq}
 
 -- a text that may be null, as the definitions have it
 abbrev pub text_view : Option (String Global) → Option Text

@@ -3,7 +3,7 @@
 ghost use Rattle.std.specs.Prelude.{◌≡◌, List, map};
 ghost use Rattle.std.specs.Arc.{arc_value};
 ghost use Rattle.std.specs.Iterator.{IsFinite, Drains};
-ghost use Rattle.filing_model.specs.Duplicates.{class_of};
+ghost use Rattle.filing_model.specs.Oim.Duplicates.{class_of};
 ghost use Rattle.oim_fact.specs.SharedFacts.{FactRef, facts_behind};
 
 use crate::fact::Fact;

@@ -3,8 +3,8 @@
 ghost use Rattle.std.specs.Prelude.{Some, refl};
 ghost use Rattle.std.specs.Cmp.{eq_by_cmp_equiv, partial_equiv_from_equiv, partial_order_from_agreeing_total};
 ghost use Rattle.std.specs.Hash.{same_Alike};
-ghost use Rattle.filing_model.specs.Dimensions.{dims_cmp, dims_eq, dims_hash};
-ghost use Rattle.filing_model.proofs.DimensionSets.{dims_cmp-total, dims_decides};
+ghost use Rattle.filing_model.specs.Oim.Dimensions.{dims_cmp, dims_eq, dims_hash};
+ghost use Rattle.filing_model.proofs.Oim.DimensionSets.{dims_cmp-total, dims_decides};
 
 use crate::dims::DimSet;
 use std::cmp::Ordering;

@@ -4,8 +4,9 @@ ghost use Rattle.std.specs.Prelude.{◌≡◌, Option, option_map, is_some, IfOk
 ghost use Rattle.std.specs.List.{list_any};
 ghost use Rattle.oim_fact.specs.Texts.{text_view, names_in, NoneFalls, begins_with, has_neighbours};
 ghost use Rattle.oim_fact.specs.Dims.{dims_view, pairs_in, unless};
-ghost use Rattle.filing_model.specs.Dimensions.{AreDims, core_value, concept_of, period_of, unit_of, dims_of, is_core, is_null_core, is_concept, is_long_dim};
+ghost use Rattle.filing_model.specs.Oim.Dimensions.{AreDims, core_value, concept_of, period_of, unit_of, dims_of, is_core, is_null_core, is_concept, is_long_dim};
 
+use crate::texts::clone_text;
 use filing_model::{DimFault, is_same_text};
 use std::alloc::{AllocError, Global};
 use std::marker::Model;
@@ -28,7 +29,7 @@ pub struct DimSet {
 }
 
 impl Model for DimSet {
-    ghost use Rattle.filing_model.specs.Dimensions.{Dims, AreDims};
+    ghost use Rattle.filing_model.specs.Oim.Dimensions.{Dims, AreDims};
     ghost use Rattle.oim_fact.specs.Dims.{dims_view, pairs_in};
 
     ghost Value = { Dims };
@@ -82,16 +83,6 @@ impl Pairs {
             Pairs::Own(pairs) => Ok(Pairs::Shared(Arc::new(alloc, pairs)?)),
             shared => Ok(shared),
         }
-    }
-}
-
-/// The clone of a text that may be null.
-pub(crate) fn clone_text(text: &Option<String>) -> Result<Option<String>, AllocError>
-    ensures { IfOk result (λ t. text_view t ≡ text_view text.now) }
-{
-    match text {
-        None => Ok(None),
-        Some(text) => Ok(Some(text.clone()?)),
     }
 }
 

@@ -1,9 +1,10 @@
 //! Facts as they are read, and facts that fit the names of their report.
 
 ghost use Rattle.std.specs.Prelude.{◌≡◌, IfOk};
-ghost use Rattle.filing_model.specs.Facts.{is_misplaced};
+ghost use Rattle.filing_model.specs.Oim.Facts.{is_misplaced};
 
-use crate::dims::{DimSet, clone_text};
+use crate::dims::DimSet;
+use crate::texts::clone_text;
 use oim_value::{Accuracy, Decimal};
 use std::alloc::{AllocError, Global};
 use std::marker::Model;
@@ -18,7 +19,7 @@ pub struct RawFact {
 }
 
 impl Model for RawFact {
-    ghost use Rattle.filing_model.specs.Facts.{RawFact as RawFactValue};
+    ghost use Rattle.filing_model.specs.Oim.Facts.{RawFact as RawFactValue};
     ghost use Rattle.oim_fact.specs.Texts.{text_view};
 
     ghost Value = { RawFactValue };
@@ -97,7 +98,7 @@ pub struct Fact {
 }
 
 impl Model for Fact {
-    ghost use Rattle.filing_model.specs.Facts.{Fact as PlainFact};
+    ghost use Rattle.filing_model.specs.Oim.Facts.{Fact as PlainFact};
 
     ghost Value = { PlainFact };
 

@@ -1,7 +1,7 @@
 //! The way from a raw fact to a fact by the names of its report.
 
 ghost use Rattle.std.specs.Prelude.{◌≡◌};
-ghost use Rattle.filing_model.specs.Facts.{are_bound, fit_of, number_fault, numeric_value, written_value};
+ghost use Rattle.filing_model.specs.Oim.Facts.{are_bound, fit_of, number_fault, numeric_value, written_value};
 ghost use Rattle.oim_fact.specs.Texts.{text_view};
 ghost use Rattle.oim_fact.specs.Facts.{value_view, value_given};
 

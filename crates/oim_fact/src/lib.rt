@@ -1,6 +1,15 @@
 //! Facts of xBRL-JSON reports: dimension sets, the names of a report, and facts fitted to them.
 //!
-//! `dims` has dimension sets, and `compared_dims` their order, equality and hash. `names` is the prefixes of a report, `table` the numeric concepts, `fact` what is read and what fits, and `fitting` the way from the one to the other. `pairs` says what two facts are to one another, `tally` the class of a cell in one pass, and `classes` is that of a list or an iterator.
+//! - `dims`: dimension sets.
+//! - `compared_dims`: the order, the equality and the hash of dimension sets.
+//! - `names`: the prefixes of a report, with the numeric table by which it is read.
+//! - `table`: the numeric concepts.
+//! - `fact`: facts as they are read, and facts that fit the names of their report.
+//! - `fitting`: the way from the one to the other.
+//! - `pairs`: what two facts are to one another.
+//! - `tally`: the class of a cell in one pass.
+//! - `classes`: the class of a list or of an iterator.
+//! - `texts`: texts that may be missing.
 //!
 //! It knows nothing of JSON, of reports as a whole, or of versions.
 #![tactic(auto)]
@@ -14,6 +23,7 @@ mod names;
 mod pairs;
 mod table;
 mod tally;
+mod texts;
 
 pub use classes::{class_of, class_over};
 pub use dims::DimSet;
@@ -23,3 +33,4 @@ pub use fitting::fit;
 pub use names::Names;
 pub use pairs::compare;
 pub use table::NumericTable;
+pub use texts::{are_same_texts, clone_text, own_text};

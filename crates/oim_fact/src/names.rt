@@ -1,10 +1,10 @@
 //! The names of a report: its prefixes, and the numeric table by which it is read.
 
 ghost use Rattle.std.specs.Prelude.{◌≡◌, option_map, is_some, IsPermutation};
-ghost use Rattle.filing_model.specs.Facts.{uri_of, expanded, is_numeric};
+ghost use Rattle.filing_model.specs.Oim.Facts.{uri_of, expanded, is_numeric};
 ghost use Rattle.std.specs.Arc.{arc_value};
-ghost use Rattle.filing_model.specs.Text.{has_repeats};
-ghost use Rattle.filing_model.specs.TextMap.{get};
+ghost use Rattle.filing_model.specs.Common.Text.{has_repeats};
+ghost use Rattle.filing_model.specs.Common.TextMap.{get};
 ghost use Rattle.oim_fact.specs.Texts.{row_of, rows_view, NoneFalls, begins_with, has_neighbours};
 ghost use Rattle.oim_fact.specs.Names.{names_of, text_in, column};
 
@@ -25,9 +25,9 @@ impl Model for Names {
     ghost use Rattle.std.specs.Prelude.{T};
     ghost use Rattle.std.specs.Arc.{arc_value};
     ghost use Rattle.std.specs.FinMap.Entries.{is_sorted};
-    ghost use Rattle.filing_model.specs.Text.{text_cmp};
-    ghost use Rattle.filing_model.specs.TextMap.{from_entries};
-    ghost use Rattle.filing_model.specs.Facts.{Names as PlainNames};
+    ghost use Rattle.filing_model.specs.Common.Text.{text_cmp};
+    ghost use Rattle.filing_model.specs.Common.TextMap.{from_entries};
+    ghost use Rattle.filing_model.specs.Oim.Facts.{Names as PlainNames};
     ghost use Rattle.oim_fact.specs.Texts.{rows_view};
 
     ghost Value = { PlainNames };

@@ -1,8 +1,8 @@
 //! What two facts are to one another.
 
 ghost use Rattle.std.specs.Prelude.{◌≡◌, if◌then◌else◌};
-ghost use Rattle.filing_model.specs.Text.{text_eq};
-ghost use Rattle.filing_model.specs.Duplicates.{pair_of, value_pair, number_pair};
+ghost use Rattle.filing_model.specs.Common.Text.{text_eq};
+ghost use Rattle.filing_model.specs.Oim.Duplicates.{pair_of, value_pair, number_pair};
 ghost use Rattle.oim_value.specs.Accuracies.{decimals_of};
 ghost use Rattle.oim_fact.specs.Facts.{value_view};
 

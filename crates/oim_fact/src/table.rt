@@ -1,8 +1,8 @@
 //! Numeric tables: which concepts are numeric.
 
 ghost use Rattle.std.specs.Prelude.{◌≡◌, Ok, string_bytes};
-ghost use Rattle.filing_model.specs.Tables.{row_cmp, table_of};
-ghost use Rattle.filing_model.specs.Facts.{is_numeric};
+ghost use Rattle.filing_model.specs.Oim.Tables.{row_cmp, table_of};
+ghost use Rattle.filing_model.specs.Oim.Facts.{is_numeric};
 ghost use Rattle.oim_fact.specs.Texts.{rows_view};
 
 use std::alloc::AllocError;
@@ -17,7 +17,7 @@ pub struct NumericTable {
 
 impl Model for NumericTable {
     ghost use Rattle.std.specs.Prelude.{T};
-    ghost use Rattle.filing_model.specs.Facts.{Table};
+    ghost use Rattle.filing_model.specs.Oim.Facts.{Table};
     ghost use Rattle.oim_fact.specs.Texts.{rows_view};
     ghost use Rattle.oim_fact.specs.Tables.{is_table};
 

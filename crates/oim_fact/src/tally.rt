@@ -1,8 +1,8 @@
 //! The class of a cell in one pass: each fact is compared with the first one and narrows one interval.
 
 ghost use Rattle.std.specs.Prelude.{◌≡◌, IfSome, List, [], ◌∷◌, ◌++◌};
-ghost use Rattle.filing_model.specs.Facts.{Fact as PlainFact};
-ghost use Rattle.filing_model.specs.Duplicates.{class_of, is_complete, value_pair};
+ghost use Rattle.filing_model.specs.Oim.Facts.{Fact as PlainFact};
+ghost use Rattle.filing_model.specs.Oim.Duplicates.{class_of, is_complete, value_pair};
 ghost use Rattle.oim_fact.specs.Facts.{value_view};
 ghost use Rattle.oim_fact.specs.Tallies.{Describes, IsCommonPart, IsFilled, interval_in};
 

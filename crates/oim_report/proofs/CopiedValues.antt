@@ -5,7 +5,7 @@ use Rattle.serde_json.specs.Data.{Data, Items, no_items, item, Members, put}
 use Rattle.serde_json.specs.Read.{of_json, of_items, of_members}
 use Rattle.serde_json.specs.View.{view, items_view}
 use Rattle.serde_json.specs.declared.value.Value.{Value}
-use Rattle.filing_model.specs.Text.{Text}
+use Rattle.filing_model.specs.Common.Text.{Text}
 
 -- the items that were copied, before the rest
 abbrev pub before : List Value → Items → Items

@@ -5,10 +5,10 @@ use Rattle.std.specs.declared.alloc.Global.{Global}
 use Rattle.serde_json.specs.Data.{Data}
 use Rattle.serde_json.specs.View.{view, members_view}
 use Rattle.serde_json.specs.declared.value.Value.{Value}
-use Rattle.filing_model.specs.Text.{Text}
-use Rattle.filing_model.specs.Try.{each, with_front, Fails}
-use Rattle.filing_model.specs.JsonText.{pairs}
-use Rattle.filing_model.proofs.Tries.{each_more, each_refused}
+use Rattle.filing_model.specs.Common.Text.{Text}
+use Rattle.filing_model.specs.Common.Try.{each, with_front, Fails}
+use Rattle.filing_model.specs.Reading.JsonText.{pairs}
+use Rattle.filing_model.proofs.Reading.Tries.{each_more, each_refused}
 
 abbrev pub Entry : Type 0
 Entry = String Global × Value

@@ -7,17 +7,17 @@ use Rattle.std.specs.declared.sync.Arc.{Arc}
 use Rattle.std.specs.declared.alloc.Global.{Global}
 use Rattle.std.specs.FinMap.Entries.{is_sorted, below_all}
 use Rattle.serde_json.specs.Data.{Data}
-use Rattle.filing_model.specs.Text.{Text, text_cmp}
-use Rattle.filing_model.specs.Try.{◌>>=◌, each, map_err, Fails}
-use Rattle.filing_model.specs.Dimensions.{AreDims}
-use Rattle.filing_model.specs.Facts.{Fact, Names, RawFact, fit_of}
-use Rattle.filing_model.specs.Fitted.{IsFitted}
-use Rattle.filing_model.specs.ReadFact.{raw_fact_of}
-use Rattle.filing_model.specs.ReadReport.{ReportFault, BadFact, entry_of}
+use Rattle.filing_model.specs.Common.Text.{Text, text_cmp}
+use Rattle.filing_model.specs.Common.Try.{◌>>=◌, each, map_err, Fails}
+use Rattle.filing_model.specs.Oim.Dimensions.{AreDims}
+use Rattle.filing_model.specs.Oim.Facts.{Fact, Names, RawFact, fit_of}
+use Rattle.filing_model.specs.Reading.Fitted.{IsFitted}
+use Rattle.filing_model.specs.Reading.ReadFact.{raw_fact_of}
+use Rattle.filing_model.specs.Reading.ReadReport.{ReportFault, BadFact, entry_of}
 use Rattle.filing_model.specs.declared.faults.FactFault.{FactFault}
 use Rattle.filing_model.specs.declared.faults.Trouble.{Trouble}
 use Rattle.filing_model.specs.declared.faults.Trouble.TheVariants.{Fit}
-use Rattle.filing_model.proofs.MapsOfLists.{names}
+use Rattle.filing_model.proofs.Common.MapsOfLists.{names}
 use Rattle.oim_report.specs.Parts.{fact_view, facts_view}
 use Rattle.oim_report.specs.Readable.{AreFitted}
 use Rattle.oim_report.specs.Readings.{fitted_of}

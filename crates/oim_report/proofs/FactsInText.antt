@@ -3,12 +3,12 @@ use Rattle.std.proofs.Common.{◌≡◌, ◌∙◌, ap, sym, refl, true, List, O
 use Rattle.json.specs.Json as json
 use Rattle.serde_json.specs.Data.{Members, no_members, object, array, number}
 use Rattle.serde_json.specs.Read.{of_json, of_items, of_members, number_of}
-use Rattle.filing_model.specs.Facts.{Fact, Names}
-use Rattle.filing_model.specs.JsonText.{pairs}
-use Rattle.filing_model.specs.ReadReport.{ReportFault, WrongShape, entry_of, facts_of}
-use Rattle.filing_model.specs.Text.{Text}
-use Rattle.filing_model.specs.TextMap.{from_entries}
-use Rattle.filing_model.specs.Try.{◌>>=◌, Fails, Gives, each}
+use Rattle.filing_model.specs.Oim.Facts.{Fact, Names}
+use Rattle.filing_model.specs.Reading.JsonText.{pairs}
+use Rattle.filing_model.specs.Reading.ReadReport.{ReportFault, WrongShape, entry_of, facts_of}
+use Rattle.filing_model.specs.Common.Text.{Text}
+use Rattle.filing_model.specs.Common.TextMap.{from_entries}
+use Rattle.filing_model.specs.Common.Try.{◌>>=◌, Fails, Gives, each}
 use Rattle.oim_report.specs.Borrowed.{read_object}
 
 gives_mapped : {X E : Type 0} (fault : E → Option ReportFault) (seen : X → List (Text × Fact)) (result : Result X E) (reading : Result (List (Text × Fact)) ReportFault)

@@ -6,8 +6,8 @@ use Rattle.std.proofs.Math.Seq.{drop-cons}
 use Rattle.std.specs.Bool.{if◌then◌else◌}
 use Rattle.std.proofs.lemmas.List.{append_cancel_left}
 use Rattle.serde_json.specs.Written.{comma_if}
-use Rattle.filing_model.specs.Text.{Text}
-use Rattle.filing_model.specs.Writing.{listed}
+use Rattle.filing_model.specs.Common.Text.{Text}
+use Rattle.filing_model.specs.Reading.Writing.{listed}
 use Rattle.oim_report.specs.Appended.{IsFrontAppended}
 
 -- what holds in any case holds where memory was wanted

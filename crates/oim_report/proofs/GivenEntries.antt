@@ -2,9 +2,9 @@
 use Rattle.std.proofs.Common.{◌≡◌, ap, sym, refl, List, [], ◌∷◌, Option, Some, None, is_some, option_map, unwrap_or, true≢false}
 use Rattle.std.specs.Iterator.{AlwaysYields, YieldsFirstBy}
 use Rattle.std.proofs.lemmas.Iterator.Consumers.{YieldsList-from_first}
-use Rattle.filing_model.specs.Text.{Text}
-use Rattle.filing_model.specs.Facts.{Fact}
-use Rattle.filing_model.specs.Reports.{Report}
+use Rattle.filing_model.specs.Common.Text.{Text}
+use Rattle.filing_model.specs.Oim.Facts.{Fact}
+use Rattle.filing_model.specs.Oim.Reports.{Report}
 use Rattle.oim_report.specs.Entries.{entry_seen, IsReportOf}
 
 module _ {S A B : Type 0} (steps : S → Option A → S → Type 0) (seen : A → B) where

@@ -12,7 +12,7 @@ use Rattle.serde_json.specs.Read.{max_depth, of_json, of_items, of_members, numb
 use Rattle.serde_json.specs.View.{view}
 use Rattle.serde_json.specs.declared.value.Value.{Value}
 use Rattle.serde_json.proofs.Views.{get_member-put, get_member-put_other}
-use Rattle.filing_model.specs.Text.{Text}
+use Rattle.filing_model.specs.Common.Text.{Text}
 
 pub the_value : (o : Option Data) → is_some o ≡ true → o ≡ Some (unwrap_or o null)
 the_value None h = absurd (true≢false (sym h))

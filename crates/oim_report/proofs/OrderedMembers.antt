@@ -14,11 +14,11 @@ use Rattle.json.specs.Json as json
 use Rattle.json.specs.declared.value.Value.{Value as TextValue}
 use Rattle.serde_json.specs.Data.{Data, null, Members, put}
 use Rattle.serde_json.specs.Read.{of_json, of_members}
-use Rattle.filing_model.specs.Text.{Text, text_cmp}
-use Rattle.filing_model.specs.JsonText.{pairs}
-use Rattle.filing_model.specs.Try.{each, with_front, Fails}
-use Rattle.filing_model.proofs.Tests.{both_hold}
-use Rattle.filing_model.proofs.Tries.{each_more, each_refused}
+use Rattle.filing_model.specs.Common.Text.{Text, text_cmp}
+use Rattle.filing_model.specs.Reading.JsonText.{pairs}
+use Rattle.filing_model.specs.Common.Try.{each, with_front, Fails}
+use Rattle.filing_model.proofs.Common.Tests.{both_hold}
+use Rattle.filing_model.proofs.Reading.Tries.{each_more, each_refused}
 use Rattle.oim_report.specs.Borrowed.{Place, are_in_range, data_of, is_in_range, members_at}
 
 abbrev pub At : Type 0

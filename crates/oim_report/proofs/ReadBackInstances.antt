@@ -8,19 +8,19 @@ use Rattle.json.specs.Json as json
 use Rattle.json.specs.Tree.{depth}
 use Rattle.serde_json.specs.Data.{Data, unsigned, negative, null, number, string, object, Members, no_members, member}
 use Rattle.serde_json.specs.Read.{max_depth}
-use Rattle.filing_model.specs.Text.{Text}
-use Rattle.filing_model.specs.TextMap.{from_entries}
-use Rattle.filing_model.specs.JsonText.{json_of}
-use Rattle.filing_model.specs.Dimensions.{Dims, AreDims}
-use Rattle.filing_model.specs.Facts.{RawFact, Fact, Names, Number, Written}
-use Rattle.filing_model.specs.Fitted.{AreLinks, IsFitted}
-use Rattle.filing_model.specs.Reports.{Report}
-use Rattle.filing_model.specs.ReadFact.{raw_fact_of}
-use Rattle.filing_model.specs.ReadReport.{NotJson, read_report_of}
-use Rattle.filing_model.specs.Writing.{raw_fact_text, report_text}
+use Rattle.filing_model.specs.Common.Text.{Text}
+use Rattle.filing_model.specs.Common.TextMap.{from_entries}
+use Rattle.filing_model.specs.Reading.JsonText.{json_of}
+use Rattle.filing_model.specs.Oim.Dimensions.{Dims, AreDims}
+use Rattle.filing_model.specs.Oim.Facts.{RawFact, Fact, Names, Number, Written}
+use Rattle.filing_model.specs.Reading.Fitted.{AreLinks, IsFitted}
+use Rattle.filing_model.specs.Oim.Reports.{Report}
+use Rattle.filing_model.specs.Reading.ReadFact.{raw_fact_of}
+use Rattle.filing_model.specs.Reading.ReadReport.{NotJson, read_report_of}
+use Rattle.filing_model.specs.Reading.Writing.{raw_fact_text, report_text}
 use Rattle.filing_model.specs.declared.duplicates.Allowed.TheVariants.{Never}
 use Rattle.filing_model.proofs.OnLiterals.{filing_on_literals}
-use Rattle.filing_model.proofs.WrittenValues.{same_json}
+use Rattle.filing_model.proofs.Reading.WrittenValues.{same_json}
 use Rattle.oim_report.specs.JsonValues.{IsJsonValue}
 use Rattle.oim_report.specs.Nesting.{NestsWithin}
 use Rattle.oim_report.specs.Parts.{IsInfo, document_type}

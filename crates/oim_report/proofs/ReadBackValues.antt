@@ -5,10 +5,10 @@ use Rattle.json.specs.Tree.{json_tokens}
 use Rattle.serde_json.specs.Data.{Data}
 use Rattle.serde_json.specs.Read.{max_depth}
 use Rattle.serde_json.specs.Written.{outline, compact_text}
-use Rattle.filing_model.specs.Text.{Text}
-use Rattle.filing_model.specs.JsonText.{json_of}
-use Rattle.filing_model.proofs.JsonTexts.{json_of-Some}
-use Rattle.filing_model.proofs.WrittenValues.{Reads, written_tokens, outline_back}
+use Rattle.filing_model.specs.Common.Text.{Text}
+use Rattle.filing_model.specs.Reading.JsonText.{json_of}
+use Rattle.filing_model.proofs.Reading.JsonTexts.{json_of-Some}
+use Rattle.filing_model.proofs.Reading.WrittenValues.{Reads, written_tokens, outline_back}
 use Rattle.oim_report.specs.Nesting.{NestsWithin}
 
 -- the text of a value is JSON: its tokens are those of the value's outline, which is read to its end

@@ -8,17 +8,17 @@ use Rattle.std.proofs.lemmas.Bool.{or_parts, ltb-true}
 use Rattle.serde_json.specs.Data.{Num, unsigned, negative, float, Data, null, boolean, number, string, array, object, Items, no_items, item, Members, no_members, member}
 use Rattle.serde_json.specs.Find.{get, get_member, as_i64}
 use Rattle.serde_json.specs.Written.{has_float, items_have_float, members_have_float, compact_text}
-use Rattle.filing_model.specs.Text.{Text}
-use Rattle.filing_model.specs.Try.{◌>>=◌, map_err}
-use Rattle.filing_model.specs.JsonText.{as_nullable, IsWhole, IsWritable, AreWritable, AreMembersWritable}
-use Rattle.filing_model.specs.Dimensions.{Dims, AreDims, dims_of}
-use Rattle.filing_model.specs.Facts.{RawFact}
-use Rattle.filing_model.specs.Fitted.{AreLinks}
-use Rattle.filing_model.specs.ReadFact.{named_dims, decimals_of, links_of, raw_fact_of}
+use Rattle.filing_model.specs.Common.Text.{Text}
+use Rattle.filing_model.specs.Common.Try.{◌>>=◌, map_err}
+use Rattle.filing_model.specs.Reading.JsonText.{as_nullable, IsWhole, IsWritable, AreWritable, AreMembersWritable}
+use Rattle.filing_model.specs.Oim.Dimensions.{Dims, AreDims, dims_of}
+use Rattle.filing_model.specs.Oim.Facts.{RawFact}
+use Rattle.filing_model.specs.Reading.Fitted.{AreLinks}
+use Rattle.filing_model.specs.Reading.ReadFact.{named_dims, decimals_of, links_of, raw_fact_of}
 use Rattle.filing_model.specs.declared.faults.DimFault.{DimFault}
 use Rattle.filing_model.specs.declared.faults.Trouble.{Trouble}
 use Rattle.filing_model.specs.declared.faults.Trouble.TheVariants as trouble
-use Rattle.filing_model.proofs.DimensionSets.{AreDims-from_Ok}
+use Rattle.filing_model.proofs.Oim.DimensionSets.{AreDims-from_Ok}
 use Rattle.oim_report.specs.JsonValues.{IsJsonNumber, IsJsonValue, AreJsonValues, AreJsonMembers}
 use Rattle.oim_report.specs.ReadableFact.{AreWholeDecimals, IsReadableFact}
 

@@ -6,17 +6,17 @@ use Rattle.serde_json.specs.Data.{Data, null, boolean, number, string, array, ob
 use Rattle.serde_json.specs.Find.{get, as_str, as_object}
 use Rattle.serde_json.specs.Read.{max_depth}
 use Rattle.serde_json.specs.Written.{has_float, compact_text}
-use Rattle.filing_model.specs.Text.{Text, text_eq}
-use Rattle.filing_model.specs.TextMap.{TextMap}
-use Rattle.filing_model.specs.Try.{◌>>=◌, each, map_err}
-use Rattle.filing_model.specs.JsonText.{IsWritable, pairs, object_at}
-use Rattle.filing_model.specs.Facts.{Fact, Names, Table}
-use Rattle.filing_model.specs.Prefixes.{prefixes_of}
-use Rattle.filing_model.specs.Reports.{Report}
-use Rattle.filing_model.specs.ReadReport as report
-use Rattle.filing_model.specs.ReadReport.{ReportFault, AliasTwice, WrongDocumentType, document_info_of, allowed_of_features, prefix_of, prefixes_of_namespaces, whole_text_of, facts_of, report_of}
+use Rattle.filing_model.specs.Common.Text.{Text, text_eq}
+use Rattle.filing_model.specs.Common.TextMap.{TextMap}
+use Rattle.filing_model.specs.Common.Try.{◌>>=◌, each, map_err}
+use Rattle.filing_model.specs.Reading.JsonText.{IsWritable, pairs, object_at}
+use Rattle.filing_model.specs.Oim.Facts.{Fact, Names, Table}
+use Rattle.filing_model.specs.Oim.Prefixes.{prefixes_of}
+use Rattle.filing_model.specs.Oim.Reports.{Report}
+use Rattle.filing_model.specs.Reading.ReadReport as report
+use Rattle.filing_model.specs.Reading.ReadReport.{ReportFault, AliasTwice, WrongDocumentType, document_info_of, allowed_of_features, prefix_of, prefixes_of_namespaces, whole_text_of, facts_of, report_of}
 use Rattle.filing_model.specs.declared.duplicates.Allowed.{Allowed}
-use Rattle.filing_model.proofs.Texts.{text_decides}
+use Rattle.filing_model.proofs.Common.Texts.{text_decides}
 use Rattle.oim_fact.specs.Names.{names_of}
 use Rattle.oim_report.specs.Parts.{IsInfo, document_type}
 use Rattle.oim_report.specs.Readings.{Declaration, has_document_type, document_info_at, bound_of, declared_names, report_of_members}

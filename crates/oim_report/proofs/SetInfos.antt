@@ -8,18 +8,18 @@ use Rattle.serde_json.specs.Find.{get, as_str}
 use Rattle.serde_json.specs.Read.{read, max_depth}
 use Rattle.serde_json.specs.Written.{outline}
 use Rattle.serde_json.proofs.Views.{get_member-put}
-use Rattle.filing_model.specs.Text.{Text}
-use Rattle.filing_model.specs.TextMap.{TextMap}
-use Rattle.filing_model.specs.Reports.{Report}
-use Rattle.filing_model.specs.ReadReport.{BadPolicy, allowed_word, allowed_of_value, allowed_of_features, prefixes_of_namespaces, read_report_of}
-use Rattle.filing_model.specs.Writing.{report_text}
-use Rattle.filing_model.specs.DeclaredValue.{features_in, with_value, declaring, with_allowed, report_declaring}
+use Rattle.filing_model.specs.Common.Text.{Text}
+use Rattle.filing_model.specs.Common.TextMap.{TextMap}
+use Rattle.filing_model.specs.Oim.Reports.{Report}
+use Rattle.filing_model.specs.Reading.ReadReport.{BadPolicy, allowed_word, allowed_of_value, allowed_of_features, prefixes_of_namespaces, read_report_of}
+use Rattle.filing_model.specs.Reading.Writing.{report_text}
+use Rattle.filing_model.specs.Reading.DeclaredValue.{features_in, with_value, declaring, with_allowed, report_declaring}
 use Rattle.filing_model.specs.declared.duplicates.Allowed.{Allowed}
-use Rattle.filing_model.proofs.JsonTexts.{whole-IsWritable}
-use Rattle.filing_model.proofs.ReadValues.{IsRead-writable}
+use Rattle.filing_model.proofs.Reading.JsonTexts.{whole-IsWritable}
+use Rattle.filing_model.proofs.Reading.ReadValues.{IsRead-writable}
 use Rattle.filing_model.proofs.OnLiterals.{filing_on_literals}
-use Rattle.filing_model.proofs.WrittenValues.{Reads-writable, read_written, written_tokens, outline_depth, same_json}
-use Rattle.filing_model.proofs.DeclaredValues.{set_written, depth_declaring, others_declaring, writable_declaring, word_read}
+use Rattle.filing_model.proofs.Reading.WrittenValues.{Reads-writable, read_written, written_tokens, outline_depth, same_json}
+use Rattle.filing_model.proofs.Reading.DeclaredValues.{set_written, depth_declaring, others_declaring, writable_declaring, word_read}
 use Rattle.oim_report.specs.Nesting.{NestsWithin}
 use Rattle.oim_report.specs.Parts.{IsInfo}
 use Rattle.oim_report.specs.Readable.{IsReadable}

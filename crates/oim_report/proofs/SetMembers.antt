@@ -5,8 +5,8 @@ use Rattle.serde_json.specs.View.{view, members_view}
 use Rattle.serde_json.specs.declared.value.Value.{Value, Object, the_lemmas}
 use Rattle.serde_json.specs.declared.value.Value as value
 use Rattle.serde_json.proofs.Views.{view-Object}
-use Rattle.filing_model.specs.ReadReport.{allowed_word}
-use Rattle.filing_model.specs.DeclaredValue.{features_in, declaring}
+use Rattle.filing_model.specs.Reading.ReadReport.{allowed_word}
+use Rattle.filing_model.specs.Reading.DeclaredValue.{features_in, declaring}
 use Rattle.filing_model.specs.declared.duplicates.Allowed.{Allowed}
 
 view-String : (text : String Global) → view (value.String text) ≡ string (string_bytes text)

@@ -6,9 +6,9 @@ use Rattle.std.specs.List.{AllByRecursion}
 use Rattle.std.specs.List.Sorted.{IsStrictlySortedBy}
 use Rattle.std.specs.FinMap.Entries.{is_sorted, below_all}
 use Rattle.serde_json.specs.View.{members_view}
-use Rattle.filing_model.specs.Text.{Text, text_cmp}
-use Rattle.filing_model.specs.JsonText.{pairs}
-use Rattle.filing_model.proofs.Tests.{both_hold}
+use Rattle.filing_model.specs.Common.Text.{Text, text_cmp}
+use Rattle.filing_model.specs.Reading.JsonText.{pairs}
+use Rattle.filing_model.proofs.Common.Tests.{both_hold}
 use Rattle.oim_report.proofs.EachMember.{Entry}
 
 below_members : (k : Text) (es : List Entry) → AllByRecursion (λ y. text_cmp k (string_bytes y) ≡ Less) (keys_of es)

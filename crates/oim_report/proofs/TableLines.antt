@@ -8,12 +8,12 @@ use Rattle.std.specs.declared.alloc.Global.{Global}
 use Rattle.std.proofs.lemmas.Bool.{ne_eqb}
 use Rattle.std.specs.List.{list_all, enumerate_from, slice_split, position_or_len, before_first, after_first}
 use Rattle.std.specs.Str.Lines.{strip_carriage_return}
-use Rattle.filing_model.specs.Text.{Text}
+use Rattle.filing_model.specs.Common.Text.{Text}
 use Rattle.std.specs.Char.{is_newline}
-use Rattle.filing_model.specs.Tables.{is_space, is_row, row_at, split_at_space}
-use Rattle.filing_model.specs.Try.{each, with_front}
+use Rattle.filing_model.specs.Oim.Tables.{is_space, is_row, row_at, split_at_space}
+use Rattle.filing_model.specs.Common.Try.{each, with_front}
 use Rattle.filing_model.specs.declared.faults.TableFault.{TableFault}
-use Rattle.filing_model.proofs.Tries.{each_more}
+use Rattle.filing_model.proofs.Reading.Tries.{each_more}
 use Rattle.oim_fact.specs.Texts.{row_of, rows_view}
 use Rattle.oim_report.specs.Lines.{lines_left, numbered_from}
 

@@ -8,8 +8,8 @@ use Rattle.json.specs.Print.{quoted}
 use Rattle.json.proofs.Printed.Utf8.{IsUtf8-are_ascii, IsUtf8-quoted, IsUtf8-boolean}
 use Rattle.serde_json.specs.Data.{Num, unsigned, negative, float, Data, null, boolean, number, string, array, object, Items, no_items, item, Members, no_members, member}
 use Rattle.serde_json.specs.Written.{number_text, comma_if, compact_text, items_text, members_text}
-use Rattle.filing_model.specs.Text.{Text}
-use Rattle.filing_model.specs.JsonText.{IsWhole, IsWritable, AreWritable, AreMembersWritable}
+use Rattle.filing_model.specs.Common.Text.{Text}
+use Rattle.filing_model.specs.Reading.JsonText.{IsWhole, IsWritable, AreWritable, AreMembersWritable}
 
 utf8_number : (n : Num) → IsWhole n → IsUtf8 (number_text n)
 utf8_number (unsigned n) h = IsUtf8-from_ascii (decimal n) (IsAscii-decimal n h)

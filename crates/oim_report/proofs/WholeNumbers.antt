@@ -3,7 +3,7 @@ use Rattle.std.proofs.Common.{◌≡◌, sym, subst, List, []}
 use Rattle.serde_json.specs.View.{items_view, members_view}
 use Rattle.serde_json.specs.Written.{items_have_float, members_have_float}
 use Rattle.serde_json.specs.declared.value.Value.{Value}
-use Rattle.filing_model.specs.JsonText.{AreWritable, AreMembersWritable}
+use Rattle.filing_model.specs.Reading.JsonText.{AreWritable, AreMembersWritable}
 use Rattle.oim_report.proofs.EachMember.{Entry}
 
 -- what is known of all, of what is left

@@ -10,18 +10,18 @@ use Rattle.json.specs.Print.{quoted, escape_byte}
 use Rattle.serde_json.specs.Data.{Data, null, number, string, object, Members, no_members, member}
 use Rattle.serde_json.specs.Find.{get, of_integer, as_i64}
 use Rattle.serde_json.specs.Written.{number_text, comma_if, compact_text, members_text}
-use Rattle.filing_model.specs.Text.{Text, text_cmp}
-use Rattle.filing_model.specs.Try.{◌>>=◌, each, map_err}
-use Rattle.filing_model.specs.JsonText.{json_of, pairs, as_nullable, IsWhole, IsWritable}
-use Rattle.filing_model.specs.Dimensions.{Dims, AreDims, dims_of}
-use Rattle.filing_model.specs.Facts.{RawFact}
-use Rattle.filing_model.specs.Fitted.{AreLinks}
-use Rattle.filing_model.specs.ReadFact.{dim_of, named_dims, decimals_of, links_of, raw_fact_of}
-use Rattle.filing_model.specs.Writing.{listed, member_text, nullable_text, dims_text, decimals_text, links_text, raw_fact_text}
+use Rattle.filing_model.specs.Common.Text.{Text, text_cmp}
+use Rattle.filing_model.specs.Common.Try.{◌>>=◌, each, map_err}
+use Rattle.filing_model.specs.Reading.JsonText.{json_of, pairs, as_nullable, IsWhole, IsWritable}
+use Rattle.filing_model.specs.Oim.Dimensions.{Dims, AreDims, dims_of}
+use Rattle.filing_model.specs.Oim.Facts.{RawFact}
+use Rattle.filing_model.specs.Reading.Fitted.{AreLinks}
+use Rattle.filing_model.specs.Reading.ReadFact.{dim_of, named_dims, decimals_of, links_of, raw_fact_of}
+use Rattle.filing_model.specs.Reading.Writing.{listed, member_text, nullable_text, dims_text, decimals_text, links_text, raw_fact_text}
 use Rattle.filing_model.specs.declared.faults.Trouble.TheVariants as trouble
-use Rattle.filing_model.proofs.JsonTexts.{whole-IsWritable}
-use Rattle.filing_model.proofs.DimensionSets.{Ok-from_AreDims}
-use Rattle.filing_model.proofs.WrittenValues.{Reads, EachReads, Reads-number, Reads-object, Reads-writable}
+use Rattle.filing_model.proofs.Reading.JsonTexts.{whole-IsWritable}
+use Rattle.filing_model.proofs.Oim.DimensionSets.{Ok-from_AreDims}
+use Rattle.filing_model.proofs.Reading.WrittenValues.{Reads, EachReads, Reads-number, Reads-object, Reads-writable}
 use Rattle.serde_json.specs.Read.{max_depth}
 use Rattle.oim_report.specs.Nesting.{NestsWithin}
 use Rattle.oim_report.specs.ReadableFact.{AreWholeDecimals, IsReadableFact}

@@ -3,9 +3,9 @@ use Rattle.std.proofs.Common.{◌≡◌, OnOk, Result, Ok, Err, is_ok, List, ℕ
 use Rattle.std.specs.Bool.{if◌then◌else◌}
 use Rattle.json.specs.Token.{string}
 use Rattle.json.specs.Print.{print, print_from, quoted}
-use Rattle.filing_model.specs.Text.{Text}
-use Rattle.filing_model.specs.Dimensions.{Dims}
-use Rattle.filing_model.specs.Writing.{decimals_in, decimals_text, dims_text, links_text, nullable_text, text_of, raw_fact_text, fact_text}
+use Rattle.filing_model.specs.Common.Text.{Text}
+use Rattle.filing_model.specs.Oim.Dimensions.{Dims}
+use Rattle.filing_model.specs.Reading.Writing.{decimals_in, decimals_text, dims_text, links_text, nullable_text, text_of, raw_fact_text, fact_text}
 use Rattle.oim_fact.specs.declared.fact.FactValue.{FactValue}
 use Rattle.oim_fact.specs.Facts.{value_view}
 use Rattle.oim_report.specs.Appended.{IsFrontAppended}

@@ -10,30 +10,30 @@ use Rattle.serde_json.specs.Data.{Data, object, Members, no_members, member, dep
 use Rattle.serde_json.specs.Find.{get, as_str}
 use Rattle.serde_json.specs.Read.{max_depth}
 use Rattle.serde_json.specs.Written.{comma_if, compact_text, members_text, has_float}
-use Rattle.filing_model.specs.Text.{Text, text_cmp, text_eq}
-use Rattle.filing_model.specs.TextMap.{TextMap, from_entries}
-use Rattle.filing_model.specs.Try.{◌>>=◌, each, map_err}
-use Rattle.filing_model.specs.JsonText.{json_of, without_mark, pairs}
-use Rattle.filing_model.specs.Numerals.{most_fraction_digits, most_whole_digits, number_of}
-use Rattle.filing_model.specs.Intervals.{accuracy_of, are_decimals}
-use Rattle.filing_model.specs.Dimensions.{AreDims, concept_of}
-use Rattle.filing_model.specs.Facts.{RawFact, Fact, FactValue, Names, fit_of, fit_bound, with_value, value_of, numeric_value, number_with, expanded, are_bound, is_numeric, is_misplaced, written_value}
-use Rattle.filing_model.specs.Fitted.{AreLinks, IsFitted}
-use Rattle.filing_model.specs.Reports.{Report}
-use Rattle.filing_model.specs.ReadFact.{raw_fact_of}
-use Rattle.filing_model.specs.ReadReport.{NotJson, WrongDocumentType, NotWhole, BadFact, document_info_of}
-use Rattle.filing_model.specs.ReadReport.{allowed_of_features, prefixes_of_namespaces, whole_text_of, entry_of}
-use Rattle.filing_model.specs.ReadReport.{facts_of, report_of, read_report_of}
-use Rattle.filing_model.specs.Writing.{decimals_in, raw_of, fact_text, listed, member_text, report_text}
+use Rattle.filing_model.specs.Common.Text.{Text, text_cmp, text_eq}
+use Rattle.filing_model.specs.Common.TextMap.{TextMap, from_entries}
+use Rattle.filing_model.specs.Common.Try.{◌>>=◌, each, map_err}
+use Rattle.filing_model.specs.Reading.JsonText.{json_of, without_mark, pairs}
+use Rattle.filing_model.specs.Oim.Numerals.{most_fraction_digits, most_whole_digits, number_of}
+use Rattle.filing_model.specs.Oim.Intervals.{accuracy_of, are_decimals}
+use Rattle.filing_model.specs.Oim.Dimensions.{AreDims, concept_of}
+use Rattle.filing_model.specs.Oim.Facts.{RawFact, Fact, FactValue, Names, fit_of, fit_bound, with_value, value_of, numeric_value, number_with, expanded, are_bound, is_numeric, is_misplaced, written_value}
+use Rattle.filing_model.specs.Reading.Fitted.{AreLinks, IsFitted}
+use Rattle.filing_model.specs.Oim.Reports.{Report}
+use Rattle.filing_model.specs.Reading.ReadFact.{raw_fact_of}
+use Rattle.filing_model.specs.Reading.ReadReport.{NotJson, WrongDocumentType, NotWhole, BadFact, document_info_of}
+use Rattle.filing_model.specs.Reading.ReadReport.{allowed_of_features, prefixes_of_namespaces, whole_text_of, entry_of}
+use Rattle.filing_model.specs.Reading.ReadReport.{facts_of, report_of, read_report_of}
+use Rattle.filing_model.specs.Reading.Writing.{decimals_in, raw_of, fact_text, listed, member_text, report_text}
 use Rattle.filing_model.specs.declared.faults.NumberFault.{NumberFault}
 use Rattle.filing_model.specs.declared.faults.NumberFault.TheVariants.{DecimalsOutOfRange}
 use Rattle.filing_model.specs.declared.faults.FactFault.{FactFault}
 use Rattle.filing_model.specs.declared.faults.FactFault.TheVariants.{UnboundPrefix, Misplaced}
 use Rattle.filing_model.specs.declared.faults.Trouble.TheVariants as trouble
-use Rattle.filing_model.proofs.FitAgain.{fit_again}
-use Rattle.filing_model.proofs.JsonTexts.{whole-IsWritable}
-use Rattle.filing_model.proofs.TextMaps.{from_entries-entries}
-use Rattle.filing_model.proofs.WrittenValues.{Reads, EachReads, Reads-object, Reads-writable}
+use Rattle.filing_model.proofs.Oim.FitAgain.{fit_again}
+use Rattle.filing_model.proofs.Reading.JsonTexts.{whole-IsWritable}
+use Rattle.filing_model.proofs.Common.TextMaps.{from_entries-entries}
+use Rattle.filing_model.proofs.Reading.WrittenValues.{Reads, EachReads, Reads-object, Reads-writable}
 use Rattle.oim_report.specs.Nesting.{NestsWithin}
 use Rattle.oim_report.specs.Parts.{IsInfo, document_type}
 use Rattle.oim_report.specs.Readable.{AreFitted, IsReadable}

@@ -1,7 +1,7 @@
 -- What a text is once something was to be appended to it, also where memory was wanted on the way.
 use Rattle.std.specs.Prelude.{◌≡◌, ◌++◌, String, string_bytes}
 use Rattle.std.specs.declared.alloc.Global.{Global}
-use Rattle.filing_model.specs.Text.{Text}
+use Rattle.filing_model.specs.Common.Text.{Text}
 
 -- a front of the piece was appended: nothing, all of it, or what stands between
 pub record IsFrontAppended (old new piece : Text) : Type 0 where

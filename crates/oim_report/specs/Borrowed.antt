@@ -6,7 +6,7 @@ use Rattle.json.specs.Value.{value_view}
 use Rattle.json.specs.declared.value.Value.{Value as TextValue}
 use Rattle.serde_json.specs.Data.{Data, null, Members, no_members, member}
 use Rattle.serde_json.specs.Read.{of_json}
-use Rattle.filing_model.specs.Text.{Text}
+use Rattle.filing_model.specs.Common.Text.{Text}
 
 -- each number in it is one of 64 bits or has a finite nearest float
 abbrev pub is_in_range : {A : Type 0} → TextValue A → Bool

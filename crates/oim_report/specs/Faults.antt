@@ -1,6 +1,6 @@
 -- The faults of a report that code may answer, as those of the definitions.
 use Rattle.std.specs.Prelude.{Option, None, Some, string_bytes}
-use Rattle.filing_model.specs.ReadReport as model
+use Rattle.filing_model.specs.Reading.ReadReport as model
 use Rattle.oim_report.specs.declared.fault.ReportFault.{ReportFault}
 use Rattle.oim_report.specs.declared.fault.ReportFault.TheVariants.{NotJson, WrongShape, WrongDocumentType, BadPolicy, AliasTwice, NotWhole, BadFact, NoMemory}
 

@@ -2,8 +2,8 @@
 use Rattle.std.specs.Prelude.{◌<◌, ◌^◌, T, pos, negsuc, ⊤, IsUtf8}
 use Rattle.std.specs.FinMap.Entries.{is_sorted}
 use Rattle.serde_json.specs.Data.{Num, unsigned, negative, float, Data, null, boolean, number, string, array, object, Items, no_items, item, Members, no_members, member}
-use Rattle.filing_model.specs.Text.{text_cmp}
-use Rattle.filing_model.specs.JsonText.{pairs}
+use Rattle.filing_model.specs.Common.Text.{text_cmp}
+use Rattle.filing_model.specs.Reading.JsonText.{pairs}
 
 -- a number is a whole one of 64 bits or a float
 abbrev pub IsJsonNumber : Num → Type 0

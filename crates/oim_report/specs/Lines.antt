@@ -3,7 +3,7 @@ use Rattle.std.specs.Prelude.{ℕ, nat_lt, List, [], map, filter, length, Option
 use Rattle.std.specs.List.{slice_split, enumerate_from}
 use Rattle.std.specs.Char.{is_newline}
 use Rattle.std.specs.Str.Lines.{strip_carriage_return}
-use Rattle.filing_model.specs.Text.{Text}
+use Rattle.filing_model.specs.Common.Text.{Text}
 
 -- the lines of the text that is left, if any
 abbrev pub lines_left : Option Text → List Text

@@ -3,7 +3,7 @@ use Rattle.std.specs.Prelude.{◌≡◌, ◌≤◌, ℕ, IsUtf8}
 use Rattle.json.specs.Lex as lex
 use Rattle.json.specs.Json.{Json}
 use Rattle.json.specs.Tree.{json_tokens, depth}
-use Rattle.filing_model.specs.Text.{Text}
+use Rattle.filing_model.specs.Common.Text.{Text}
 
 -- the text is UTF-8, and a JSON value whose tokens are those of the text nests its arrays and objects no deeper than
 -- this.

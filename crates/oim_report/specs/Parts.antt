@@ -8,12 +8,12 @@ use Rattle.serde_json.specs.Data.{Members, object, depth}
 use Rattle.serde_json.specs.Find.{get, as_str}
 use Rattle.serde_json.specs.Read.{max_depth}
 use Rattle.serde_json.specs.Written.{compact_text}
-use Rattle.filing_model.specs.Text.{Text, text_cmp}
-use Rattle.filing_model.specs.TextMap.{TextMap, from_entries}
-use Rattle.filing_model.specs.JsonText.{IsWritable}
-use Rattle.filing_model.specs.Facts.{Fact, Names}
-use Rattle.filing_model.specs.Reports.{Report}
-use Rattle.filing_model.specs.ReadReport.{allowed_of_features, prefixes_of_namespaces}
+use Rattle.filing_model.specs.Common.Text.{Text, text_cmp}
+use Rattle.filing_model.specs.Common.TextMap.{TextMap, from_entries}
+use Rattle.filing_model.specs.Reading.JsonText.{IsWritable}
+use Rattle.filing_model.specs.Oim.Facts.{Fact, Names}
+use Rattle.filing_model.specs.Oim.Reports.{Report}
+use Rattle.filing_model.specs.Reading.ReadReport.{allowed_of_features, prefixes_of_namespaces}
 use Rattle.filing_model.specs.declared.duplicates.Allowed.{Allowed}
 
 -- an identifier with its fact, which is shared

@@ -3,14 +3,14 @@ use Rattle.std.specs.Prelude.{◌≡◌, Some, Ok}
 use Rattle.serde_json.specs.Data.{Data}
 use Rattle.serde_json.specs.Read.{max_depth}
 use Rattle.serde_json.specs.Written.{compact_text}
-use Rattle.filing_model.specs.JsonText.{json_of, IsWritable}
-use Rattle.filing_model.specs.Dimensions.{AreDims}
-use Rattle.filing_model.specs.Facts.{RawFact, Fact, Names, fit_of}
-use Rattle.filing_model.specs.Fitted.{IsFitted}
-use Rattle.filing_model.specs.Reports.{Report}
-use Rattle.filing_model.specs.ReadFact.{raw_fact_of}
-use Rattle.filing_model.specs.ReadReport.{read_report_of}
-use Rattle.filing_model.specs.Writing.{raw_of, raw_fact_text, fact_text, report_text}
+use Rattle.filing_model.specs.Reading.JsonText.{json_of, IsWritable}
+use Rattle.filing_model.specs.Oim.Dimensions.{AreDims}
+use Rattle.filing_model.specs.Oim.Facts.{RawFact, Fact, Names, fit_of}
+use Rattle.filing_model.specs.Reading.Fitted.{IsFitted}
+use Rattle.filing_model.specs.Oim.Reports.{Report}
+use Rattle.filing_model.specs.Reading.ReadFact.{raw_fact_of}
+use Rattle.filing_model.specs.Reading.ReadReport.{read_report_of}
+use Rattle.filing_model.specs.Reading.Writing.{raw_of, raw_fact_text, fact_text, report_text}
 use Rattle.oim_report.specs.JsonValues.{IsJsonValue}
 use Rattle.oim_report.specs.Nesting.{NestsWithin}
 use Rattle.oim_report.specs.Readable.{IsReadable}

@@ -1,10 +1,10 @@
 -- What is known of a report that was read. The project's own.
 use Rattle.std.specs.Prelude.{List, [], ◌∷◌, ⊤}
-use Rattle.filing_model.specs.Text.{Text}
-use Rattle.filing_model.specs.Dimensions.{AreDims}
-use Rattle.filing_model.specs.Facts.{Fact, Names}
-use Rattle.filing_model.specs.Fitted.{IsFitted}
-use Rattle.filing_model.specs.Reports.{Report}
+use Rattle.filing_model.specs.Common.Text.{Text}
+use Rattle.filing_model.specs.Oim.Dimensions.{AreDims}
+use Rattle.filing_model.specs.Oim.Facts.{Fact, Names}
+use Rattle.filing_model.specs.Reading.Fitted.{IsFitted}
+use Rattle.filing_model.specs.Oim.Reports.{Report}
 use Rattle.oim_report.specs.Parts.{IsInfo}
 
 -- each fact has a dimension set and is fitted to these names

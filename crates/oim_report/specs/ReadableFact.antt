@@ -1,8 +1,8 @@
 -- What is known of a raw fact that was read. The project's own.
 use Rattle.std.specs.Prelude.{◌<◌, ◌^◌, ℤ, pos, negsuc, Option, Some, None, ⊤}
-use Rattle.filing_model.specs.Dimensions.{AreDims}
-use Rattle.filing_model.specs.Facts.{RawFact}
-use Rattle.filing_model.specs.Fitted.{AreLinks}
+use Rattle.filing_model.specs.Oim.Dimensions.{AreDims}
+use Rattle.filing_model.specs.Oim.Facts.{RawFact}
+use Rattle.filing_model.specs.Reading.Fitted.{AreLinks}
 
 -- a whole number of 64 bits with its sign, or none
 abbrev pub AreWholeDecimals : Option ℤ → Type 0

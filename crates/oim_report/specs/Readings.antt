@@ -4,16 +4,16 @@ use Rattle.std.specs.Option.{option_map_or}
 use Rattle.std.specs.declared.alloc.Global.{Global}
 use Rattle.serde_json.specs.Data.{Data}
 use Rattle.serde_json.specs.Find.{get, as_str, as_object}
-use Rattle.filing_model.specs.Text.{Text, text_eq}
-use Rattle.filing_model.specs.TextMap.{TextMap}
-use Rattle.filing_model.specs.Try.{◌>>=◌, each, map_err}
-use Rattle.filing_model.specs.JsonText.{pairs, an_object, as_nullable}
-use Rattle.filing_model.specs.Dimensions.{dims_of}
-use Rattle.filing_model.specs.Facts.{Fact, Names, RawFact, Table, fit_of}
-use Rattle.filing_model.specs.ReadFact.{dim_of, decimals_of, links_of}
-use Rattle.filing_model.specs.ReadReport as report
-use Rattle.filing_model.specs.ReadReport.{ReportFault, AliasTwice, WrongDocumentType, prefix_of, allowed_of_features, whole_text_of, facts_of}
-use Rattle.filing_model.specs.Reports.{Report}
+use Rattle.filing_model.specs.Common.Text.{Text, text_eq}
+use Rattle.filing_model.specs.Common.TextMap.{TextMap}
+use Rattle.filing_model.specs.Common.Try.{◌>>=◌, each, map_err}
+use Rattle.filing_model.specs.Reading.JsonText.{pairs, an_object, as_nullable}
+use Rattle.filing_model.specs.Oim.Dimensions.{dims_of}
+use Rattle.filing_model.specs.Oim.Facts.{Fact, Names, RawFact, Table, fit_of}
+use Rattle.filing_model.specs.Reading.ReadFact.{dim_of, decimals_of, links_of}
+use Rattle.filing_model.specs.Reading.ReadReport as report
+use Rattle.filing_model.specs.Reading.ReadReport.{ReportFault, AliasTwice, WrongDocumentType, prefix_of, allowed_of_features, whole_text_of, facts_of}
+use Rattle.filing_model.specs.Oim.Reports.{Report}
 use Rattle.filing_model.specs.declared.duplicates.Allowed.{Allowed}
 use Rattle.filing_model.specs.declared.faults.Trouble.{Trouble}
 use Rattle.filing_model.specs.declared.faults.Trouble.TheVariants.{WrongShape, Dims, Fit}

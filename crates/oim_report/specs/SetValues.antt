@@ -3,12 +3,12 @@ use Rattle.std.specs.Prelude.{◌≡◌, Some, Ok, codes}
 use Rattle.serde_json.specs.Data.{Data}
 use Rattle.serde_json.specs.Find.{get}
 use Rattle.serde_json.specs.Read.{read, max_depth}
-use Rattle.filing_model.specs.Text.{Text}
-use Rattle.filing_model.specs.TextMap.{TextMap}
-use Rattle.filing_model.specs.Reports.{Report}
-use Rattle.filing_model.specs.ReadReport.{allowed_of_features, prefixes_of_namespaces, read_report_of}
-use Rattle.filing_model.specs.Writing.{report_text}
-use Rattle.filing_model.specs.DeclaredValue.{with_allowed, report_declaring}
+use Rattle.filing_model.specs.Common.Text.{Text}
+use Rattle.filing_model.specs.Common.TextMap.{TextMap}
+use Rattle.filing_model.specs.Oim.Reports.{Report}
+use Rattle.filing_model.specs.Reading.ReadReport.{allowed_of_features, prefixes_of_namespaces, read_report_of}
+use Rattle.filing_model.specs.Reading.Writing.{report_text}
+use Rattle.filing_model.specs.Reading.DeclaredValue.{with_allowed, report_declaring}
 use Rattle.filing_model.specs.declared.duplicates.Allowed.{Allowed}
 use Rattle.oim_report.specs.Nesting.{NestsWithin}
 use Rattle.oim_report.specs.Parts.{IsInfo}

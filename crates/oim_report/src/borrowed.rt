@@ -7,7 +7,7 @@ ghost use Rattle.serde_json.specs.Data.{no_members};
 ghost use Rattle.serde_json.specs.Find.{get};
 ghost use Rattle.serde_json.specs.Read.{of_json, of_items, of_members, number_of, number_from, float_of};
 ghost use Rattle.serde_json.specs.View.{view, number_view, items_view, members_view};
-ghost use Rattle.filing_model.specs.JsonText.{json_of};
+ghost use Rattle.filing_model.specs.Reading.JsonText.{json_of};
 ghost use Rattle.oim_report.specs.Borrowed.{IsInRange, are_in_range, data_of, members_at, read_object};
 
 use crate::values::MAX_DEPTH;

@@ -4,7 +4,7 @@ ghost use Rattle.std.specs.Prelude.{◌≡◌, Option, option_map, option_and_th
 ghost use Rattle.serde_json.specs.Find.{get_member};
 ghost use Rattle.serde_json.specs.Read.{read};
 ghost use Rattle.serde_json.specs.View.{view, members_view};
-ghost use Rattle.filing_model.specs.DeclaredValue.{whole_members, features_in, declaring, with_allowed};
+ghost use Rattle.filing_model.specs.Reading.DeclaredValue.{whole_members, features_in, declaring, with_allowed};
 
 use crate::info::allowed_word;
 use crate::values::{is_whole, members_of};

@@ -16,8 +16,8 @@ pub struct Entries<'a> {
 
 impl<'a> Model for Entries<'a> {
     ghost use Rattle.std.specs.Prelude.{List};
-    ghost use Rattle.filing_model.specs.Text.{Text};
-    ghost use Rattle.filing_model.specs.Facts.{Fact as PlainFact};
+    ghost use Rattle.filing_model.specs.Common.Text.{Text};
+    ghost use Rattle.filing_model.specs.Oim.Facts.{Fact as PlainFact};
     ghost use Rattle.oim_report.specs.Parts.{facts_view};
 
     ghost Value = { List (Text × PlainFact) };

@@ -4,12 +4,12 @@ ghost use Rattle.std.specs.Prelude.{◌≡◌, codes, Option, option_map, ok_or,
 ghost use Rattle.std.specs.Option.{option_and_then};
 ghost use Rattle.serde_json.specs.Find.{get};
 ghost use Rattle.serde_json.specs.View.{view, members_view};
-ghost use Rattle.filing_model.specs.Try.{Gives, each, map_err};
-ghost use Rattle.filing_model.specs.Dimensions.{dims_of};
-ghost use Rattle.filing_model.specs.Faults.{fact_trouble};
-ghost use Rattle.filing_model.specs.Fitted.{AreLinks};
-ghost use Rattle.filing_model.specs.JsonText.{pairs, as_nullable};
-ghost use Rattle.filing_model.specs.ReadFact.{dim_of, decimals_of, links_of, raw_fact_of, dims_read};
+ghost use Rattle.filing_model.specs.Common.Try.{Gives, each, map_err};
+ghost use Rattle.filing_model.specs.Oim.Dimensions.{dims_of};
+ghost use Rattle.filing_model.specs.Common.Faults.{fact_trouble};
+ghost use Rattle.filing_model.specs.Reading.Fitted.{AreLinks};
+ghost use Rattle.filing_model.specs.Reading.JsonText.{pairs, as_nullable};
+ghost use Rattle.filing_model.specs.Reading.ReadFact.{dim_of, decimals_of, links_of, raw_fact_of, dims_read};
 ghost use Rattle.filing_model.specs.declared.faults.Trouble.TheVariants as trouble;
 ghost use Rattle.oim_fact.specs.Dims.{dims_view};
 ghost use Rattle.oim_fact.specs.Texts.{text_view};

@@ -1,7 +1,7 @@
 //! Facts as compact JSON (xBRL-JSON 1.0, the fact object).
 
 ghost use Rattle.std.specs.Prelude.{◌≡◌, ◌++◌, OnOk, OnErr, IfOk, string_bytes};
-ghost use Rattle.filing_model.specs.Writing.{decimals_in, dims_text, fact_text, links_text, member_text, nullable_text, raw_fact_text, text_of as text_of_value};
+ghost use Rattle.filing_model.specs.Reading.Writing.{decimals_in, dims_text, fact_text, links_text, member_text, nullable_text, raw_fact_text, text_of as text_of_value};
 ghost use Rattle.oim_fact.specs.Texts.{text_view};
 ghost use Rattle.oim_fact.specs.Dims.{dims_view};
 ghost use Rattle.oim_fact.specs.Facts.{value_view};

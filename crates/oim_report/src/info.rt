@@ -4,9 +4,9 @@ ghost use Rattle.std.specs.Prelude.{◌≡◌, codes, Option, option_map, string
 ghost use Rattle.std.specs.Arc.{arc_value};
 ghost use Rattle.serde_json.specs.Find.{get};
 ghost use Rattle.serde_json.specs.View.{view, members_view};
-ghost use Rattle.filing_model.specs.Try.{Gives, each};
-ghost use Rattle.filing_model.specs.JsonText.{pairs, IsWritable};
-ghost use Rattle.filing_model.specs.ReadReport.{allowed_word, allowed_of_word, allowed_of_features, prefix_of, whole_text_of};
+ghost use Rattle.filing_model.specs.Common.Try.{Gives, each};
+ghost use Rattle.filing_model.specs.Reading.JsonText.{pairs, IsWritable};
+ghost use Rattle.filing_model.specs.Reading.ReadReport.{allowed_word, allowed_of_word, allowed_of_features, prefix_of, whole_text_of};
 ghost use Rattle.oim_fact.specs.Texts.{row_of, rows_view};
 ghost use Rattle.oim_report.specs.Faults.{report_fault};
 ghost use Rattle.oim_report.specs.Readings.{bound_of, document_info_at, has_document_type, declared_names, same};

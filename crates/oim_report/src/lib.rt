@@ -1,6 +1,21 @@
 //! Reports and numeric tables of xBRL-JSON 1.0, read from their texts, and facts and reports written.
 //!
-//! In reading, `values` makes a JSON value of bytes, `borrowed` one whose texts are those of the bytes, `reading` a report of the value, `info` reads `documentInfo`, `facts` all facts and `fact` one; `table` reads numeric tables, and `fault` says why a text is no report. `report` is what was read, `entries` goes through its facts, and `declared_value` sets the value that a report declares. In writing, `report_text` and `fact_text` put texts together of `pieces`. `read_back` has the laws that what is written is read back, and `info_laws` those of an info in which a value was set.
+//! - `values`: a JSON value, read from bytes.
+//! - `borrowed`: a JSON value whose texts are those of the bytes.
+//! - `reading`: a report, read from a JSON value.
+//! - `info`: what `documentInfo` declares.
+//! - `facts`: all facts of a report, read.
+//! - `fact`: one fact, read.
+//! - `table`: numeric tables, read.
+//! - `fault`: why a text is no report.
+//! - `report`: the report that was read.
+//! - `entries`: the facts of a report, one by one.
+//! - `declared_value`: setting the value that a report declares.
+//! - `report_text`: a report, written.
+//! - `fact_text`: a fact, written.
+//! - `pieces`: the pieces of which written texts are made.
+//! - `read_back`: the laws that what is written is read back.
+//! - `info_laws`: the laws of an info in which a value was set.
 //!
 //! It knows nothing of versions, of sessions or of devices.
 #![tactic(auto)]

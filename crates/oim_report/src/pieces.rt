@@ -4,7 +4,7 @@ ghost use Rattle.std.specs.Prelude.{◌≡◌, ◌∷◌, [], ◌++◌, OnOk, On
 ghost use Rattle.std.specs.Bool.{OnTrue};
 ghost use Rattle.json.specs.Print.{escape, escape_byte, quoted};
 ghost use Rattle.serde_json.specs.Written.{comma_if};
-ghost use Rattle.filing_model.specs.Writing.{decimals_text, nullable_text};
+ghost use Rattle.filing_model.specs.Reading.Writing.{decimals_text, nullable_text};
 ghost use Rattle.oim_fact.specs.Texts.{text_view};
 ghost use Rattle.oim_report.specs.Appended.{IsFrontPushed};
 

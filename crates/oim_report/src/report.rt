@@ -1,7 +1,7 @@
 //! Reports, and the parts that they are made of.
 
 ghost use Rattle.std.specs.Prelude.{◌≡◌, IfOk};
-ghost use Rattle.filing_model.specs.DeclaredValue.{report_declaring};
+ghost use Rattle.filing_model.specs.Reading.DeclaredValue.{report_declaring};
 ghost use Rattle.oim_report.specs.Parts.{AreParts, facts_view, parts_of, whole};
 
 use crate::declared_value::with_allowed;
@@ -46,7 +46,7 @@ pub struct Report {
 
 impl Model for Report {
     ghost use Rattle.std.specs.Prelude.{string_bytes};
-    ghost use Rattle.filing_model.specs.Reports.{Report as PlainReport};
+    ghost use Rattle.filing_model.specs.Oim.Reports.{Report as PlainReport};
     ghost use Rattle.oim_report.specs.Parts.{AreParts, facts_view, whole};
 
     ghost Value = { PlainReport };

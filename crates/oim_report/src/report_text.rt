@@ -2,10 +2,10 @@
 
 ghost use Rattle.std.specs.Prelude.{◌≡◌, ◌++◌, List, OnOk, OnErr, IfOk, false, string_bytes};
 ghost use Rattle.std.specs.Iterator.{IsFinite, AlwaysYields};
-ghost use Rattle.filing_model.specs.Text.{Text};
-ghost use Rattle.filing_model.specs.Facts.{Fact as PlainFact};
-ghost use Rattle.filing_model.specs.Reports.{Report as PlainReport};
-ghost use Rattle.filing_model.specs.Writing.{fact_text, listed, member_text, report_text};
+ghost use Rattle.filing_model.specs.Common.Text.{Text};
+ghost use Rattle.filing_model.specs.Oim.Facts.{Fact as PlainFact};
+ghost use Rattle.filing_model.specs.Oim.Reports.{Report as PlainReport};
+ghost use Rattle.filing_model.specs.Reading.Writing.{fact_text, listed, member_text, report_text};
 ghost use Rattle.oim_report.specs.Appended.{IsFrontPushed};
 ghost use Rattle.oim_report.specs.Entries.{entry_seen, IsReportOf};
 

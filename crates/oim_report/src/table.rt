@@ -4,9 +4,9 @@ ghost use Rattle.std.specs.Prelude.{◌≡◌, ◌<◌, ◌∷◌, Option, None,
 ghost use Rattle.std.specs.List.{slice_split};
 ghost use Rattle.std.specs.Char.{is_newline};
 ghost use Rattle.std.specs.Str.Lines.{strip_carriage_return};
-ghost use Rattle.filing_model.specs.Try.{Gives, each};
-ghost use Rattle.filing_model.specs.Faults.{table_fault};
-ghost use Rattle.filing_model.specs.Tables.{is_row, numbered_lines, read_table_of, row_at, split_at_space};
+ghost use Rattle.filing_model.specs.Common.Try.{Gives, each};
+ghost use Rattle.filing_model.specs.Common.Faults.{table_fault};
+ghost use Rattle.filing_model.specs.Oim.Tables.{is_row, numbered_lines, read_table_of, row_at, split_at_space};
 ghost use Rattle.oim_fact.specs.Texts.{row_of, rows_view};
 ghost use Rattle.oim_report.specs.Lines.{lines_left};
 ghost use Rattle.oim_report.specs.Readings.{same};

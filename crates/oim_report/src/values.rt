@@ -5,8 +5,8 @@ ghost use Rattle.serde_json.specs.Data.{object, depth, items_depth, members_dept
 ghost use Rattle.serde_json.specs.Find.{as_object, get, get_member, is_float};
 ghost use Rattle.serde_json.specs.View.{view, number_view, items_view, members_view};
 ghost use Rattle.serde_json.specs.Written.{compact_text, has_float, items_have_float, members_have_float};
-ghost use Rattle.filing_model.specs.Text.{Text, text_eq};
-ghost use Rattle.filing_model.specs.JsonText.{json_of, without_mark, IsWhole, IsWritable, AreWritable};
+ghost use Rattle.filing_model.specs.Common.Text.{Text, text_eq};
+ghost use Rattle.filing_model.specs.Reading.JsonText.{json_of, without_mark, IsWhole, IsWritable, AreWritable};
 
 use serde_json::{Map, Number, Value};
 use std::alloc::{AllocError, Global};

@@ -5,7 +5,7 @@ use Rattle.std.specs.Int.Signed.{le_z_yes}
 use Rattle.std.specs.Bool.{passes}
 use Rattle.std.proofs.lemmas.Int.{ints, clamps, by_lt_z}
 use Rattle.std.proofs.lemmas.Bool.{and_parts}
-use Rattle.filing_model.specs.Intervals.{Interval, IsWithin, meets}
+use Rattle.filing_model.specs.Oim.Intervals.{Interval, IsWithin, meets}
 use Rattle.oim_value.specs.Numbers.{HasBoundedEnds}
 
 ordered : (a b c d : ℤ) → a ≤ℤ b → c ≤ℤ d → a ≤ℤ d → c ≤ℤ b → int_max a c ≤ℤ int_min b d

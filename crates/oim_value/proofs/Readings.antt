@@ -1,9 +1,9 @@
 -- Proof that what is read by the definition is what the grammar says, by the laws of numerals.
 use Rattle.std.proofs.Common.{◌≡◌, ℤ, Result, ap, sym, ◌∙◌}
-use Rattle.filing_model.specs.Text.{Text}
-use Rattle.filing_model.specs.Numerals.{number_of}
+use Rattle.filing_model.specs.Common.Text.{Text}
+use Rattle.filing_model.specs.Oim.Numerals.{number_of}
 use Rattle.filing_model.specs.declared.faults.NumberFault.{NumberFault}
-use Rattle.filing_model.proofs.Numerals.{short_spellings_have_their_number, long_spellings_are_too_large, only_spellings_are_numbers}
+use Rattle.filing_model.proofs.Oim.Numerals.{short_spellings_have_their_number, long_spellings_are_too_large, only_spellings_are_numbers}
 use Rattle.oim_value.specs.Reading.{IsReadAsSpelled}
 
 pub read_as_spelled : (text : Text) (result : Result ℤ NumberFault) → result ≡ number_of text → IsReadAsSpelled text result

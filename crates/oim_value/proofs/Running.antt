@@ -4,9 +4,9 @@ use Rattle.std.proofs.Math.Nat.{mul-le-mul_right, pow-le-pow_right, pow-suc}
 use Rattle.std.proofs.lemmas.Bool.{and_parts}
 use Rattle.std.specs.List.{list_all}
 use Rattle.std.specs.Char.{is_ascii_digit}
-use Rattle.filing_model.specs.Text.{Text}
-use Rattle.filing_model.specs.Numerals.{place_sum}
-use Rattle.filing_model.proofs.Bounds.{digit_is_small}
+use Rattle.filing_model.specs.Common.Text.{Text}
+use Rattle.filing_model.specs.Oim.Numerals.{place_sum}
+use Rattle.filing_model.proofs.Oim.Bounds.{digit_is_small}
 use Rattle.oim_value.specs.Numbers.{number_limit}
 
 -- the digits that are left are few enough behind the running number, and together they make the whole one

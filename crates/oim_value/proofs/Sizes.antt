@@ -6,14 +6,14 @@ use Rattle.std.proofs.lemmas.List.Folds.{list_all-append}
 use Rattle.std.proofs.lemmas.Bool.{and_parts}
 use Rattle.std.specs.List.{list_all}
 use Rattle.std.specs.Char.{is_ascii_digit}
-use Rattle.filing_model.specs.Text.{Text}
-use Rattle.filing_model.specs.Numerals.{place_sum, scaled, are_digits, are_few, is_zero, is_blank, without_front}
-use Rattle.filing_model.specs.Numerals.{without_end, without_blanks, is_negative, without_sign, size_of, signed}
-use Rattle.filing_model.specs.Numerals.{with_sign, number_of_body, number_of, most_fraction_digits}
-use Rattle.filing_model.specs.Numerals.{most_whole_digits}
+use Rattle.filing_model.specs.Common.Text.{Text}
+use Rattle.filing_model.specs.Oim.Numerals.{place_sum, scaled, are_digits, are_few, is_zero, is_blank, without_front}
+use Rattle.filing_model.specs.Oim.Numerals.{without_end, without_blanks, is_negative, without_sign, size_of, signed}
+use Rattle.filing_model.specs.Oim.Numerals.{with_sign, number_of_body, number_of, most_fraction_digits}
+use Rattle.filing_model.specs.Oim.Numerals.{most_whole_digits}
 use Rattle.filing_model.specs.declared.faults.NumberFault.{NumberFault}
-use Rattle.filing_model.proofs.Numerals.{place_sum_append, few_whole_digits, few_fraction_digits}
-use Rattle.filing_model.proofs.Bounds.{place_sum_below, scaled_below, all_digits}
+use Rattle.filing_model.proofs.Oim.Numerals.{place_sum_append, few_whole_digits, few_fraction_digits}
+use Rattle.filing_model.proofs.Oim.Bounds.{place_sum_below, scaled_below, all_digits}
 use Rattle.oim_value.specs.Numbers.{number_limit}
 
 -- the digits before the point leave room for those behind it

@@ -4,9 +4,9 @@ use Rattle.std.proofs.Math.Nat.{pow-le-pow_right}
 use mir.Syntax.{w128}
 use Rattle.std.specs.Int.RustNames.{FitsSigned}
 use Rattle.std.proofs.lemmas.Int.{ints, fits_signed_from_abs}
-use Rattle.filing_model.specs.Numerals.{most_fraction_digits, most_whole_digits}
-use Rattle.filing_model.specs.Intervals.{Interval, IsWithin, interval_of, half_width}
-use Rattle.filing_model.proofs.Intervals.{holds_what_is_near}
+use Rattle.filing_model.specs.Oim.Numerals.{most_fraction_digits, most_whole_digits}
+use Rattle.filing_model.specs.Oim.Intervals.{Interval, IsWithin, interval_of, half_width}
+use Rattle.filing_model.proofs.Oim.Intervals.{holds_what_is_near}
 use Rattle.oim_value.specs.Accuracies.{half_width_of}
 use Rattle.oim_value.specs.Numbers.{number_limit, HasFewDigits, HasBoundedEnds}
 

@@ -2,7 +2,7 @@
 use Rattle.std.specs.Prelude.{ℕ, ℤ, Option, Some, None, Result, Ok, Err}
 use Rattle.oim_value.specs.declared.accuracy.Accuracy.{Accuracy}
 use Rattle.oim_value.specs.declared.accuracy.Accuracy.TheVariants.{Exact, To}
-use Rattle.filing_model.specs.Intervals.{half_width}
+use Rattle.filing_model.specs.Oim.Intervals.{half_width}
 use Rattle.filing_model.specs.declared.faults.NumberFault.{NumberFault}
 
 -- the decimals of an accuracy, or none where the number is exact

@@ -4,8 +4,8 @@
 -- counted
 -- in units, so they are whole, and the ends of intervals in half units.
 use Rattle.std.specs.Prelude.{ℕ, ◌+◌, ◌*◌, ◌^◌, ◌<◌, ◌≤◌, ℤ, ◌≤ℤ◌, nat_abs}
-use Rattle.filing_model.specs.Numerals.{most_fraction_digits, most_whole_digits}
-use Rattle.filing_model.specs.Intervals.{Interval}
+use Rattle.filing_model.specs.Oim.Numerals.{most_fraction_digits, most_whole_digits}
+use Rattle.filing_model.specs.Oim.Intervals.{Interval}
 
 -- no number reaches so many units, 10^35
 abbrev pub number_limit : ℕ

@@ -1,7 +1,7 @@
 -- What is read of a text, in the words of the grammar: how it can be spelled, and which number a spelling has.
 use Rattle.std.specs.Prelude.{◌≡◌, ◌≢◌, ℤ, Result, Ok, Err}
-use Rattle.filing_model.specs.Text.{Text}
-use Rattle.filing_model.specs.Numerals.{Spelling, IsSpelling, IsShort, IsNumberOf, spelled}
+use Rattle.filing_model.specs.Common.Text.{Text}
+use Rattle.filing_model.specs.Oim.Numerals.{Spelling, IsSpelling, IsShort, IsNumberOf, spelled}
 use Rattle.filing_model.specs.declared.faults.NumberFault.{NumberFault}
 use Rattle.filing_model.specs.declared.faults.NumberFault.TheVariants.{NotANumber, TooLarge}
 

@@ -1,8 +1,8 @@
 //! How far a number may be off (the attribute `decimals` of XBRL 2.1). The range is the project's own.
 
 ghost use Rattle.std.specs.Prelude.{◌≡◌, pos, neg_ℤ, ◌≤ℤ◌};
-ghost use Rattle.filing_model.specs.Numerals.{most_fraction_digits, most_whole_digits};
-ghost use Rattle.filing_model.specs.Intervals.{accuracy_of};
+ghost use Rattle.filing_model.specs.Oim.Numerals.{most_fraction_digits, most_whole_digits};
+ghost use Rattle.filing_model.specs.Oim.Intervals.{accuracy_of};
 ghost use Rattle.oim_value.specs.Accuracies.{accuracy_view};
 
 use crate::decimal::{MOST_FRACTION_DIGITS, MOST_WHOLE_DIGITS};
@@ -17,7 +17,7 @@ pub struct Decimals {
 
 impl Model for Decimals {
     ghost use Rattle.std.specs.Prelude.{ℤ, IsTrue};
-    ghost use Rattle.filing_model.specs.Intervals.{are_decimals};
+    ghost use Rattle.filing_model.specs.Oim.Intervals.{are_decimals};
 
     ghost Value = { ℤ };
 

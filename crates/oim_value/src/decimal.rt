@@ -3,9 +3,9 @@
 ghost use Rattle.std.specs.Prelude.{◌≡◌, ◌+◌, ◌*◌, ◌^◌, ◌<◌, ◌≤◌, ◌++◌, length, nat_lt, position, IsTrue, IfOk, nat_abs};
 ghost use Rattle.std.specs.List.{list_all, before_first, after_first};
 ghost use Rattle.std.specs.Char.{is_ascii_digit};
-ghost use Rattle.filing_model.specs.Numerals.{number_of, without_front, without_end, is_point, is_negative};
-ghost use Rattle.filing_model.specs.Numerals.{without_sign, signed, are_digits, are_few, size_of, size_of_few};
-ghost use Rattle.filing_model.specs.Numerals.{place_sum, most_fraction_digits, most_whole_digits};
+ghost use Rattle.filing_model.specs.Oim.Numerals.{number_of, without_front, without_end, is_point, is_negative};
+ghost use Rattle.filing_model.specs.Oim.Numerals.{without_sign, signed, are_digits, are_few, size_of, size_of_few};
+ghost use Rattle.filing_model.specs.Oim.Numerals.{place_sum, most_fraction_digits, most_whole_digits};
 ghost use Rattle.oim_value.specs.Numbers.{HasFewDigits, number_limit};
 ghost use Rattle.oim_value.specs.Reading.{IsReadAsSpelled};
 ghost use Rattle.oim_value.specs.Padding.{is_padding};

@@ -2,7 +2,7 @@
 
 ghost use Rattle.std.specs.Prelude.{◌≡◌, ◌≤◌, ℤ, pos, ◌-ℤ◌, ◌*ℤ◌, nat_abs, ◌↔◌, IsTrue, IsSome, IfSome};
 ghost use Rattle.std.specs.Bool.{OnTrue, OnFalse};
-ghost use Rattle.filing_model.specs.Intervals.{interval_of, IsWithin, ShareANumber, meets};
+ghost use Rattle.filing_model.specs.Oim.Intervals.{interval_of, IsWithin, ShareANumber, meets};
 ghost use Rattle.oim_value.specs.Accuracies.{decimals_of, half_width_of};
 ghost use Rattle.oim_value.specs.Numbers.{HasBoundedEnds, number_limit};
 
@@ -18,7 +18,7 @@ pub struct Interval {
 }
 
 impl Model for Interval {
-    ghost use Rattle.filing_model.specs.Intervals.{Interval as Ends};
+    ghost use Rattle.filing_model.specs.Oim.Intervals.{Interval as Ends};
     ghost use Rattle.oim_value.specs.Numbers.{HasBoundedEnds};
 
     ghost Value = { Ends };

@@ -4,10 +4,10 @@ use Rattle.std.proofs.Math.Seq.{drop-cons}
 use Rattle.std.specs.declared.vec.Vec.{Vec}
 use Rattle.std.specs.declared.alloc.Global.{Global}
 use Rattle.script_oracle.specs.Lines.{texts}
-use Rattle.filing_model.specs.Text.{Text}
-use Rattle.line_run.specs.Lines.{is_line_feed, line_begun, lines_of}
-use Rattle.line_run.specs.Pieces.{whole_from, rest_from}
-use Rattle.line_run.proofs.CutLines.{lines_of_lem}
+use Rattle.filing_model.specs.Common.Text.{Text}
+use Rattle.line_io.specs.Lines.{is_line_feed, line_begun, lines_of}
+use Rattle.line_io.specs.Pieces.{whole_from, rest_from}
+use Rattle.line_io.proofs.CutLines.{lines_of_lem}
 use Rattle.std.proofs.lemmas.List.{append-nil}
 
 -- the lines so far with those that the rest ends are all, and the rest leaves the same begun

@@ -1,10 +1,10 @@
 -- The output of a script, line by line.
 use Rattle.std.proofs.Common.{◌≡◌, ◌∙◌, ap, sym, refl, List, [], ◌∷◌, ◌++◌, not, cond, true, false, append_assoc}
-use Rattle.filing_model.specs.Text.{Text}
-use Rattle.line_run.specs.Lines.{is_blank, spoken, lines_text, lines_of}
-use Rattle.line_run.specs.Run.{replies_by}
-use Rattle.filing_model.specs.Facts.{Table}
-use Rattle.filing_text.specs.Script.{State, start, line_answer, script_output}
+use Rattle.filing_model.specs.Common.Text.{Text}
+use Rattle.line_io.specs.Lines.{is_blank, spoken, lines_text, lines_of}
+use Rattle.line_io.specs.Run.{replies_by}
+use Rattle.filing_model.specs.Oim.Facts.{Table}
+use Rattle.script_format.specs.Script.{State, start, line_answer, script_output}
 use Rattle.std.proofs.lemmas.List.{append-nil}
 use Rattle.script_oracle.specs.Lines.{output_of}
 

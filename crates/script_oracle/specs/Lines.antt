@@ -2,10 +2,10 @@
 use Rattle.std.specs.Prelude.{ℕ, List, map}
 use Rattle.std.specs.declared.vec.Vec.{Vec}
 use Rattle.std.specs.declared.alloc.Global.{Global}
-use Rattle.filing_model.specs.Text.{Text}
-use Rattle.line_run.specs.Lines.{spoken, lines_text}
-use Rattle.line_run.specs.Run.{replies_by}
-use Rattle.filing_text.specs.Script.{State, line_answer}
+use Rattle.filing_model.specs.Common.Text.{Text}
+use Rattle.line_io.specs.Lines.{spoken, lines_text}
+use Rattle.line_io.specs.Run.{replies_by}
+use Rattle.script_format.specs.Script.{State, line_answer}
 
 abbrev pub texts : List (Vec ℕ Global) → List Text
 texts lines = map (λ line. line.items) lines

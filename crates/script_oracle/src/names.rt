@@ -2,8 +2,8 @@
 
 ghost use Rattle.std.specs.Prelude.{◌≡◌, not, IfOk};
 ghost use Rattle.std.specs.List.{filter};
-ghost use Rattle.filing_model.specs.Text.{text_eq};
-ghost use Rattle.filing_model.specs.TextMap.{empty, get, insert, remove};
+ghost use Rattle.filing_model.specs.Common.Text.{text_eq};
+ghost use Rattle.filing_model.specs.Common.TextMap.{empty, get, insert, remove};
 ghost use Rattle.history_oracle.specs.Named.{named};
 
 use filing_model::is_same_text;
@@ -19,7 +19,7 @@ pub struct Names {
 
 impl Model for Names {
     ghost use Rattle.std.specs.Prelude.{ℕ};
-    ghost use Rattle.filing_model.specs.TextMap.{TextMap, from_entries};
+    ghost use Rattle.filing_model.specs.Common.TextMap.{TextMap, from_entries};
     ghost use Rattle.history_oracle.specs.Named.{named};
 
     ghost Value = { TextMap ℕ };

@@ -2,13 +2,13 @@
 
 ghost use Rattle.std.specs.Prelude.{◌≡◌, List, ◌∷◌, ◌++◌, string_bytes, IfOk, OnOk};
 ghost use Rattle.std.specs.Arc.{arc_value};
-ghost use Rattle.line_run.specs.Lines.{lines_of};
-ghost use Rattle.filing_text.specs.Script.{script_output};
+ghost use Rattle.line_io.specs.Lines.{lines_of};
+ghost use Rattle.script_format.specs.Script.{script_output};
 ghost use Rattle.script_oracle.specs.Lines.{texts, output_of};
-ghost use Rattle.filing_model.specs.Text.{Text};
+ghost use Rattle.filing_model.specs.Common.Text.{Text};
 
 use crate::oracle::Oracle;
-use line_run::is_blank;
+use line_io::is_blank;
 use oim_fact::NumericTable;
 use std::alloc::{AllocError, Global};
 use std::sync::Arc;

@@ -5,8 +5,8 @@ use Rattle.std.specs.Cmp.{IsTotalOrder}
 use Rattle.std.specs.List.{flat_map, insert, remove, list_all}
 use Rattle.std.specs.Ordering.{is_gt, is_eq, eq_by_cmp, ordering_reverse}
 use Rattle.std.proofs.lemmas.List.{length-append}
-use Rattle.sorted_pages.specs.declared.change.Change.{Change}
-use Rattle.sorted_pages.specs.declared.change.Change.TheVariants.{Remove}
+use Rattle.sorted_pages.specs.declared.edit.Edit.{Edit}
+use Rattle.sorted_pages.specs.declared.edit.Edit.TheVariants.{Remove}
 use Rattle.sorted_pages.specs.Ranges.{IsMonotone, first_within}
 use Rattle.sorted_pages.specs.Sorted.{IsRising, is_below, AllBelow}
 use Rattle.sorted_pages.specs.Changes.{entry_of, entries_put, with_change, with_changes, without_tied}
@@ -66,19 +66,19 @@ module _ {E : Type 0} (R : E → E → Ordering) (o : IsTotalOrder R) where
   without_first x (e ∷ es) = refl
 
   -- it rises with the change made, and where it was not
-  pub rises_made : (c : Change E) (old new : List E) (made : Bool) → new ≡ cond made (with_change R c old) old → IsRising R old → IsRising R new
+  pub rises_made : (c : Edit E) (old new : List E) (made : Bool) → new ≡ cond made (with_change R c old) old → IsRising R old → IsRising R new
   rises_made c old new true e h = subst (IsRising R) (sym e) (rising-with_changes R o (c ∷ []) old h)
   rises_made c old new false e h = subst (IsRising R) (sym e) h
 
   -- ---- an entry
 
-  at_place : (c : Change E) (less rest : List E) → IsRising R (less ++ rest)
+  at_place : (c : Edit E) (less rest : List E) → IsRising R (less ++ rest)
       → T (ends_with (λ e. is_lt (R e (entry_of c))) less) → T (begins_with (λ e. not (is_lt (R e (entry_of c)))) rest)
       → less ++ (entries_put c ++ without_tied R (entry_of c) rest) ≡ with_change R c (less ++ rest)
   at_place c less rest h g b =
       sym (laid_one R o c [] less rest (less_all_below R o (entry_of c) less rest h g) (rising_right R less rest h) tt b)
 
-  pub changed_at : (c : Change E) (x : E) (items less rest after : List E) (place : ℕ) (ties made : Bool)
+  pub changed_at : (c : Edit E) (x : E) (items less rest after : List E) (place : ℕ) (ties made : Bool)
       → x ≡ entry_of c → items ≡ less ++ rest → IsRising R items
       → T (ends_with (λ e. is_lt (R e x)) less) → T (begins_with (λ e. not (is_lt (R e x))) rest)
       → place ≡ length less → ties ≡ first_passes (λ e. eq_by_cmp R x e) rest
@@ -166,7 +166,7 @@ module _ {E : Type 0} (R : E → E → Ordering) (o : IsTotalOrder R) where
         (λ a. all_above fs (rising_right R (v f) (flat_map v fs) rises) a)
 
   module _ {B : Type 0} (v : B → List E) where
-    pub changed_in : (d : Change E) (x : E) (before : List B) (b b' : B) (rest : List B) (made : Bool) → x ≡ entry_of d
+    pub changed_in : (d : Edit E) (x : E) (before : List B) (b b' : B) (rest : List B) (made : Bool) → x ≡ entry_of d
         → AllBelow R (flat_map v before) (x ∷ []) → T (is_below R x (flat_map v rest))
         → v b' ≡ cond made (with_change R d (v b)) (v b)
         → flat_map v (before ++ b' ∷ rest) ≡ cond made (with_change R d (flat_map v (before ++ b ∷ rest))) (flat_map v (before ++ b ∷ rest))
@@ -185,7 +185,7 @@ only (y ∷ []) x h k e = ap (λ z. z ∷ []) (sym e)
 only (y ∷ z ∷ ys) x h k e = absurd (omega (arith, k))
 
 -- the list after one change, which was made in place or is made then
-pub completes : {E X : Type 0} (R : E → E → Ordering) (r : Result (List E) X) (made : Bool) (one : List (Change E)) (c : Change E) (list es old : List E)
+pub completes : {E X : Type 0} (R : E → E → Ordering) (r : Result (List E) X) (made : Bool) (one : List (Edit E)) (c : Edit E) (list es old : List E)
     → one ≡ c ∷ [] → es ≡ old → list ≡ cond made (with_change R c es) es
     → IfOk r (λ p. p ≡ cond made list (with_changes R one list)) → IfOk r (λ p. p ≡ with_changes R one old)
 completes R (Ok p) true one c list es old eo ee el h = h ∙ el ∙ ap (with_change R c) ee ∙ ap (λ cs. with_changes R cs old) (sym eo)

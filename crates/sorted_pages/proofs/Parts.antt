@@ -1,10 +1,10 @@
--- Changes laid over a sorted list part by part.
+-- Changes applied to a sorted list part by part.
 use Rattle.std.proofs.Common.{◌≡◌, ◌∙◌, ap, sym, subst, refl, true, false, cond, not, T, List, [], ◌∷◌, ◌++◌, map, Ordering, Less, Equal, Greater, is_lt, is_eq}
 use Rattle.std.specs.Cmp.{IsTotalOrder, tied_back}
 use Rattle.std.specs.Ordering.{eq_by_cmp, ordering_reverse}
 use Rattle.std.specs.FinMap.Entries.{by_order, put, where_key}
-use Rattle.sorted_pages.specs.declared.change.Change.{Change}
-use Rattle.sorted_pages.specs.declared.change.Change.TheVariants.{Put, Remove}
+use Rattle.sorted_pages.specs.declared.edit.Edit.{Edit}
+use Rattle.sorted_pages.specs.declared.edit.Edit.TheVariants.{Put, Remove}
 use Rattle.sorted_pages.specs.Sorted.{keyed, entries, IsRising, is_below, AllBelow}
 use Rattle.sorted_pages.specs.Changes.{entry_of, with_change, with_changes, entries_put, without_tied}
 use Rattle.sorted_pages.specs.Edges.{begins_with}
@@ -24,11 +24,11 @@ module _ {E : Type 0} (R : E → E → Ordering) where
 
   -- ---- one change
 
-  at_greater : (c : Change E) (x : E) (xs : List E) → R (entry_of c) x ≡ Greater → with_change R c (x ∷ xs) ≡ x ∷ with_change R c xs
+  at_greater : (c : Edit E) (x : E) (xs : List E) → R (entry_of c) x ≡ Greater → with_change R c (x ∷ xs) ≡ x ∷ with_change R c xs
   at_greater (Put c) x xs g = ap (λ r. entries (by_order r ((c, c) ∷ (x, x) ∷ keyed xs) ((x, c) ∷ keyed xs) ((x, x) ∷ put R c c (keyed xs)))) g
   at_greater (Remove c) x xs g = ap (λ r. entries (cond (not (is_eq r)) ((x, x) ∷ left c xs) (left c xs))) g
 
-  at_less : (c : Change E) (ys : List E) → T (is_below R (entry_of c) ys) → with_change R c ys ≡ entries_put c ++ ys
+  at_less : (c : Edit E) (ys : List E) → T (is_below R (entry_of c) ys) → with_change R c ys ≡ entries_put c ++ ys
   at_less (Put c) [] h = refl
   at_less (Put c) (y ∷ ys) h =
       ap (λ r. entries (by_order r ((c, c) ∷ (y, y) ∷ keyed ys) ((y, c) ∷ keyed ys) ((y, y) ∷ put R c c (keyed ys)))) (less_from _ (first _ _ h))
@@ -38,7 +38,7 @@ module _ {E : Type 0} (R : E → E → Ordering) where
       ap (λ r. entries (cond (not (is_eq r)) ((y, y) ∷ left c ys) (left c ys))) (less_from _ (first _ _ h))
       ∙ ap (λ zs. y ∷ zs) (at_less (Remove c) ys (second _ _ h))
 
-  change_before : (c : Change E) (xs ys : List E) → T (is_below R (entry_of c) ys) → with_change R c (xs ++ ys) ≡ with_change R c xs ++ ys
+  change_before : (c : Edit E) (xs ys : List E) → T (is_below R (entry_of c) ys) → with_change R c (xs ++ ys) ≡ with_change R c xs ++ ys
   change_before (Put c) [] ys h = at_less (Put c) ys h
   change_before (Remove c) [] ys h = at_less (Remove c) ys h
   change_before (Put c) (x ∷ xs) ys h =
@@ -55,7 +55,7 @@ module _ {E : Type 0} (R : E → E → Ordering) where
         | false ↦ ap (λ zs. x ∷ zs) (change_before (Remove c) xs ys h)
       ]
 
-  AllBelow-with_change : (c : Change E) (xs zs : List E) → AllBelow R xs zs → T (is_below R (entry_of c) zs) → AllBelow R (with_change R c xs) zs
+  AllBelow-with_change : (c : Edit E) (xs zs : List E) → AllBelow R xs zs → T (is_below R (entry_of c) zs) → AllBelow R (with_change R c xs) zs
   AllBelow-with_change (Put c) [] zs g h = (h, tt)
   AllBelow-with_change (Remove c) [] zs g h = tt
   AllBelow-with_change (Put c) (x ∷ xs) zs g h =
@@ -73,35 +73,35 @@ module _ {E : Type 0} (R : E → E → Ordering) where
 
   -- ---- many changes
 
-  abbrev pub changed_entries : List (Change E) → List E
+  abbrev pub changed_entries : List (Edit E) → List E
   changed_entries cs = map entry_of cs
 
-  changes_before : (cs : List (Change E)) (xs ys : List E) → AllBelow R (changed_entries cs) ys → with_changes R cs (xs ++ ys) ≡ with_changes R cs xs ++ ys
+  changes_before : (cs : List (Edit E)) (xs ys : List E) → AllBelow R (changed_entries cs) ys → with_changes R cs (xs ++ ys) ≡ with_changes R cs xs ++ ys
   changes_before [] xs ys h = refl
   changes_before (c ∷ cs) xs ys h = ap (with_changes R cs) (change_before c xs ys h.0) ∙ changes_before cs (with_change R c xs) ys h.1
 
-  changes_in_turn : (cs ds : List (Change E)) (es : List E) → with_changes R (cs ++ ds) es ≡ with_changes R ds (with_changes R cs es)
+  changes_in_turn : (cs ds : List (Edit E)) (es : List E) → with_changes R (cs ++ ds) es ≡ with_changes R ds (with_changes R cs es)
   changes_in_turn [] ds es = refl
   changes_in_turn (c ∷ cs) ds es = changes_in_turn cs ds (with_change R c es)
 
-  AllBelow-with_changes : (cs : List (Change E)) (xs zs : List E) → AllBelow R xs zs → AllBelow R (changed_entries cs) zs → AllBelow R (with_changes R cs xs) zs
+  AllBelow-with_changes : (cs : List (Edit E)) (xs zs : List E) → AllBelow R xs zs → AllBelow R (changed_entries cs) zs → AllBelow R (with_changes R cs xs) zs
   AllBelow-with_changes [] xs zs g h = g
   AllBelow-with_changes (c ∷ cs) xs zs g h = AllBelow-with_changes cs (with_change R c xs) zs (AllBelow-with_change c xs zs g h.0) h.1
 
   module _ (o : IsTotalOrder R) where
-    change_after : (c : Change E) (xs ys : List E) → AllBelow R xs (entry_of c ∷ []) → with_change R c (xs ++ ys) ≡ xs ++ with_change R c ys
+    change_after : (c : Edit E) (xs ys : List E) → AllBelow R xs (entry_of c ∷ []) → with_change R c (xs ++ ys) ≡ xs ++ with_change R c ys
     change_after c [] ys h = refl
     change_after c (x ∷ xs) ys h =
         at_greater c x (xs ++ ys) (turned_less R o x (entry_of c) (less_from _ (first _ _ h.0))) ∙ ap (λ zs. x ∷ zs) (change_after c xs ys h.1)
 
-    pub changes_after : (cs : List (Change E)) (xs ys : List E) → AllBelow R xs (changed_entries cs) → with_changes R cs (xs ++ ys) ≡ xs ++ with_changes R cs ys
+    pub changes_after : (cs : List (Edit E)) (xs ys : List E) → AllBelow R xs (changed_entries cs) → with_changes R cs (xs ++ ys) ≡ xs ++ with_changes R cs ys
     changes_after [] xs ys h = refl
     changes_after (c ∷ cs) xs ys h =
         ap (with_changes R cs) (change_after c xs ys (AllBelow_left R xs (entry_of c ∷ []) (changed_entries cs) h))
         ∙ changes_after cs xs (with_change R c ys) (AllBelow_right R xs (entry_of c ∷ []) (changed_entries cs) h)
 
     -- changes of a middle part and of the part after it
-    pub laid_apart : (mine later : List (Change E)) (xs bs ys : List E) → AllBelow R xs (changed_entries (mine ++ later)) → AllBelow R (changed_entries mine) ys
+    pub laid_apart : (mine later : List (Edit E)) (xs bs ys : List E) → AllBelow R xs (changed_entries (mine ++ later)) → AllBelow R (changed_entries mine) ys
         → AllBelow R bs (changed_entries later) → AllBelow R (changed_entries mine) (changed_entries later)
         → with_changes R (mine ++ later) (xs ++ (bs ++ ys)) ≡ xs ++ (with_changes R mine bs ++ with_changes R later ys)
     laid_apart mine later xs bs ys a b c d =
@@ -115,7 +115,7 @@ module _ {E : Type 0} (R : E → E → Ordering) where
     tied_below x y [] e h = tt
     tied_below x y (z ∷ zs) e h = both _ _ (subst (λ r. T (is_lt r)) (sym (o.congr x y z e)) (first _ _ h)) (tied_below x y zs e (second _ _ h))
 
-    below-with_change : (x : E) (c : Change E) (xs : List E) → R x (entry_of c) ≡ Less → T (is_below R x xs) → T (is_below R x (with_change R c xs))
+    below-with_change : (x : E) (c : Edit E) (xs : List E) → R x (entry_of c) ≡ Less → T (is_below R x xs) → T (is_below R x (with_change R c xs))
     below-with_change x (Put c) [] l h = both _ _ (lt_from _ l) tt
     below-with_change x (Remove c) [] l h = tt
     below-with_change x (Put c) (y ∷ ys) l h =
@@ -139,7 +139,7 @@ module _ {E : Type 0} (R : E → E → Ordering) where
           | false ↦ both _ _ (first _ _ h) (below-removed x c ys (second _ _ h))
         ]
 
-    rising-with_change : (c : Change E) (xs : List E) → IsRising R xs → IsRising R (with_change R c xs)
+    rising-with_change : (c : Edit E) (xs : List E) → IsRising R xs → IsRising R (with_change R c xs)
     rising-with_change (Put c) [] h = tt
     rising-with_change (Remove c) [] h = tt
     rising-with_change (Put c) (x ∷ xs) h =
@@ -155,7 +155,7 @@ module _ {E : Type 0} (R : E → E → Ordering) where
           | false ↦ both _ _ (below-removed x c xs (first _ _ h)) (rising-with_change (Remove c) xs (second _ _ h))
         ]
 
-    pub rising-with_changes : (cs : List (Change E)) (xs : List E) → IsRising R xs → IsRising R (with_changes R cs xs)
+    pub rising-with_changes : (cs : List (Edit E)) (xs : List E) → IsRising R xs → IsRising R (with_changes R cs xs)
     rising-with_changes [] xs h = h
     rising-with_changes (c ∷ cs) xs h = rising-with_changes cs (with_change R c xs) (rising-with_change c xs h)
 
@@ -166,11 +166,11 @@ module _ {E : Type 0} (R : E → E → Ordering) where
     equal_from Equal e = refl
     equal_from Greater e = absurd (subst T (sym e) tt)
 
-    at_tied : (c : Change E) (x : E) → eq_by_cmp R (entry_of c) x ≡ true → with_change R c (x ∷ []) ≡ entries_put c
+    at_tied : (c : Edit E) (x : E) → eq_by_cmp R (entry_of c) x ≡ true → with_change R c (x ∷ []) ≡ entries_put c
     at_tied (Put c) x e = ap (λ r. entries (by_order r ((c, c) ∷ (x, x) ∷ []) ((x, c) ∷ []) ((x, x) ∷ (c, c) ∷ []))) (equal_from _ e)
     at_tied (Remove c) x e = ap (λ b. entries (cond (not b) ((x, x) ∷ []) [])) e
 
-    at_none : (c : Change E) → with_change R c [] ≡ entries_put c
+    at_none : (c : Edit E) → with_change R c [] ≡ entries_put c
     at_none (Put c) = refl
     at_none (Remove c) = refl
 
@@ -183,7 +183,7 @@ module _ {E : Type 0} (R : E → E → Ordering) where
     past : (c x : E) → T (not (is_lt (R x c))) → eq_by_cmp R c x ≡ false → R c x ≡ Less
     past c x h e = greater_by (R c x) (subst (λ r. T (not (is_lt r))) (o.antisymm x c) h) e
 
-    pub laid_one : (c : Change E) (later : List (Change E)) (less rest : List E) → AllBelow R less (entry_of c ∷ []) → IsRising R rest
+    pub laid_one : (c : Edit E) (later : List (Edit E)) (less rest : List E) → AllBelow R less (entry_of c ∷ []) → IsRising R rest
         → IsRising R (changed_entries (c ∷ later))
         → T (begins_with (λ e. not (is_lt (R e (entry_of c)))) rest)
         → with_changes R (c ∷ later) (less ++ rest) ≡ less ++ (entries_put c ++ with_changes R later (without_tied R (entry_of c) rest))

@@ -1,4 +1,4 @@
--- A step of a loop that lays changes: what is done, and what is ahead.
+-- A step of a loop that applies changes: what is done, and what is ahead.
 use Rattle.std.proofs.Common.{◌≡◌, ◌∙◌, ap, sym, subst, refl, Bool, true, not, T, List, [], ◌∷◌, ◌++◌, map, drop}
 use Rattle.std.proofs.Common.{length, arith, append_assoc, slice_get, None, Some, Ordering, Less, Equal, Greater}
 use Rattle.std.proofs.Common.{is_lt, is_some}
@@ -6,7 +6,7 @@ use Rattle.std.proofs.lemmas.List.{map-append}
 use Rattle.std.specs.List.{list_all, flat_map}
 use Rattle.std.specs.Cmp.{IsTotalOrder}
 use Rattle.std.specs.Ordering.{is_gt, ordering_reverse}
-use Rattle.sorted_pages.specs.declared.change.Change.{Change}
+use Rattle.sorted_pages.specs.declared.edit.Edit.{Edit}
 use Rattle.sorted_pages.specs.Sorted.{IsRising, is_below, AllBelow, PassesBelow}
 use Rattle.sorted_pages.specs.Changes.{entry_of, with_changes, entries_put, without_tied}
 use Rattle.sorted_pages.specs.Edges.{ends_with, begins_with, first_passes, is_before_edge}
@@ -39,7 +39,7 @@ module _ {E : Type 0} (R : E → E → Ordering) (o : IsTotalOrder R) where
 
   -- ---- the place of a change, and the changes before a place
 
-  pub mine_are_less : (n : E) (changes mine later : List (Change E)) → changes ≡ mine ++ later → IsRising R (map entry_of changes)
+  pub mine_are_less : (n : E) (changes mine later : List (Edit E)) → changes ≡ mine ++ later → IsRising R (map entry_of changes)
       → T (ends_with (λ c. is_lt (R (entry_of c) n)) mine) → T (list_all (λ e. is_lt (R e n)) (map entry_of mine))
   mine_are_less n changes mine later e h g =
       let parts : IsRising R (map entry_of mine ++ map entry_of later) = subst (IsRising R) (ap (map entry_of) e ∙ map-append entry_of mine later) h in
@@ -65,7 +65,7 @@ module _ {E : Type 0} (R : E → E → Ordering) (o : IsTotalOrder R) where
   later_pass x y (z ∷ zs) l h g =
       below_from R o x z zs (less_upto R o x y z l (upto_from (R y z) (subst (λ r. T (not (is_lt r))) (o.antisymm z y) g))) h
 
-  pub later_passes : (changes mine later : List (Change E)) (zs tail : List E) (y : E) → zs ≡ y ∷ tail → changes ≡ mine ++ later
+  pub later_passes : (changes mine later : List (Edit E)) (zs tail : List E) (y : E) → zs ≡ y ∷ tail → changes ≡ mine ++ later
       → IsRising R (map entry_of changes)
       → T (begins_with (λ e. not (is_lt (R e y))) (map entry_of later)) → PassesBelow R zs (map entry_of later)
   later_passes changes mine later zs tail y e d h g = λ x b.
@@ -89,7 +89,7 @@ module _ {E : Type 0} (R : E → E → Ordering) (o : IsTotalOrder R) where
 
   -- ---- the end of a loop, and one turn of it
 
-  pub laid_all : (ahead : List (Change E)) (left done total : List E) → length ahead ≡ 0 → done ++ with_changes R ahead left ≡ total → done ++ left ≡ total
+  pub laid_all : (ahead : List (Edit E)) (left done total : List E) → length ahead ≡ 0 → done ++ with_changes R ahead left ≡ total → done ++ left ≡ total
   laid_all [] left done total h e = e
   laid_all (c ∷ cs) left done total h e = absurd (omega (arith, h))
 
@@ -102,13 +102,13 @@ module _ {E : Type 0} (R : E → E → Ordering) (o : IsTotalOrder R) where
       let both_rise : IsRising R (bs ++ ys) = rising_right R xs (bs ++ ys) (subst (IsRising R) e h) in
       (rising_left R bs ys both_rise, rising_right R bs ys both_rise)
 
-  pub changes_parts : (ahead mine later : List (Change E)) → ahead ≡ mine ++ later → IsRising R (map entry_of ahead)
+  pub changes_parts : (ahead mine later : List (Edit E)) → ahead ≡ mine ++ later → IsRising R (map entry_of ahead)
       → IsRising R (map entry_of mine) × IsRising R (map entry_of later)
   changes_parts ahead mine later e h =
       let parts : IsRising R (map entry_of mine ++ map entry_of later) = subst (IsRising R) (ap (map entry_of) e ∙ map-append entry_of mine later) h in
       (rising_left R (map entry_of mine) (map entry_of later) parts, rising_right R (map entry_of mine) (map entry_of later) parts)
 
-  block_step : (c : Change E) (cs mine later : List (Change E)) (xs bs ys : List E) → c ∷ cs ≡ mine ++ later → IsRising R (xs ++ (bs ++ ys))
+  block_step : (c : Edit E) (cs mine later : List (Edit E)) (xs bs ys : List E) → c ∷ cs ≡ mine ++ later → IsRising R (xs ++ (bs ++ ys))
       → IsRising R (map entry_of (c ∷ cs))
       → AllBelow R xs (entry_of c ∷ []) → AllBelow R (map entry_of mine) ys → PassesBelow R ys (map entry_of later)
       → with_changes R (c ∷ cs) (xs ++ (bs ++ ys)) ≡ xs ++ (with_changes R mine bs ++ with_changes R later ys)
@@ -120,8 +120,8 @@ module _ {E : Type 0} (R : E → E → Ordering) (o : IsTotalOrder R) where
       (passes_all bs ys (map entry_of later) p (rising_apart R bs ys (rising_right R xs (bs ++ ys) h)))
       (rising_apart R (map entry_of mine) (map entry_of later) parts)
 
-  -- pages or runs: some are shared, one is laid anew
-  pub level_step : (c : Change E) (cs ahead mine later : List (Change E)) (xs bs ys left done shared laid total : List E)
+  -- pages or runs: some are shared, one is made anew
+  pub level_step : (c : Edit E) (cs ahead mine later : List (Edit E)) (xs bs ys left done shared laid total : List E)
       → ahead ≡ c ∷ cs → ahead ≡ mine ++ later → left ≡ xs ++ (bs ++ ys) → IsRising R left → IsRising R (map entry_of ahead)
       → AllBelow R xs (entry_of c ∷ []) → AllBelow R (map entry_of mine) ys → PassesBelow R ys (map entry_of later)
       → shared ≡ done ++ xs → laid ≡ shared ++ with_changes R mine bs → done ++ with_changes R ahead left ≡ total
@@ -134,7 +134,7 @@ module _ {E : Type 0} (R : E → E → Ordering) (o : IsTotalOrder R) where
       ∙ (λ i. done ++ with_changes R (sym ea i) (sym el i)) ∙ et
 
   -- entries: some are shared, one is put, replaced or removed
-  pub entry_step : (c : Change E) (later ahead : List (Change E)) (less rest left done shared put total : List E)
+  pub entry_step : (c : Edit E) (later ahead : List (Edit E)) (less rest left done shared put total : List E)
       → ahead ≡ c ∷ later → left ≡ less ++ rest → IsRising R left → IsRising R (map entry_of ahead)
       → T (ends_with (λ e. is_lt (R e (entry_of c))) less) → T (begins_with (λ e. not (is_lt (R e (entry_of c)))) rest)
       → shared ≡ done ++ less → put ≡ shared ++ entries_put c → done ++ with_changes R ahead left ≡ total
@@ -149,7 +149,7 @@ module _ {E : Type 0} (R : E → E → Ordering) (o : IsTotalOrder R) where
       (subst (λ ds. IsRising R (map entry_of ds)) ea k) b))
       ∙ (λ i. done ++ with_changes R (sym ea i) (sym el i)) ∙ et
 
-  pub entry_turn : (c : Change E) (later ahead : List (Change E)) (x : E) (less rest left next done shared put total : List E)
+  pub entry_turn : (c : Edit E) (later ahead : List (Edit E)) (x : E) (less rest left next done shared put total : List E)
       → x ≡ entry_of c → ahead ≡ c ∷ later → left ≡ less ++ rest → IsRising R left → IsRising R (map entry_of ahead)
       → T (ends_with (λ e. is_lt (R e x)) less) → T (begins_with (λ e. not (is_lt (R e x))) rest) → next ≡ without_tied R x rest
       → shared ≡ done ++ less → put ≡ shared ++ entries_put c → done ++ with_changes R ahead left ≡ total
@@ -165,7 +165,7 @@ module _ {E : Type 0} (R : E → E → Ordering) (o : IsTotalOrder R) where
         second _ _ (subst (λ ds. IsRising R (map entry_of ds)) ea k),
       )
 
-  pub level_turn : (c : Change E) (cs ahead mine later : List (Change E)) (x : E) (xs bs ys left done shared laid total : List E)
+  pub level_turn : (c : Edit E) (cs ahead mine later : List (Edit E)) (x : E) (xs bs ys left done shared laid total : List E)
       → x ≡ entry_of c → ahead ≡ c ∷ cs → ahead ≡ mine ++ later → left ≡ xs ++ (bs ++ ys) → IsRising R left → IsRising R (map entry_of ahead)
       → AllBelow R xs (x ∷ []) → AllBelow R (map entry_of mine) ys → PassesBelow R ys (map entry_of later)
       → shared ≡ done ++ xs → laid ≡ shared ++ with_changes R mine bs → done ++ with_changes R ahead left ≡ total

@@ -4,7 +4,7 @@ ghost use Rattle.std.specs.Arc.{arc_value};
 ghost use Rattle.sorted_pages.specs.Keys.{first_of, last_of};
 ghost use Rattle.sorted_pages.specs.Pages.{greatest, IsFirst, IsLast};
 
-use crate::entry::{Edged, Peaked};
+use crate::entry::{Edged, Numbered};
 use std::marker::Model;
 use std::sync::Arc;
 
@@ -26,19 +26,19 @@ impl<T: Edged> Model for Block<T> {
 
     ghost view = { λ b. b.items.items };
 
-    ghost invariant = { λ b. IsBlock T.peak T.first_key T.last_key b.items.items b.best b.first_key b.last_key };
+    ghost invariant = { λ b. IsBlock T.max_number T.first_key T.last_key b.items.items b.best b.first_key b.last_key };
 }
 
 /// The greatest of the numbers, or 0.
-pub(crate) fn greatest_of<T: Peaked>(items: &[T]) -> u64
-    ensures { result ≡ greatest T.peak items.now }
+pub(crate) fn greatest_of<T: Numbered>(items: &[T]) -> u64
+    ensures { result ≡ greatest T.max_number items.now }
 {
     if T::are_zero() {
         return 0;
     }
     let mut best = 0u64;
     for item in items {
-        best = best.max(item.peak());
+        best = best.max(item.max_number());
     }
     best
 }
@@ -114,14 +114,14 @@ impl<T: Edged> Block<T> {
     }
 }
 
-impl<T: Edged> Peaked for Arc<Block<T>> {
-    ghost peak = { λ block. greatest T.peak (arc_value block) };
+impl<T: Edged> Numbered for Arc<Block<T>> {
+    ghost max_number = { λ block. greatest T.max_number (arc_value block) };
 
     fn are_zero() -> bool {
         T::are_zero()
     }
 
-    fn peak(&self) -> u64 {
+    fn max_number(&self) -> u64 {
         let block: &Block<T> = self;
         block.best
     }

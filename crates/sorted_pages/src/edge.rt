@@ -6,8 +6,8 @@ ghost use Rattle.sorted_pages.specs.Edges.{first_passes, last_passes, is_before_
 ghost use Rattle.sorted_pages.specs.Changes.{entry_of};
 ghost use Rattle.sorted_pages.specs.Keys.{IsSideOfFirst, IsSideOfLast};
 
-use crate::change::Change;
-use crate::entry::{Entry, Span};
+use crate::edit::Edit;
+use crate::entry::{PageEntry, Span};
 use crate::level::Level;
 use crate::spans::Tie;
 use std::cmp::Ordering;
@@ -54,7 +54,7 @@ pub(crate) fn split_before_edge<'a, E, T, P: Test<E, T>>(
 }
 
 /// The side of the first entry of an item.
-fn side_of_first<E: Entry, T: Level<E>, S: Span<E>>(span: &S, item: &T) -> Ordering
+fn side_of_first<E: PageEntry, T: Level<E>, S: Span<E>>(span: &S, item: &T) -> Ordering
     ensures { IsSideOfFirst (S.side span.now) result (T.entries item.now) }
 {
     match span.side_of_key(item.first_key()) {
@@ -64,7 +64,7 @@ fn side_of_first<E: Entry, T: Level<E>, S: Span<E>>(span: &S, item: &T) -> Order
 }
 
 /// The side of the last entry of an item.
-fn side_of_last<E: Entry, T: Level<E>, S: Span<E>>(span: &S, item: &T) -> Ordering
+fn side_of_last<E: PageEntry, T: Level<E>, S: Span<E>>(span: &S, item: &T) -> Ordering
     ensures { IsSideOfLast (S.side span.now) result (T.entries item.now) }
 {
     match span.side_of_key(item.last_key()) {
@@ -77,12 +77,12 @@ fn side_of_last<E: Entry, T: Level<E>, S: Span<E>>(span: &S, item: &T) -> Orderi
 #[derive(Drop)]
 pub(crate) struct Below<'a, T>(pub(crate) &'a T);
 
-impl<'a, E: Entry, T: Level<E>> Test<E, Change<E>> for Below<'a, T> {
+impl<'a, E: PageEntry, T: Level<E>> Test<E, Edit<E>> for Below<'a, T> {
     ghost passes = { λ t c. first_passes (λ e. is_gt (E.order e (entry_of c))) (T.entries t.0.now) };
 
     ghost fails = { λ t c. first_passes (λ e. not (is_gt (E.order e (entry_of c)))) (T.entries t.0.now) };
 
-    fn passes(&self, item: &Change<E>) -> bool {
+    fn passes(&self, item: &Edit<E>) -> bool {
         side_of_first(&Tie(item.entry()), self.0).is_gt()
     }
 }
@@ -91,7 +91,7 @@ impl<'a, E: Entry, T: Level<E>> Test<E, Change<E>> for Below<'a, T> {
 #[derive(Drop)]
 pub(crate) struct Before<'a, S>(pub(crate) &'a S);
 
-impl<'a, E: Entry, T: Level<E>, S: Span<E>> Test<E, T> for Before<'a, S> {
+impl<'a, E: PageEntry, T: Level<E>, S: Span<E>> Test<E, T> for Before<'a, S> {
     ghost passes = { λ t item. last_passes (λ e. is_lt (S.side t.0.now e)) (T.entries item) };
 
     ghost fails = { λ t item. last_passes (λ e. not (is_lt (S.side t.0.now e))) (T.entries item) };
@@ -105,7 +105,7 @@ impl<'a, E: Entry, T: Level<E>, S: Span<E>> Test<E, T> for Before<'a, S> {
 #[derive(Drop)]
 pub(crate) struct Until<'a, S>(pub(crate) &'a S);
 
-impl<'a, E: Entry, T: Level<E>, S: Span<E>> Test<E, T> for Until<'a, S> {
+impl<'a, E: PageEntry, T: Level<E>, S: Span<E>> Test<E, T> for Until<'a, S> {
     ghost passes = { λ t item. first_passes (λ e. not (is_gt (S.side t.0.now e))) (T.entries item) };
 
     ghost fails = { λ t item. first_passes (λ e. is_gt (S.side t.0.now e)) (T.entries item) };

@@ -10,22 +10,22 @@ use std::alloc::AllocError;
 use std::cmp::Ordering;
 
 /// What has a number, of which each page keeps the greatest.
-pub trait Peaked {
-    ghost peak: { Self → ℕ };
+pub trait Numbered {
+    ghost max_number: { Self → ℕ };
 
     /// Whether all numbers are 0, so that none has to be read.
     fn are_zero() -> bool
-        ensures { IsTrue result → (x : Self) → peak x ≡ 0 }
+        ensures { IsTrue result → (x : Self) → max_number x ≡ 0 }
     {
         false
     }
 
-    fn peak(&self) -> u64
-        ensures { result ≡ peak self.now };
+    fn max_number(&self) -> u64
+        ensures { result ≡ max_number self.now };
 }
 
 /// What has a first and a last entry, each with a key.
-pub(crate) trait Edged: Peaked {
+pub(crate) trait Edged: Numbered {
     ghost first_key: { Self → Option ℕ };
 
     ghost last_key: { Self → Option ℕ };
@@ -38,7 +38,7 @@ pub(crate) trait Edged: Peaked {
 }
 
 /// An entry of a sorted list. Those that tie with it are told from it by nothing else.
-pub trait Entry: Peaked + Drop {
+pub trait PageEntry: Numbered + Drop {
     ghost order: { Self → Self → Ordering };
 
     /// The most of these that a page holds. A changed copy of a list copies each page that changes, and pieces of more than a kilobyte are dear to ask for.
@@ -82,7 +82,7 @@ pub fn order_of_keys(key: u64, other: u64) -> Option<Ordering>
 }
 
 /// A range of entries: those at which the side is `Equal`.
-pub trait Span<E: Entry>: Drop {
+pub trait Span<E: PageEntry>: Drop {
     ghost side: { Self → E → Ordering };
 
     /// `Less` where the entry stands before the range, `Greater` where it stands past it.

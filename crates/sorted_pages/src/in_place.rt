@@ -1,4 +1,4 @@
-//! One change made in pages, runs and groups that no other list holds: nothing is shared for it, and where there is room nothing is asked for but that.
+//! One change made in pages, runs and groups that no other list holds. Where there is room it copies no page.
 ghost use Rattle.std.specs.Prelude.{◌≡◌, ◌++◌, ◌∷◌, [], ◌<◌, ◌≤◌, ◌+◌, take, drop, length, not, if◌then◌else◌, IfOk, T as Holds};
 ghost use Rattle.std.specs.List.{flat_map};
 ghost use Rattle.std.specs.Ordering.{eq_by_cmp};
@@ -7,23 +7,23 @@ ghost use Rattle.sorted_pages.specs.Pages.{held, single};
 ghost use Rattle.sorted_pages.specs.Sorted.{IsRising};
 ghost use Rattle.sorted_pages.specs.Changes.{entries_put, with_change};
 
+use crate::apply::split_at_place;
 use crate::block::Block;
-use crate::change::Change;
 use crate::edge::{Before, split_at_edge};
-use crate::entry::Entry;
-use crate::laying::split_at_place;
+use crate::edit::Edit;
+use crate::entry::PageEntry;
 use crate::level::{Leaf, Level};
 use crate::spans::Tie;
 use std::alloc::{AllocError, Global};
 use std::sync::Arc;
 
 /// A level in whose items a change can be made in place.
-pub(crate) trait InPlace<E: Entry>: Level<E> {
+pub(crate) trait InPlace<E: PageEntry>: Level<E> {
     /// Makes a change in these items, and says whether it did. Where they share what it changes, or where it would leave too many or none, they are as they were.
     fn change(
         alloc: Global,
         items: Vec<Self>,
-        change: &Change<E>,
+        change: &Edit<E>,
     ) -> Result<(Vec<Self>, bool), AllocError>
         requires { IsRising E.order (flat_map Self.entries items.items) }
         ensures entries { IfOk result (λ r. flat_map Self.entries r.0.items
@@ -34,7 +34,7 @@ pub(crate) trait InPlace<E: Entry>: Level<E> {
 }
 
 /// The entries with another one in the place of the one there.
-fn replaced<E: Entry>(
+fn replaced<E: PageEntry>(
     entries: Vec<Leaf<E>>,
     place: usize,
     entry: E,
@@ -50,11 +50,11 @@ fn replaced<E: Entry>(
 }
 
 /// Makes a change at a place, where an entry ties with it or none does.
-fn change_at<E: Entry>(
+fn change_at<E: PageEntry>(
     entries: Vec<Leaf<E>>,
     place: usize,
     ties: bool,
-    change: &Change<E>,
+    change: &Edit<E>,
 ) -> Result<(Vec<Leaf<E>>, bool), AllocError>
     requires there { place ≤ length entries.items }
     requires tied { Holds ties → place < length entries.items }
@@ -66,7 +66,7 @@ fn change_at<E: Entry>(
 {
     let mut entries = entries;
     match change {
-        Change::Put(entry) => {
+        Edit::Put(entry) => {
             if ties {
                 return Ok((replaced(entries, place, entry.share()?)?, true));
             }
@@ -76,7 +76,7 @@ fn change_at<E: Entry>(
             entries.insert(place, Leaf::of(entry.share()?))?;
             Ok((entries, true))
         }
-        Change::Remove(_) => {
+        Edit::Remove(_) => {
             if !ties {
                 return Ok((entries, true));
             }
@@ -90,7 +90,7 @@ fn change_at<E: Entry>(
 }
 
 /// Whether the first of these ties with an entry.
-fn is_tied<E: Entry>(entries: &[Leaf<E>], entry: &E) -> bool
+fn is_tied<E: PageEntry>(entries: &[Leaf<E>], entry: &E) -> bool
     ensures { result ≡ first_passes (λ e. eq_by_cmp E.order entry.now e) entries.now }
 {
     match entries.first() {
@@ -99,11 +99,11 @@ fn is_tied<E: Entry>(entries: &[Leaf<E>], entry: &E) -> bool
     }
 }
 
-impl<E: Entry> InPlace<E> for Leaf<E> {
+impl<E: PageEntry> InPlace<E> for Leaf<E> {
     fn change(
         _alloc: Global,
         items: Vec<Leaf<E>>,
-        change: &Change<E>,
+        change: &Edit<E>,
     ) -> Result<(Vec<Leaf<E>>, bool), AllocError>
         requires { IsRising E.order (flat_map single items.items) }
         ensures entries { IfOk result (λ r. flat_map single r.0.items
@@ -121,10 +121,10 @@ impl<E: Entry> InPlace<E> for Leaf<E> {
 }
 
 /// Makes a change in a block, and says whether it did.
-fn change_block<E: Entry, T: InPlace<E>>(
+fn change_block<E: PageEntry, T: InPlace<E>>(
     alloc: Global,
     block: Arc<Block<T>>,
-    change: &Change<E>,
+    change: &Edit<E>,
 ) -> Result<(Arc<Block<T>>, bool), AllocError>
     requires { IsRising E.order (held T.entries block) }
     ensures { IfOk result (λ r. held T.entries r.0
@@ -139,11 +139,11 @@ fn change_block<E: Entry, T: InPlace<E>>(
     }
 }
 
-impl<E: Entry, T: InPlace<E>> InPlace<E> for Arc<Block<T>> {
+impl<E: PageEntry, T: InPlace<E>> InPlace<E> for Arc<Block<T>> {
     fn change(
         alloc: Global,
         items: Vec<Arc<Block<T>>>,
-        change: &Change<E>,
+        change: &Edit<E>,
     ) -> Result<(Vec<Arc<Block<T>>>, bool), AllocError>
         requires { IsRising E.order (flat_map (held T.entries) items.items) }
         ensures entries { IfOk result (λ r. flat_map (held T.entries) r.0.items

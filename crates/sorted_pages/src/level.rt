@@ -5,13 +5,13 @@ ghost use Rattle.sorted_pages.specs.Keys.{BeginsWithKey, EndsWithKey};
 ghost use Rattle.sorted_pages.specs.Pages.{single, held, IsFirst, IsLast};
 
 use crate::block::Block;
-use crate::entry::{Edged, Entry, Peaked};
+use crate::entry::{Edged, Numbered, PageEntry};
 use std::alloc::AllocError;
 use std::marker::Model;
 use std::sync::Arc;
 
 /// What stands at one level of a list. It holds at least one entry.
-pub(crate) trait Level<E: Entry>: Edged + Drop {
+pub(crate) trait Level<E: PageEntry>: Edged + Drop {
     ghost entries: { Self → List E };
 
     /// The most of these that a block holds.
@@ -72,19 +72,19 @@ impl<E> Leaf<E> {
     }
 }
 
-impl<E: Peaked> Peaked for Leaf<E> {
-    ghost peak = { λ leaf. E.peak leaf };
+impl<E: Numbered> Numbered for Leaf<E> {
+    ghost max_number = { λ leaf. E.max_number leaf };
 
     fn are_zero() -> bool {
         E::are_zero()
     }
 
-    fn peak(&self) -> u64 {
-        self.entry.peak()
+    fn max_number(&self) -> u64 {
+        self.entry.max_number()
     }
 }
 
-impl<E: Entry> Edged for Leaf<E> {
+impl<E: PageEntry> Edged for Leaf<E> {
     ghost first_key = { λ leaf. Some (E.key leaf) };
 
     ghost last_key = { λ leaf. Some (E.key leaf) };
@@ -98,7 +98,7 @@ impl<E: Entry> Edged for Leaf<E> {
     }
 }
 
-impl<E: Entry> Level<E> for Leaf<E> {
+impl<E: PageEntry> Level<E> for Leaf<E> {
     ghost entries = { λ leaf. single leaf };
 
     ghost use Rattle.sorted_pages.specs.KeyEnds.{leaf_begins, leaf_ends};
@@ -129,7 +129,7 @@ impl<E: Entry> Level<E> for Leaf<E> {
     }
 }
 
-impl<E: Entry, T: Level<E>> Level<E> for Arc<Block<T>> {
+impl<E: PageEntry, T: Level<E>> Level<E> for Arc<Block<T>> {
     ghost entries = { λ block. held T.entries block };
 
     ghost use Rattle.std.specs.Arc.{arc_value};
@@ -164,7 +164,7 @@ impl<E: Entry, T: Level<E>> Level<E> for Arc<Block<T>> {
 }
 
 /// Appends shares of items to a list.
-pub(crate) fn push_shares<E: Entry, T: Level<E>>(
+pub(crate) fn push_shares<E: PageEntry, T: Level<E>>(
     list: &mut Vec<T>,
     items: &[T],
 ) -> Result<(), AllocError>

@@ -1,30 +1,38 @@
 //! Unchanging sorted lists in pages, of which a changed copy shares every page where nothing changed.
 //!
-//! `entry` says what an entry and a range are, and `change` what a change is. `paged` is the list, `range` the entries
-//! in a range, `spans` ranges by entries of the list's own type, and `rising` whether entries rise. Inside, `level` says
-//! what stands at a level (an entry, a page, a run of pages, a group of runs), `block` is what a page, a run and a group
-//! are, `cutter` says where one ends, `growing` is a list that grows, `edge` finds where a test stops to hold,
-//! `laying` lays changes over a level, and `in_place` makes one where nothing is shared.
+//! - `entry`: what an entry and a range of entries are.
+//! - `edit`: one change of a list.
+//! - `paged`: the list itself.
+//! - `range`: the entries in a range.
+//! - `spans`: ranges by entries of the list's own type.
+//! - `rising`: whether entries rise.
+//! - `level`: what stands at a level: an entry, a page, a run of pages, or a group of runs.
+//! - `block`: what a page, a run and a group are.
+//! - `block_splitter`: where a block ends.
+//! - `builder`: a list that grows.
+//! - `edge`: the place where a test stops to hold.
+//! - `apply`: changes applied to a level.
+//! - `in_place`: one change made where nothing is shared.
 //!
 //! It knows nothing of what an entry holds. Contracts see a list as its entries, and no caller names a page.
 #![tactic(auto)]
 
+mod apply;
 mod block;
-mod change;
-mod cutter;
+mod block_splitter;
+mod builder;
 mod edge;
+mod edit;
 mod entry;
-mod growing;
 mod in_place;
-mod laying;
 mod level;
 mod paged;
 mod range;
 mod rising;
 mod spans;
 
-pub use change::Change;
-pub use entry::{Entry, Peaked, Span, order_of_keys};
+pub use edit::Edit;
+pub use entry::{Numbered, PageEntry, Span, order_of_keys};
 pub use paged::Paged;
 pub use range::Range;
 pub use rising::{are_rising, is_rising};

@@ -8,14 +8,14 @@ ghost use Rattle.sorted_pages.specs.Sorted.{IsRising, keyed};
 ghost use Rattle.sorted_pages.specs.Ranges.{from_span, within, first_within};
 ghost use Rattle.sorted_pages.specs.Changes.{entry_of, with_change, with_changes};
 ghost use Rattle.sorted_pages.specs.Edges.{first_passes};
-ghost use Rattle.sorted_pages.specs.declared.change.Change.TheVariants.{Remove};
+ghost use Rattle.sorted_pages.specs.declared.edit.Edit.TheVariants.{Remove};
 
-use crate::change::Change;
-use crate::cutter::Layout;
+use crate::apply::{Changing, apply_to_blocks, fill_blocks};
+use crate::block_splitter::Layout;
 use crate::edge::{Before, split_at_edge};
-use crate::entry::{Entry, Span};
+use crate::edit::Edit;
+use crate::entry::{PageEntry, Span};
 use crate::in_place::InPlace;
-use crate::laying::{Changing, fill_blocks, lay_blocks};
 use crate::level::{Group, Leaf, Run};
 use crate::range::{Front, Range, all_from, all_until, entries_from, with_entries, with_pages};
 use crate::spans::Tie;
@@ -28,12 +28,12 @@ use std::marker::Model;
 ///
 /// Contracts see the list of the entries.
 #[derive(Drop)]
-pub struct Paged<E: Entry> {
+pub struct Paged<E: PageEntry> {
     entries: Vec<Leaf<E>>,
     groups: Vec<Group<E>>,
 }
 
-impl<E: Entry> Model for Paged<E> {
+impl<E: PageEntry> Model for Paged<E> {
     ghost use Rattle.std.specs.Prelude.{List, []};
     ghost use Rattle.sorted_pages.specs.Pages.{ahead};
     ghost use Rattle.sorted_pages.specs.Blocks.{IsShortOrLong};
@@ -46,7 +46,7 @@ impl<E: Entry> Model for Paged<E> {
 }
 
 /// The entry, where it is in the range.
-fn only_in<'a, E: Entry, S: Span<E>>(entry: &'a E, span: &S) -> Option<&'a E>
+fn only_in<'a, E: PageEntry, S: Span<E>>(entry: &'a E, span: &S) -> Option<&'a E>
     ensures { option_copied result ≡ (if is_eq (S.side span.now entry.now) then Some entry.now else None) }
 {
     if span.side(entry).is_eq() {
@@ -57,7 +57,7 @@ fn only_in<'a, E: Entry, S: Span<E>>(entry: &'a E, span: &S) -> Option<&'a E>
 }
 
 /// Whether the first of these is in the range.
-fn is_in<E: Entry, S: Span<E>>(entries: &[Leaf<E>], span: &S) -> bool
+fn is_in<E: PageEntry, S: Span<E>>(entries: &[Leaf<E>], span: &S) -> bool
     ensures { result ≡ first_passes (λ e. is_eq (S.side span.now e)) entries.now }
 {
     match entries.first() {
@@ -79,7 +79,7 @@ fn taken_at<E>(entries: Vec<Leaf<E>>, place: usize) -> (Vec<Leaf<E>>, E)
 }
 
 /// The list of entries that stand in place.
-fn short_of_sorted<E: Entry>(alloc: Global, entries: Vec<E>) -> Result<Paged<E>, AllocError>
+fn short_of_sorted<E: PageEntry>(alloc: Global, entries: Vec<E>) -> Result<Paged<E>, AllocError>
     requires rises { IsRising E.order entries.items }
     requires few { length entries.items ≤ 64 }
     ensures { IfOk result (λ p. p ≡ entries.items) }
@@ -90,7 +90,7 @@ fn short_of_sorted<E: Entry>(alloc: Global, entries: Vec<E>) -> Result<Paged<E>,
 }
 
 /// The list of entries that stand in groups.
-fn long_of_sorted<E: Entry>(
+fn long_of_sorted<E: PageEntry>(
     alloc: Global,
     layout: Layout,
     entries: Vec<E>,
@@ -115,10 +115,10 @@ fn moved_out<E: Drop>(alloc: Global, places: Vec<Leaf<E>>) -> Result<Vec<E>, All
 }
 
 /// The list after changes of one whose entries stand in place.
-fn short_after<E: Entry>(
+fn short_after<E: PageEntry>(
     alloc: Global,
     entries: &[Leaf<E>],
-    changes: &[Change<E>],
+    changes: &[Edit<E>],
 ) -> Result<Paged<E>, AllocError>
     requires entries { IsRising E.order (flat_map single entries.now) }
     requires changes { IsRising E.order (map entry_of changes.now) }
@@ -126,7 +126,7 @@ fn short_after<E: Entry>(
 {
     let most = entries.len().saturating_add(changes.len());
     let room: Vec<Leaf<E>> = Vec::with_capacity(alloc, most)?;
-    let entries = Leaf::lay(alloc, entries, changes, room)?;
+    let entries = Leaf::apply(alloc, entries, changes, room)?;
     if entries.len() <= E::most_in_page() {
         Ok(Paged::short(alloc, entries))
     } else {
@@ -136,10 +136,10 @@ fn short_after<E: Entry>(
 }
 
 /// The list after changes of one whose entries stand in groups.
-fn long_after<E: Entry>(
+fn long_after<E: PageEntry>(
     alloc: Global,
     groups: &[Group<E>],
-    changes: &[Change<E>],
+    changes: &[Edit<E>],
 ) -> Result<Paged<E>, AllocError>
     requires entries { IsRising E.order (flat_map of_group groups.now) }
     requires changes { IsRising E.order (map entry_of changes.now) }
@@ -147,15 +147,15 @@ fn long_after<E: Entry>(
 {
     let room = groups.len().saturating_add(1);
     let grown = Vec::with_capacity(alloc, room)?;
-    let groups = lay_blocks(alloc, groups, changes, grown)?;
+    let groups = apply_to_blocks(alloc, groups, changes, grown)?;
     Ok(Paged::long(alloc, groups))
 }
 
 /// The list after a change of entries that stand in place, where it can be made there, and whether it was.
-fn short_changed<E: Entry>(
+fn short_changed<E: PageEntry>(
     alloc: Global,
     entries: Vec<Leaf<E>>,
-    change: &Change<E>,
+    change: &Edit<E>,
 ) -> Result<(Paged<E>, bool), AllocError>
     requires rises { IsRising E.order (flat_map single entries.items) }
     requires few { length entries.items ≤ 64 }
@@ -167,10 +167,10 @@ fn short_changed<E: Entry>(
 }
 
 /// The same of entries that stand in groups.
-fn long_changed<E: Entry>(
+fn long_changed<E: PageEntry>(
     alloc: Global,
     groups: Vec<Group<E>>,
-    change: &Change<E>,
+    change: &Edit<E>,
 ) -> Result<(Paged<E>, bool), AllocError>
     requires { IsRising E.order (flat_map of_group groups.items) }
     ensures { IfOk result (λ r. r.0 ≡ (if r.1 then with_change E.order change.now (flat_map of_group groups.items)
@@ -180,7 +180,7 @@ fn long_changed<E: Entry>(
     Ok((Paged::long(alloc, groups), is_made))
 }
 
-impl<E: Entry> Paged<E> {
+impl<E: PageEntry> Paged<E> {
     /// The list of no entry. It takes no memory.
     pub fn new(alloc: Global) -> Paged<E>
         ensures { result ≡ [] }
@@ -227,7 +227,7 @@ impl<E: Entry> Paged<E> {
     }
 
     /// A copy with changes whose entries rise. This list stays as it is.
-    pub fn after(&self, alloc: Global, changes: &[Change<E>]) -> Result<Paged<E>, AllocError>
+    pub fn after(&self, alloc: Global, changes: &[Edit<E>]) -> Result<Paged<E>, AllocError>
         requires { IsRising E.order (map entry_of changes.now) }
         ensures { IfOk result (λ p. p ≡ with_changes E.order changes.now self.now) }
     {
@@ -242,7 +242,7 @@ impl<E: Entry> Paged<E> {
     fn completed(
         self,
         alloc: Global,
-        one: &[Change<E>],
+        one: &[Edit<E>],
         is_made: bool,
     ) -> Result<Paged<E>, AllocError>
         requires { IsRising E.order (map entry_of one.now) }
@@ -257,7 +257,7 @@ impl<E: Entry> Paged<E> {
     }
 
     /// The list after one change, in place where no other list holds what it changes and there is room.
-    fn changed(self, alloc: Global, one: &[Change<E>]) -> Result<Paged<E>, AllocError>
+    fn changed(self, alloc: Global, one: &[Edit<E>]) -> Result<Paged<E>, AllocError>
         requires { IsRising E.order (map entry_of one.now) }
         ensures { IfOk result (λ p. p ≡ with_changes E.order one.now self) }
     {
@@ -276,7 +276,7 @@ impl<E: Entry> Paged<E> {
     }
 
     /// The list after changes whose entries rise, in place where no other list holds what they change and there is room. Many changes take as long as so many single ones.
-    pub fn into_after(self, alloc: Global, changes: &[Change<E>]) -> Result<Paged<E>, AllocError>
+    pub fn into_after(self, alloc: Global, changes: &[Edit<E>]) -> Result<Paged<E>, AllocError>
         requires { IsRising E.order (map entry_of changes.now) }
         ensures { IfOk result (λ p. p ≡ with_changes E.order changes.now self) }
     {

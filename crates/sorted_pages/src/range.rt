@@ -8,10 +8,10 @@ ghost use Rattle.sorted_pages.specs.Sorted.{IsRising};
 ghost use Rattle.sorted_pages.specs.Edges.{answer_of, begins_with, first_passes};
 ghost use Rattle.sorted_pages.specs.Ranges.{from_span, until_span};
 
+use crate::apply::split_first_block;
 use crate::block::{Block, greatest_of};
 use crate::edge::{Before, Test, Until, split_at_edge, split_before_edge};
-use crate::entry::{Edged, Entry, Span};
-use crate::laying::split_first_block;
+use crate::entry::{Edged, PageEntry, Span};
 use crate::level::{Group, Leaf, Level, Page, Run};
 use std::marker::Model;
 use std::sync::Arc;
@@ -20,12 +20,12 @@ use std::sync::Arc;
 ///
 /// Contracts see the list of those still to come.
 #[derive(Drop)]
-pub struct Range<'a, E: Entry> {
+pub struct Range<'a, E: PageEntry> {
     front: Front<'a, E>,
     back: Back<'a, E>,
 }
 
-impl<'a, E: Entry> Model for Range<'a, E> {
+impl<'a, E: PageEntry> Model for Range<'a, E> {
     ghost use Rattle.std.specs.Prelude.{List, ◌++◌};
     ghost use Rattle.sorted_pages.specs.Pages.{ahead, behind};
 
@@ -37,7 +37,7 @@ impl<'a, E: Entry> Model for Range<'a, E> {
 
 /// The entries from some place on: the rest of a page, of a run, of a group and of the list.
 #[derive(Drop)]
-pub(crate) struct Front<'a, E: Entry> {
+pub(crate) struct Front<'a, E: PageEntry> {
     pub(crate) entries: &'a [Leaf<E>],
     pub(crate) pages: &'a [Page<E>],
     pub(crate) runs: &'a [Run<E>],
@@ -46,7 +46,7 @@ pub(crate) struct Front<'a, E: Entry> {
 
 /// The entries up to some place: the first runs of a group, pages of a run and entries of a page.
 #[derive(Drop)]
-struct Back<'a, E: Entry> {
+struct Back<'a, E: PageEntry> {
     runs: &'a [Run<E>],
     pages: &'a [Page<E>],
     entries: &'a [Leaf<E>],
@@ -69,7 +69,7 @@ fn refill<'a, T: Edged>(
 }
 
 /// The same entries, with a page, if there is one, among the pages.
-pub(crate) fn with_pages<'a, E: Entry>(front: Front<'a, E>) -> Front<'a, E>
+pub(crate) fn with_pages<'a, E: PageEntry>(front: Front<'a, E>) -> Front<'a, E>
     ensures entries { result.entries.now ≡ front.entry.entries.now }
     ensures same { ahead [] result.pages.now result.runs.now result.groups.now
         ≡ ahead [] front.entry.pages.now front.entry.runs.now front.entry.groups.now }
@@ -87,7 +87,7 @@ pub(crate) fn with_pages<'a, E: Entry>(front: Front<'a, E>) -> Front<'a, E>
 }
 
 /// The same entries, with the first, if there is one, among those of the first page.
-pub(crate) fn with_entries<'a, E: Entry>(front: Front<'a, E>) -> Front<'a, E>
+pub(crate) fn with_entries<'a, E: PageEntry>(front: Front<'a, E>) -> Front<'a, E>
     ensures same { ahead result.entries.now result.pages.now result.runs.now result.groups.now
         ≡ ahead front.entry.entries.now front.entry.pages.now front.entry.runs.now front.entry.groups.now }
     ensures none { length result.entries.now ≡ 0
@@ -103,7 +103,7 @@ pub(crate) fn with_entries<'a, E: Entry>(front: Front<'a, E>) -> Front<'a, E>
 }
 
 /// The same entries, with the first, if there is one, in front: where nothing is left there, what is behind moves up.
-fn advanced<'a, E: Entry>(front: Front<'a, E>, back: Back<'a, E>) -> (Front<'a, E>, Back<'a, E>)
+fn advanced<'a, E: PageEntry>(front: Front<'a, E>, back: Back<'a, E>) -> (Front<'a, E>, Back<'a, E>)
     ensures same { ahead result.0.entries.now result.0.pages.now result.0.runs.now result.0.groups.now
         ++ behind result.1.runs.now result.1.pages.now result.1.entries.now
         ≡ ahead front.entry.entries.now front.entry.pages.now front.entry.runs.now front.entry.groups.now
@@ -151,7 +151,7 @@ fn advanced<'a, E: Entry>(front: Front<'a, E>, back: Back<'a, E>) -> (Front<'a, 
     )
 }
 
-impl<'a, E: Entry> Iterator for Range<'a, E> {
+impl<'a, E: PageEntry> Iterator for Range<'a, E> {
     type Item = &'a E;
 
     ghost next_gives = { YieldsFirstRef (λ r. r) };
@@ -180,20 +180,20 @@ impl<'a, E: Entry> Iterator for Range<'a, E> {
     }
 }
 
-impl<'a, E: Entry> Range<'a, E> {
+impl<'a, E: PageEntry> Range<'a, E> {
     /// The greatest of the numbers of the entries still to come, or 0.
     ///
     /// It looks at the pages' own numbers, and at no entry of a page that is in the range as a whole.
     pub fn greatest(&self) -> u64
-        ensures { result ≡ greatest E.peak self.now }
+        ensures { result ≡ greatest E.max_number self.now }
     {
         greatest_ahead(&self.front).max(greatest_behind(&self.back))
     }
 }
 
 /// The greatest of the numbers of these entries, or 0.
-fn greatest_ahead<E: Entry>(front: &Front<'_, E>) -> u64
-    ensures { result ≡ greatest E.peak
+fn greatest_ahead<E: PageEntry>(front: &Front<'_, E>) -> u64
+    ensures { result ≡ greatest E.max_number
         (ahead front.now.entries.now front.now.pages.now front.now.runs.now front.now.groups.now) }
 {
     let lower = greatest_of(front.entries).max(greatest_of(front.pages));
@@ -202,15 +202,15 @@ fn greatest_ahead<E: Entry>(front: &Front<'_, E>) -> u64
 }
 
 /// The greatest of the numbers of these entries, or 0.
-fn greatest_behind<E: Entry>(back: &Back<'_, E>) -> u64
-    ensures { result ≡ greatest E.peak (behind back.now.runs.now back.now.pages.now back.now.entries.now) }
+fn greatest_behind<E: PageEntry>(back: &Back<'_, E>) -> u64
+    ensures { result ≡ greatest E.max_number (behind back.now.runs.now back.now.pages.now back.now.entries.now) }
 {
     let lower = greatest_of(back.pages).max(greatest_of(back.entries));
     greatest_of(back.runs).max(lower)
 }
 
 /// The items of the first block that does not stand before the range as a whole, and the blocks after it.
-fn blocks_from<'a, E: Entry, T: Level<E>, S: Span<E>>(
+fn blocks_from<'a, E: PageEntry, T: Level<E>, S: Span<E>>(
     blocks: &'a [Arc<Block<T>>],
     span: &S,
 ) -> (&'a [T], &'a [Arc<Block<T>>])
@@ -225,7 +225,7 @@ fn blocks_from<'a, E: Entry, T: Level<E>, S: Span<E>>(
 }
 
 /// The entries from the first on that does not stand before the range.
-pub(crate) fn entries_from<'a, E: Entry, S: Span<E>>(
+pub(crate) fn entries_from<'a, E: PageEntry, S: Span<E>>(
     entries: &'a [Leaf<E>],
     span: &S,
 ) -> &'a [Leaf<E>]
@@ -237,7 +237,10 @@ pub(crate) fn entries_from<'a, E: Entry, S: Span<E>>(
 }
 
 /// All the entries from the first on that does not stand before the range.
-pub(crate) fn all_from<'a, E: Entry, S: Span<E>>(groups: &'a [Group<E>], span: &S) -> Front<'a, E>
+pub(crate) fn all_from<'a, E: PageEntry, S: Span<E>>(
+    groups: &'a [Group<E>],
+    span: &S,
+) -> Front<'a, E>
     requires { IsRising E.order (flat_map of_group groups.now) }
     ensures { ahead result.entries.now result.pages.now result.runs.now result.groups.now
         ≡ from_span (S.side span.now) (flat_map of_group groups.now) }
@@ -254,7 +257,7 @@ pub(crate) fn all_from<'a, E: Entry, S: Span<E>>(groups: &'a [Group<E>], span: &
 }
 
 /// The blocks before the one in which the range ends, and the items of that one.
-fn blocks_until<'a, E: Entry, T: Level<E>, S: Span<E>>(
+fn blocks_until<'a, E: PageEntry, T: Level<E>, S: Span<E>>(
     blocks: &'a [Arc<Block<T>>],
     span: &S,
 ) -> (&'a [Arc<Block<T>>], &'a [T])
@@ -270,7 +273,7 @@ fn blocks_until<'a, E: Entry, T: Level<E>, S: Span<E>>(
 }
 
 /// The entries up to the first that stands past the range.
-fn entries_until<'a, E: Entry, S: Span<E>>(entries: &'a [Leaf<E>], span: &S) -> &'a [Leaf<E>]
+fn entries_until<'a, E: PageEntry, S: Span<E>>(entries: &'a [Leaf<E>], span: &S) -> &'a [Leaf<E>]
     requires { IsRising E.order (flat_map single entries.now) }
     ensures { flat_map single result.now ≡ until_span (S.side span.now) (flat_map single entries.now) }
 {
@@ -279,7 +282,7 @@ fn entries_until<'a, E: Entry, S: Span<E>>(entries: &'a [Leaf<E>], span: &S) -> 
 }
 
 /// The same over pages.
-fn pages_until<'a, E: Entry, S: Span<E>>(
+fn pages_until<'a, E: PageEntry, S: Span<E>>(
     pages: &'a [Page<E>],
     span: &S,
 ) -> (&'a [Page<E>], &'a [Leaf<E>])
@@ -292,7 +295,7 @@ fn pages_until<'a, E: Entry, S: Span<E>>(
 }
 
 /// The same over runs.
-fn runs_until<'a, E: Entry, S: Span<E>>(runs: &'a [Run<E>], span: &S) -> Back<'a, E>
+fn runs_until<'a, E: PageEntry, S: Span<E>>(runs: &'a [Run<E>], span: &S) -> Back<'a, E>
     requires { IsRising E.order (flat_map of_run runs.now) }
     ensures { behind result.runs.now result.pages.now result.entries.now
         ≡ until_span (S.side span.now) (flat_map of_run runs.now) }
@@ -307,7 +310,7 @@ fn runs_until<'a, E: Entry, S: Span<E>>(runs: &'a [Run<E>], span: &S) -> Back<'a
 }
 
 /// Whether the first of the items begins with an entry that is not past the range.
-fn reaches<E: Entry, T: Level<E>, S: Span<E>>(items: &[T], span: &S) -> bool
+fn reaches<E: PageEntry, T: Level<E>, S: Span<E>>(items: &[T], span: &S) -> bool
     ensures { Holds (answer_of result
         (first_passes (λ e. not (is_gt (S.side span.now e))) (flat_map T.entries items.now))
         (begins_with (λ e. is_gt (S.side span.now e)) (flat_map T.entries items.now))) }
@@ -319,7 +322,7 @@ fn reaches<E: Entry, T: Level<E>, S: Span<E>>(items: &[T], span: &S) -> bool
 }
 
 /// The entries up to the first that stands past the range.
-pub(crate) fn all_until<'a, E: Entry, S: Span<E>>(front: Front<'a, E>, span: &S) -> Range<'a, E>
+pub(crate) fn all_until<'a, E: PageEntry, S: Span<E>>(front: Front<'a, E>, span: &S) -> Range<'a, E>
     requires { IsRising E.order (ahead front.entries.now front.pages.now front.runs.now front.groups.now) }
     ensures { result ≡ until_span (S.side span.now)
         (ahead front.entry.entries.now front.entry.pages.now front.entry.runs.now front.entry.groups.now) }

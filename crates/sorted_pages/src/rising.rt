@@ -1,4 +1,4 @@
-//! Whether entries rise, as a list that is built and the changes of one are to.
+//! Whether entries rise, as those of a list and of its changes must.
 ghost use Rattle.std.specs.Prelude.{◌≡◌, map};
 ghost use Rattle.std.specs.Ordering.{is_lt};
 ghost use Rattle.std.specs.FinMap.Entries.{is_sorted};
@@ -6,11 +6,11 @@ ghost use Rattle.sorted_pages.specs.Sorted.{keyed};
 ghost use Rattle.sorted_pages.specs.Edges.{begins_with};
 ghost use Rattle.sorted_pages.specs.Changes.{entry_of};
 
-use crate::change::Change;
-use crate::entry::Entry;
+use crate::edit::Edit;
+use crate::entry::PageEntry;
 
 /// Whether an entry is less than the first of these, if there is one.
-fn is_below_first<E: Entry>(entry: &E, entries: &[E]) -> bool
+fn is_below_first<E: PageEntry>(entry: &E, entries: &[E]) -> bool
     ensures { result ≡ begins_with (λ e. is_lt (E.order entry.now e)) entries.now }
 {
     match entries {
@@ -20,7 +20,7 @@ fn is_below_first<E: Entry>(entry: &E, entries: &[E]) -> bool
 }
 
 /// Whether each entry is less than the one after it.
-pub fn is_rising<E: Entry>(entries: &[E]) -> bool
+pub fn is_rising<E: PageEntry>(entries: &[E]) -> bool
     ensures { result ≡ is_sorted E.order (keyed entries.now) }
 {
     let mut left = entries;
@@ -34,7 +34,7 @@ pub fn is_rising<E: Entry>(entries: &[E]) -> bool
 }
 
 /// Whether the entry of a change is less than that of the first of these, if there is one.
-fn goes_before<E: Entry>(change: &Change<E>, changes: &[Change<E>]) -> bool
+fn goes_before<E: PageEntry>(change: &Edit<E>, changes: &[Edit<E>]) -> bool
     ensures { result ≡ begins_with (λ e. is_lt (E.order (entry_of change.now) e)) (map entry_of changes.now) }
 {
     match changes {
@@ -44,7 +44,7 @@ fn goes_before<E: Entry>(change: &Change<E>, changes: &[Change<E>]) -> bool
 }
 
 /// Whether the entry of each change is less than that of the one after it.
-pub fn are_rising<E: Entry>(changes: &[Change<E>]) -> bool
+pub fn are_rising<E: PageEntry>(changes: &[Edit<E>]) -> bool
     ensures { result ≡ is_sorted E.order (keyed (map entry_of changes.now)) }
 {
     let mut left = changes;

@@ -2,14 +2,14 @@
 ghost use Rattle.std.specs.Prelude.{◌≡◌};
 ghost use Rattle.sorted_pages.specs.Ties.{between};
 
-use crate::entry::{Entry, Span, order_of_keys};
+use crate::entry::{PageEntry, Span, order_of_keys};
 use std::cmp::Ordering;
 
 /// The range of what ties with an entry.
 #[derive(Drop)]
 pub(crate) struct Tie<'a, E>(pub(crate) &'a E);
 
-impl<'a, E: Entry> Span<E> for Tie<'a, E> {
+impl<'a, E: PageEntry> Span<E> for Tie<'a, E> {
     ghost use Rattle.sorted_pages.specs.Ties.{tie_is_monotone};
 
     ghost side = { λ t e. E.order e t.0.now };
@@ -32,7 +32,7 @@ pub struct Between<'a, E> {
     pub until: &'a E,
 }
 
-impl<'a, E: Entry> Span<E> for Between<'a, E> {
+impl<'a, E: PageEntry> Span<E> for Between<'a, E> {
     ghost use Rattle.sorted_pages.specs.Ties.{between, between_is_monotone};
 
     ghost side = { λ b e. between E.order b.from.now b.until.now e };

@@ -1,8 +1,8 @@
 -- Worked examples of setting the declared value of a report's info.
 use Rattle.std.specs.Prelude.{◌≡◌, [], ◌++◌, codes, Ok, ◌∷◌, refl}
-use Rattle.filing_model.specs.Text.{Text}
-use Rattle.filing_model.specs.TextMap.{empty, from_entries}
-use Rattle.filing_model.specs.DeclaredValue.{with_allowed}
+use Rattle.filing_model.specs.Common.Text.{Text}
+use Rattle.filing_model.specs.Common.TextMap.{empty, from_entries}
+use Rattle.filing_model.specs.Reading.DeclaredValue.{with_allowed}
 use Rattle.filing_model.specs.declared.duplicates.Allowed.TheVariants.{Never, Complete, Consistent, All}
 use Rattle.filing_model.proofs.OnLiterals.{filing_on_literals}
 use Rattle.filing_model.proofs.Examples.ReadReport.{info_with, bound, read_literal, table}

@@ -1,14 +1,14 @@
 -- Declared values: read, changed, and what a commit is refused for where one was.
 use Rattle.std.proofs.Common.{◌≡◌, refl, List, [], ◌∷◌, Some, option_map}
 use Rattle.std.specs.Prelude.{codes}
-use Rattle.filing_model.specs.Reports.{Report}
-use Rattle.filing_model.specs.Repository.{report_at}
-use Rattle.filing_model.specs.Replies.{NoReport, ReadOnly, Staged, Declared, Loaded, Opened, Committed, Disallowed, Conflict}
-use Rattle.filing_model.specs.Things as thing
-use Rattle.filing_model.specs.History.{repository}
-use Rattle.filing_model.specs.Lawful.{IsLawful}
-use Rattle.filing_model.specs.Writing.{report_text}
-use Rattle.filing_model.proofs.NextReply.{not_lawful}
+use Rattle.filing_model.specs.Oim.Reports.{Report}
+use Rattle.filing_model.specs.Sessions.Repository.{report_at}
+use Rattle.filing_model.specs.Sessions.Replies.{NoReport, ReadOnly, Staged, Declared, Loaded, Opened, Committed, Disallowed, Conflict}
+use Rattle.filing_model.specs.Sessions.Things as thing
+use Rattle.filing_model.specs.Histories.History.{repository}
+use Rattle.filing_model.specs.Histories.Lawful.{IsLawful}
+use Rattle.filing_model.specs.Reading.Writing.{report_text}
+use Rattle.filing_model.proofs.Histories.NextReply.{not_lawful}
 use Rattle.filing_model.proofs.OnLiterals.{filing_on_literals}
 use Rattle.filing_model.proofs.Examples.Setting.{holding, raw, fact, Line, load, amend, review, adds, removes, asks_value, declares, commits, played, told, with_last_reply}
 use Rattle.filing_model.proofs.Examples.Histories.{r1, blank, loads}

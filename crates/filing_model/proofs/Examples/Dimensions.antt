@@ -1,10 +1,10 @@
 -- Worked examples of dimension sets and prefixes.
 use Rattle.std.specs.Prelude.{◌≡◌, ℕ, List, [], ◌∷◌, replicate, codes, Option, None, Some, Ok, Err, refl}
 use Rattle.std.specs.declared.cmp.Ordering.TheVariants.{Less}
-use Rattle.filing_model.specs.Text.{Text}
-use Rattle.filing_model.specs.TextMap.{from_entries}
-use Rattle.filing_model.specs.Dimensions.{dims_cmp, dims_of}
-use Rattle.filing_model.specs.Prefixes.{prefixes_of}
+use Rattle.filing_model.specs.Common.Text.{Text}
+use Rattle.filing_model.specs.Common.TextMap.{from_entries}
+use Rattle.filing_model.specs.Oim.Dimensions.{dims_cmp, dims_of}
+use Rattle.filing_model.specs.Oim.Prefixes.{prefixes_of}
 use Rattle.filing_model.specs.declared.faults.DimFault.TheVariants.{NameTwice, NullCore, NoConcept, TooLong}
 use Rattle.filing_model.specs.declared.faults.NamesFault.TheVariants as names
 

@@ -1,9 +1,9 @@
 -- Worked examples of pairs, classes and allowed duplicates.
 use Rattle.std.specs.Prelude.{◌≡◌, ◌*◌, ◌^◌, Bool, true, false, ℕ, pos, neg_ℤ, List, [], ◌∷◌, map, Some, None, codes, refl}
-use Rattle.filing_model.specs.Text.{Text}
-use Rattle.filing_model.specs.Dimensions.{Dims}
-use Rattle.filing_model.specs.Facts.{Fact, FactValue, Nil, Written, Number}
-use Rattle.filing_model.specs.Duplicates.{pair_of, class_of, allows, obeys, least_disallowed, cell_of}
+use Rattle.filing_model.specs.Common.Text.{Text}
+use Rattle.filing_model.specs.Oim.Dimensions.{Dims}
+use Rattle.filing_model.specs.Oim.Facts.{Fact, FactValue, Nil, Written, Number}
+use Rattle.filing_model.specs.Oim.Duplicates.{pair_of, class_of, allows, obeys, least_disallowed, cell_of}
 use Rattle.filing_model.specs.declared.duplicates.Allowed.TheVariants as allowed
 use Rattle.filing_model.specs.declared.duplicates.Allowed.{Allowed}
 use Rattle.filing_model.specs.declared.duplicates.Class.{Class}

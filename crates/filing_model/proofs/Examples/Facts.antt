@@ -1,8 +1,8 @@
 -- Worked examples of raw facts fitted to the names of a report, which binds one prefix and has one numeric concept.
 use Rattle.std.specs.Prelude.{◌≡◌, ℤ, pos, neg_ℤ, [], ◌∷◌, Option, Some, None, Result, Ok, Err, codes, refl}
-use Rattle.filing_model.specs.Text.{Text}
-use Rattle.filing_model.specs.Dimensions.{Dims}
-use Rattle.filing_model.specs.Facts.{Fact, FactValue, Nil, Written, Number, Names, RawFact, fit_of}
+use Rattle.filing_model.specs.Common.Text.{Text}
+use Rattle.filing_model.specs.Oim.Dimensions.{Dims}
+use Rattle.filing_model.specs.Oim.Facts.{Fact, FactValue, Nil, Written, Number, Names, RawFact, fit_of}
 use Rattle.filing_model.specs.declared.faults.FactFault.{FactFault}
 use Rattle.filing_model.specs.declared.faults.FactFault.TheVariants.{UnboundPrefix, Misplaced, NotANumber, TooLarge, DecimalsOutOfRange}
 

@@ -1,17 +1,17 @@
 -- Histories of one and of several sessions: the replies that the definitions give to each list of steps, and a reply in each that is not lawful.
 use Rattle.std.proofs.Common.{◌≡◌, ℕ, refl, ap, arith, List, [], ◌∷◌, ◌++◌, Option, Some, None}
 use Rattle.std.specs.Prelude.{codes, true, false, pos}
-use Rattle.filing_model.specs.Text.{Text}
-use Rattle.filing_model.specs.TextMap.{empty}
-use Rattle.filing_model.specs.Facts.{FactValue, Written}
-use Rattle.filing_model.specs.Reports.{Report}
-use Rattle.filing_model.specs.Replies.{Reply, NoReport, Absent, Found, Cell, Page, ReadOnly, BadFact, Staged, Loaded, NameTaken, Disallowed, Opened, Closed, Committed, Conflict}
-use Rattle.filing_model.specs.Calls.{Without}
-use Rattle.filing_model.specs.Things as thing
-use Rattle.filing_model.specs.Lawful.{IsLawful}
-use Rattle.filing_model.proofs.NextReply.{not_lawful}
+use Rattle.filing_model.specs.Common.Text.{Text}
+use Rattle.filing_model.specs.Common.TextMap.{empty}
+use Rattle.filing_model.specs.Oim.Facts.{FactValue, Written}
+use Rattle.filing_model.specs.Oim.Reports.{Report}
+use Rattle.filing_model.specs.Sessions.Replies.{Reply, NoReport, Absent, Found, Cell, Page, ReadOnly, BadFact, Staged, Loaded, NameTaken, Disallowed, Opened, Closed, Committed, Conflict}
+use Rattle.filing_model.specs.Sessions.Calls.{Without}
+use Rattle.filing_model.specs.Sessions.Things as thing
+use Rattle.filing_model.specs.Histories.Lawful.{IsLawful}
+use Rattle.filing_model.proofs.Histories.NextReply.{not_lawful}
 use Rattle.filing_model.proofs.Examples.Setting.{report_with, holding, of_concept, raw_of, raw, fact, Line, load}
-use Rattle.filing_model.proofs.Examples.Setting.{amend, review, gets, looks, sought, one, two, ten, pages, adds}
+use Rattle.filing_model.proofs.Examples.Setting.{amend, review, gets, looks, query, one, two, ten, pages, adds}
 use Rattle.filing_model.proofs.Examples.Setting.{removes, commits, closes, played, told, with_last_reply}
 use Rattle.filing_model.specs.declared.duplicates.Allowed.TheVariants.{Never, All}
 use Rattle.filing_model.specs.declared.duplicates.Class.TheVariants.{Empty, Single, Complete}
@@ -88,12 +88,12 @@ phantom_lines =
 
 pub phantom : told phantom_lines ≡
     Loaded 1 ∷ Opened ∷ Opened ∷ Page [] false ∷ Staged ∷ Committed 2 ∷ Staged ∷
-    Conflict 2 (thing.Range r1 (sought Without None) None) ∷ []
+    Conflict 2 (thing.Range r1 (query Without None) None) ∷ []
 phantom = refl
 
 pub phantom_is_refused : ¬ IsLawful (with_last_reply (Committed 3) (played phantom_lines))
 phantom_is_refused = not_lawful (with_last_reply (Committed 3) (played phantom_lines))
-    (λ same. let told_otherwise : Some (Conflict 2 (thing.Range r1 (sought Without None) None))
+    (λ same. let told_otherwise : Some (Conflict 2 (thing.Range r1 (query Without None) None))
     ≡ Some (Committed 3) = same in cc)
 
 -- a review reads the version of its opening, and a later one the amended version
@@ -346,12 +346,12 @@ left_range_lines =
 
 pub left_range : told left_range_lines ≡
     Loaded 1 ∷ Opened ∷ Opened ∷ Page (codes "f1" ∷ []) false ∷ Staged ∷ Staged ∷ Committed 2 ∷
-    Conflict 2 (thing.Range r1 (sought Without None) None) ∷ []
+    Conflict 2 (thing.Range r1 (query Without None) None) ∷ []
 left_range = refl
 
 pub left_range_is_touched : ¬ IsLawful (with_last_reply (Committed 3) (played left_range_lines))
 left_range_is_touched = not_lawful (with_last_reply (Committed 3) (played left_range_lines))
-    (λ same. let told_otherwise : Some (Conflict 2 (thing.Range r1 (sought Without None) None))
+    (λ same. let told_otherwise : Some (Conflict 2 (thing.Range r1 (query Without None) None))
     ≡ Some (Committed 3) = same in cc)
 
 -- a refused and a closed session leave nothing behind, and do not count

@@ -1,7 +1,7 @@
 -- Worked examples of intervals, in half units. A unit is 10^-15 (`most_fraction_digits`).
 use Rattle.std.specs.Prelude.{◌≡◌, ◌-◌, ◌*◌, ◌^◌, [], ◌∷◌, map, replicate, true, false, pos, neg_ℤ, Some, None, Ok, Err, codes, refl}
-use Rattle.filing_model.specs.Numerals.{number_of}
-use Rattle.filing_model.specs.Intervals.{interval_of, meets, accuracy_of}
+use Rattle.filing_model.specs.Oim.Numerals.{number_of}
+use Rattle.filing_model.specs.Oim.Intervals.{interval_of, meets, accuracy_of}
 use Rattle.filing_model.specs.declared.faults.NumberFault.TheVariants.{DecimalsOutOfRange}
 
 pub a_thousand_at_thousands : interval_of (pos (10 ^ 18)) (Some (neg_ℤ (pos 3))) ≡ record { low = pos (10 ^ 18); high = pos (3 * 10 ^ 18) }

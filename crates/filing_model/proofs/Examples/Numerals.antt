@@ -1,7 +1,7 @@
 -- Worked examples of numbers, which computing alone proves.
 use Rattle.std.specs.Prelude.{◌≡◌, ◌^◌, ◌-◌, ◌*◌, List, [], ◌∷◌, map, replicate, pos, neg_ℤ, Ok, Err, codes, refl}
-use Rattle.filing_model.specs.Text.{Text}
-use Rattle.filing_model.specs.Numerals.{number_of}
+use Rattle.filing_model.specs.Common.Text.{Text}
+use Rattle.filing_model.specs.Oim.Numerals.{number_of}
 use Rattle.filing_model.specs.declared.faults.NumberFault.TheVariants.{NotANumber, TooLarge}
 
 pub the_greatest_number : number_of (codes "99999999999999999999.999999999999999") ≡ Ok (pos (10 ^ 35 - 1))

@@ -1,13 +1,13 @@
 -- Ranges: what a page read begins after the identifier that it goes on after, and ends at the first that its limit cut.
 use Rattle.std.proofs.Common.{◌≡◌, refl, List, [], ◌∷◌, Some, None}
 use Rattle.std.specs.Prelude.{codes, true, false}
-use Rattle.filing_model.specs.Reports.{Report}
-use Rattle.filing_model.specs.Calls.{Any, Without, Exactly, limit_of}
-use Rattle.filing_model.specs.Replies.{Page, Staged, Loaded, Opened, Committed, Conflict}
-use Rattle.filing_model.specs.Things as thing
-use Rattle.filing_model.specs.Lawful.{IsLawful}
-use Rattle.filing_model.proofs.NextReply.{not_lawful}
-use Rattle.filing_model.proofs.Examples.Setting.{holding, raw, fact, dated, Line, amend, sought, one, two, ten, pages, seeks, adds, removes, commits, played, told, with_last_reply}
+use Rattle.filing_model.specs.Oim.Reports.{Report}
+use Rattle.filing_model.specs.Sessions.Calls.{Any, Without, Exactly, limit_of}
+use Rattle.filing_model.specs.Sessions.Replies.{Page, Staged, Loaded, Opened, Committed, Conflict}
+use Rattle.filing_model.specs.Sessions.Things as thing
+use Rattle.filing_model.specs.Histories.Lawful.{IsLawful}
+use Rattle.filing_model.proofs.Histories.NextReply.{not_lawful}
+use Rattle.filing_model.proofs.Examples.Setting.{holding, raw, fact, dated, Line, amend, query, one, two, ten, pages, seeks, adds, removes, commits, played, told, with_last_reply}
 use Rattle.filing_model.proofs.Examples.Histories.{r1, loads}
 use Rattle.filing_model.specs.declared.duplicates.Allowed.TheVariants.{All}
 
@@ -39,11 +39,11 @@ pub behind_the_cut : told behind_the_cut_lines ≡
     Loaded 1 ∷ Opened ∷ Opened ∷ Page (codes "a" ∷ codes "b" ∷ []) true ∷ Staged ∷ Committed 2 ∷ Committed 3 ∷ []
 behind_the_cut = refl
 
-pub behind_the_cut_is_no_conflict : ¬ IsLawful (with_last_reply (Conflict 2 (thing.Range r1 (sought Without None) (Some (codes "c")))) (played behind_the_cut_lines))
-behind_the_cut_is_no_conflict = not_lawful (with_last_reply (Conflict 2 (thing.Range r1 (sought Without None) (Some (codes "c")))) (played behind_the_cut_lines))
+pub behind_the_cut_is_no_conflict : ¬ IsLawful (with_last_reply (Conflict 2 (thing.Range r1 (query Without None) (Some (codes "c")))) (played behind_the_cut_lines))
+behind_the_cut_is_no_conflict = not_lawful (with_last_reply (Conflict 2 (thing.Range r1 (query Without None) (Some (codes "c")))) (played behind_the_cut_lines))
     (λ same.
     let told_otherwise : Some (Committed 3)
-    ≡ Some (Conflict 2 (thing.Range r1 (sought Without None) (Some (codes "c")))) = same in
+    ≡ Some (Conflict 2 (thing.Range r1 (query Without None) (Some (codes "c")))) = same in
     cc)
 
 -- that identifier itself was read
@@ -53,13 +53,13 @@ at_the_cut_lines =
 
 pub at_the_cut : told at_the_cut_lines ≡
     Loaded 1 ∷ Opened ∷ Opened ∷ Page (codes "a" ∷ codes "b" ∷ []) true ∷ Staged ∷ Committed 2 ∷
-    Conflict 2 (thing.Range r1 (sought Without None) (Some (codes "c"))) ∷ []
+    Conflict 2 (thing.Range r1 (query Without None) (Some (codes "c"))) ∷ []
 at_the_cut = refl
 
 pub at_the_cut_is_a_conflict : ¬ IsLawful (with_last_reply (Committed 3) (played at_the_cut_lines))
 at_the_cut_is_a_conflict = not_lawful (with_last_reply (Committed 3) (played at_the_cut_lines))
     (λ same.
-    let told_otherwise : Some (Conflict 2 (thing.Range r1 (sought Without None) (Some (codes "c"))))
+    let told_otherwise : Some (Conflict 2 (thing.Range r1 (query Without None) (Some (codes "c"))))
     ≡ Some (Committed 3) = same in
     cc)
 
@@ -74,11 +74,11 @@ pub before_the_page : told before_the_page_lines ≡
     Committed 3 ∷ []
 before_the_page = refl
 
-pub before_the_page_is_no_conflict : ¬ IsLawful (with_last_reply (Conflict 2 (thing.Range r1 (sought Without (Some (codes "b"))) None)) (played before_the_page_lines))
-before_the_page_is_no_conflict = not_lawful (with_last_reply (Conflict 2 (thing.Range r1 (sought Without (Some (codes "b"))) None)) (played before_the_page_lines))
+pub before_the_page_is_no_conflict : ¬ IsLawful (with_last_reply (Conflict 2 (thing.Range r1 (query Without (Some (codes "b"))) None)) (played before_the_page_lines))
+before_the_page_is_no_conflict = not_lawful (with_last_reply (Conflict 2 (thing.Range r1 (query Without (Some (codes "b"))) None)) (played before_the_page_lines))
     (λ same.
     let told_otherwise : Some (Committed 3)
-    ≡ Some (Conflict 2 (thing.Range r1 (sought Without (Some (codes "b"))) None)) = same in
+    ≡ Some (Conflict 2 (thing.Range r1 (query Without (Some (codes "b"))) None)) = same in
     cc)
 
 -- what comes behind it was
@@ -89,13 +89,13 @@ after_the_page_lines =
 
 pub after_the_page : told after_the_page_lines ≡
     Loaded 1 ∷ Opened ∷ Opened ∷ Page (codes "c" ∷ codes "d" ∷ []) false ∷ Staged ∷ Committed 2 ∷
-    Conflict 2 (thing.Range r1 (sought Without (Some (codes "b"))) None) ∷ []
+    Conflict 2 (thing.Range r1 (query Without (Some (codes "b"))) None) ∷ []
 after_the_page = refl
 
 pub after_the_page_is_a_conflict : ¬ IsLawful (with_last_reply (Committed 3) (played after_the_page_lines))
 after_the_page_is_a_conflict = not_lawful (with_last_reply (Committed 3) (played after_the_page_lines))
     (λ same.
-    let told_otherwise : Some (Conflict 2 (thing.Range r1 (sought Without (Some (codes "b"))) None))
+    let told_otherwise : Some (Conflict 2 (thing.Range r1 (query Without (Some (codes "b"))) None))
     ≡ Some (Committed 3) = same in
     cc)
 
@@ -112,11 +112,11 @@ pub own_cut : told own_cut_lines ≡
     []
 own_cut = refl
 
-pub own_cut_is_the_end : ¬ IsLawful (with_last_reply (Conflict 2 (thing.Range r1 (sought Without None) (Some (codes "c")))) (played own_cut_lines))
-own_cut_is_the_end = not_lawful (with_last_reply (Conflict 2 (thing.Range r1 (sought Without None) (Some (codes "c")))) (played own_cut_lines))
+pub own_cut_is_the_end : ¬ IsLawful (with_last_reply (Conflict 2 (thing.Range r1 (query Without None) (Some (codes "c")))) (played own_cut_lines))
+own_cut_is_the_end = not_lawful (with_last_reply (Conflict 2 (thing.Range r1 (query Without None) (Some (codes "c")))) (played own_cut_lines))
     (λ same.
     let told_otherwise : Some (Committed 3)
-    ≡ Some (Conflict 2 (thing.Range r1 (sought Without None) (Some (codes "c")))) = same in
+    ≡ Some (Conflict 2 (thing.Range r1 (query Without None) (Some (codes "c")))) = same in
     cc)
 
 -- an identifier that the session removed itself does not count, so one more was read
@@ -127,13 +127,13 @@ own_removal_lines =
 
 pub own_removal : told own_removal_lines ≡
     Loaded 1 ∷ Opened ∷ Opened ∷ Staged ∷ Page (codes "b" ∷ codes "c" ∷ []) true ∷ Staged ∷ Committed 2 ∷
-    Conflict 2 (thing.Range r1 (sought Without None) (Some (codes "d"))) ∷ []
+    Conflict 2 (thing.Range r1 (query Without None) (Some (codes "d"))) ∷ []
 own_removal = refl
 
 pub own_removal_moves_the_end : ¬ IsLawful (with_last_reply (Committed 3) (played own_removal_lines))
 own_removal_moves_the_end = not_lawful (with_last_reply (Committed 3) (played own_removal_lines))
     (λ same.
-    let told_otherwise : Some (Conflict 2 (thing.Range r1 (sought Without None) (Some (codes "d"))))
+    let told_otherwise : Some (Conflict 2 (thing.Range r1 (query Without None) (Some (codes "d"))))
     ≡ Some (Committed 3) = same in
     cc)
 
@@ -167,13 +167,13 @@ any_period_lines =
 
 pub any_period : told any_period_lines ≡
     Loaded 1 ∷ Opened ∷ Opened ∷ Page (codes "a" ∷ codes "b" ∷ []) false ∷ Staged ∷ Committed 2 ∷
-    Conflict 2 (thing.Range r1 (sought Any None) None) ∷ []
+    Conflict 2 (thing.Range r1 (query Any None) None) ∷ []
 any_period = refl
 
 pub any_period_is_touched : ¬ IsLawful (with_last_reply (Committed 3) (played any_period_lines))
 any_period_is_touched = not_lawful (with_last_reply (Committed 3) (played any_period_lines))
     (λ same.
-    let told_otherwise : Some (Conflict 2 (thing.Range r1 (sought Any None) None))
+    let told_otherwise : Some (Conflict 2 (thing.Range r1 (query Any None) None))
     ≡ Some (Committed 3) = same in
     cc)
 
@@ -187,9 +187,9 @@ pub other_period : told other_period_lines ≡
     Loaded 1 ∷ Opened ∷ Opened ∷ Page (codes "a" ∷ []) false ∷ Staged ∷ Committed 2 ∷ Committed 3 ∷ []
 other_period = refl
 
-pub other_period_is_not_touched : ¬ IsLawful (with_last_reply (Conflict 2 (thing.Range r1 (sought Without None) None)) (played other_period_lines))
-other_period_is_not_touched = not_lawful (with_last_reply (Conflict 2 (thing.Range r1 (sought Without None) None)) (played other_period_lines))
+pub other_period_is_not_touched : ¬ IsLawful (with_last_reply (Conflict 2 (thing.Range r1 (query Without None) None)) (played other_period_lines))
+other_period_is_not_touched = not_lawful (with_last_reply (Conflict 2 (thing.Range r1 (query Without None) None)) (played other_period_lines))
     (λ same.
     let told_otherwise : Some (Committed 3)
-    ≡ Some (Conflict 2 (thing.Range r1 (sought Without None) None)) = same in
+    ≡ Some (Conflict 2 (thing.Range r1 (query Without None) None)) = same in
     cc)

@@ -1,10 +1,10 @@
 -- Worked examples of what is read of a fact object.
 use Rattle.std.specs.Prelude.{◌≡◌, ℤ, negsuc, [], ◌∷◌, codes, Option, None, Some, Result, Ok, Err, ok_or, refl}
-use Rattle.filing_model.specs.Text.{Text}
-use Rattle.filing_model.specs.Try.{◌>>=◌}
-use Rattle.filing_model.specs.JsonText.{json_of}
-use Rattle.filing_model.specs.ReadFact.{raw_fact_of}
-use Rattle.filing_model.specs.Facts.{RawFact}
+use Rattle.filing_model.specs.Common.Text.{Text}
+use Rattle.filing_model.specs.Common.Try.{◌>>=◌}
+use Rattle.filing_model.specs.Reading.JsonText.{json_of}
+use Rattle.filing_model.specs.Reading.ReadFact.{raw_fact_of}
+use Rattle.filing_model.specs.Oim.Facts.{RawFact}
 use Rattle.filing_model.specs.declared.faults.DimFault.TheVariants.{NullCore, NoConcept}
 use Rattle.filing_model.specs.declared.faults.Trouble.{Trouble}
 use Rattle.filing_model.specs.declared.faults.Trouble.TheVariants.{WrongShape, NotWhole, Dims}

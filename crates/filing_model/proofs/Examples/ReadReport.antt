@@ -1,13 +1,13 @@
 -- Worked examples of what is read of a report's text, and of each fault.
 use Rattle.std.specs.Prelude.{◌≡◌, ℕ, zero, suc, replicate, pos, negsuc, [], ◌∷◌, ◌++◌, codes, None, Some, Result, Ok, Err, refl}
 use Rattle.serde_json.specs.Data.{Data, null, array, item, no_items}
-use Rattle.filing_model.specs.Text.{Text}
-use Rattle.filing_model.specs.TextMap.{empty, from_entries}
-use Rattle.filing_model.specs.Try.{◌>>=◌}
-use Rattle.filing_model.specs.JsonText.{byte_order_mark}
-use Rattle.filing_model.specs.ReadReport.{ReportFault, NotJson, WrongShape, WrongDocumentType, BadPolicy, AliasTwice, NotWhole, BadFact, whole_text_of, read_report_of}
-use Rattle.filing_model.specs.Facts.{Table, Written, Number, Nil}
-use Rattle.filing_model.specs.Reports.{Report}
+use Rattle.filing_model.specs.Common.Text.{Text}
+use Rattle.filing_model.specs.Common.TextMap.{empty, from_entries}
+use Rattle.filing_model.specs.Common.Try.{◌>>=◌}
+use Rattle.filing_model.specs.Reading.JsonText.{byte_order_mark}
+use Rattle.filing_model.specs.Reading.ReadReport.{ReportFault, NotJson, WrongShape, WrongDocumentType, BadPolicy, AliasTwice, NotWhole, BadFact, whole_text_of, read_report_of}
+use Rattle.filing_model.specs.Oim.Facts.{Table, Written, Number, Nil}
+use Rattle.filing_model.specs.Oim.Reports.{Report}
 use Rattle.filing_model.specs.declared.duplicates.Allowed.{Allowed}
 use Rattle.filing_model.specs.declared.duplicates.Allowed.TheVariants.{Never, Complete, Consistent, All}
 use Rattle.filing_model.specs.declared.faults.DimFault.TheVariants.{NoConcept}

@@ -1,15 +1,15 @@
 -- What the examples share: a report, facts of one concept, and a history that is played step by step.
 use Rattle.std.proofs.Common.{ℕ, List, [], ◌∷◌, map, reverse, Option, Some, None}
 use Rattle.std.specs.Prelude.{codes}
-use Rattle.filing_model.specs.Text.{Text}
-use Rattle.filing_model.specs.TextMap.{TextMap, empty, insert}
-use Rattle.filing_model.specs.Dimensions.{Dims}
-use Rattle.filing_model.specs.Facts.{Fact, RawFact, Written, Names}
-use Rattle.filing_model.specs.Reports.{Report}
-use Rattle.filing_model.specs.Calls.{Asked, Without, Sought, Limit, Get, Cell, Page, Add, Remove, Declared, Declare}
-use Rattle.filing_model.specs.Replies.{Reply}
-use Rattle.filing_model.specs.History.{Step, Load, Open, Ask, Commit, Close, History}
-use Rattle.filing_model.specs.Lawful.{after_step}
+use Rattle.filing_model.specs.Common.Text.{Text}
+use Rattle.filing_model.specs.Common.TextMap.{TextMap, empty, insert}
+use Rattle.filing_model.specs.Oim.Dimensions.{Dims}
+use Rattle.filing_model.specs.Oim.Facts.{Fact, RawFact, Written, Names}
+use Rattle.filing_model.specs.Oim.Reports.{Report}
+use Rattle.filing_model.specs.Sessions.Calls.{PeriodFilter, Without, PageQuery, Limit, Get, Cell, Page, Add, Remove, Declared, Declare}
+use Rattle.filing_model.specs.Sessions.Replies.{Reply}
+use Rattle.filing_model.specs.Histories.History.{Step, Load, Open, Ask, Commit, Close, History}
+use Rattle.filing_model.specs.Histories.Lawful.{after_step}
 use Rattle.filing_model.specs.declared.duplicates.Allowed.{Allowed}
 use Rattle.filing_model.specs.declared.kind.Kind.TheVariants.{Review, Amend}
 
@@ -67,9 +67,9 @@ gets s name id = (Some s, Ask (Get name id))
 abbrev pub looks : ℕ → Text → Text → Line
 looks s name concept = (Some s, Ask (Cell name (of_concept concept)))
 
--- what is sought of the one concept
-abbrev pub sought : Asked → Option Text → Sought
-sought period after = record { concept = codes "ex:Name"; period = period; after = after }
+-- a page query of the one concept
+abbrev pub query : PeriodFilter → Option Text → PageQuery
+query period after = record { concept = codes "ex:Name"; period = period; after = after }
 
 abbrev pub one : Limit
 one = record { number = 1; within = tt }
@@ -80,12 +80,12 @@ two = record { number = 2; within = tt }
 abbrev pub ten : Limit
 ten = record { number = 10; within = tt }
 
--- a page of facts without a period, and one of the periods asked for
+-- a page of facts without a period, and one by a period filter
 abbrev pub pages : ℕ → Text → Option Text → Limit → Line
-pages s name after limit = (Some s, Ask (Page name (sought Without after) limit))
+pages s name after limit = (Some s, Ask (Page name (query Without after) limit))
 
-abbrev pub seeks : ℕ → Text → Asked → Limit → Line
-seeks s name period limit = (Some s, Ask (Page name (sought period None) limit))
+abbrev pub seeks : ℕ → Text → PeriodFilter → Limit → Line
+seeks s name period limit = (Some s, Ask (Page name (query period None) limit))
 
 abbrev pub adds : ℕ → Text → Text → RawFact → Line
 adds s name id fact = (Some s, Ask (Add name id fact))

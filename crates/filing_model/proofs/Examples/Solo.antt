@@ -1,12 +1,12 @@
 -- Runs of one session alone: what it is told, and what it leaves.
 use Rattle.std.specs.Prelude.{◌≡◌, refl, List, [], ◌∷◌, codes, false}
-use Rattle.filing_model.specs.TextMap.{empty, insert}
-use Rattle.filing_model.specs.Reports.{Report}
-use Rattle.filing_model.specs.Repository.{Repository}
-use Rattle.filing_model.specs.Calls as call
-use Rattle.filing_model.specs.Calls.{Call}
-use Rattle.filing_model.specs.Replies.{Staged, Opened, Committed, Disallowed}
-use Rattle.filing_model.specs.Sessions.{solo, solo_copy, repository_obeys, Committing, Closing}
+use Rattle.filing_model.specs.Common.TextMap.{empty, insert}
+use Rattle.filing_model.specs.Oim.Reports.{Report}
+use Rattle.filing_model.specs.Sessions.Repository.{Repository}
+use Rattle.filing_model.specs.Sessions.Calls as call
+use Rattle.filing_model.specs.Sessions.Calls.{Call}
+use Rattle.filing_model.specs.Sessions.Replies.{Staged, Opened, Committed, Disallowed}
+use Rattle.filing_model.specs.Sessions.Sessions.{solo, solo_copy, repository_obeys, Committing, Closing}
 use Rattle.filing_model.proofs.Examples.Setting.{holding, raw, fact}
 use Rattle.filing_model.specs.declared.kind.Kind.TheVariants.{Amend}
 use Rattle.filing_model.specs.declared.duplicates.Allowed.TheVariants.{Never, All}

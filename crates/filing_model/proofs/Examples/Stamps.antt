@@ -1,14 +1,14 @@
 -- Stamps: what a load and a commit stamp, and what keeps the stamp that it had.
 use Rattle.std.proofs.Common.{◌≡◌, refl, ℕ, List, [], ◌∷◌, Option, Some, None}
 use Rattle.std.specs.Prelude.{codes}
-use Rattle.filing_model.specs.Text.{Text}
-use Rattle.filing_model.specs.TextMap.{empty}
-use Rattle.filing_model.specs.Repository.{fact_at}
-use Rattle.filing_model.specs.Changes.{Change, with_change, with_declared}
-use Rattle.filing_model.specs.Calls.{Any, Without, Exactly}
-use Rattle.filing_model.specs.Things.{Thing, Report, Id, Cell, Range, Policy}
-use Rattle.filing_model.specs.Stamps.{Version, first_version, version_after, version_with}
-use Rattle.filing_model.proofs.Examples.Setting.{holding, fact, fact_of, of_concept, sought}
+use Rattle.filing_model.specs.Common.Text.{Text}
+use Rattle.filing_model.specs.Common.TextMap.{empty}
+use Rattle.filing_model.specs.Sessions.Repository.{fact_at}
+use Rattle.filing_model.specs.Sessions.Changes.{Change, with_change, with_declared}
+use Rattle.filing_model.specs.Sessions.Calls.{Any, Without, Exactly}
+use Rattle.filing_model.specs.Sessions.Things.{Thing, Report, Id, Cell, Range, Policy}
+use Rattle.filing_model.specs.Histories.Stamps.{Version, first_version, version_after, version_with}
+use Rattle.filing_model.proofs.Examples.Setting.{holding, fact, fact_of, of_concept, query}
 use Rattle.filing_model.proofs.Examples.Histories.{r1}
 use Rattle.filing_model.specs.declared.duplicates.Allowed.TheVariants.{All, Complete}
 
@@ -64,16 +64,16 @@ the_cell_of_the_new_fact_is_stamped = refl
 pub another_cell_is_not : at (Cell r1 (of_concept (codes "ex:Third"))) ≡ 0
 another_cell_is_not = refl
 
-pub a_range_over_it_is_stamped : at (Range r1 (sought Without None) None) ≡ 2
+pub a_range_over_it_is_stamped : at (Range r1 (query Without None) None) ≡ 2
 a_range_over_it_is_stamped = refl
 
-pub a_range_of_any_period_is_stamped : at (Range r1 (sought Any None) (Some (codes "a"))) ≡ 2
+pub a_range_of_any_period_is_stamped : at (Range r1 (query Any None) (Some (codes "a"))) ≡ 2
 a_range_of_any_period_is_stamped = refl
 
-pub a_range_of_another_period_is_not : at (Range r1 (sought (Exactly (codes "2024")) None) None) ≡ 0
+pub a_range_of_another_period_is_not : at (Range r1 (query (Exactly (codes "2024")) None) None) ≡ 0
 a_range_of_another_period_is_not = refl
 
-pub a_range_behind_it_is_not : at (Range r1 (sought Without (Some (codes "a"))) None) ≡ 0
+pub a_range_behind_it_is_not : at (Range r1 (query Without (Some (codes "a"))) None) ≡ 0
 a_range_behind_it_is_not = refl
 
 pub the_declared_value_is_not : at (Policy r1) ≡ 0

@@ -1,6 +1,6 @@
 -- Worked examples of numeric tables.
 use Rattle.std.specs.Prelude.{◌≡◌, [], ◌∷◌, codes, Ok, Err, refl}
-use Rattle.filing_model.specs.Tables.{read_table_of}
+use Rattle.filing_model.specs.Oim.Tables.{read_table_of}
 use Rattle.filing_model.specs.declared.faults.TableFault.TheVariants.{BadLine}
 
 pub empty_table : read_table_of [] ≡ Ok []

@@ -1,10 +1,10 @@
 -- Worked examples of the order of things, and of things each once.
 use Rattle.std.specs.Prelude.{◌≡◌, false, [], ◌∷◌, codes, Option, None, Some, refl}
 use Rattle.std.specs.declared.cmp.Ordering.TheVariants.{Less, Equal}
-use Rattle.filing_model.specs.Text.{Text}
-use Rattle.filing_model.specs.Calls.{Asked, Any, Without, Exactly}
-use Rattle.filing_model.specs.Things.{Thing, Report, Id, Cell, Range, Policy, thing_cmp, thing_eq, has_thing, each_once}
-use Rattle.filing_model.proofs.Examples.Setting.{sought}
+use Rattle.filing_model.specs.Common.Text.{Text}
+use Rattle.filing_model.specs.Sessions.Calls.{PeriodFilter, Any, Without, Exactly}
+use Rattle.filing_model.specs.Sessions.Things.{Thing, Report, Id, Cell, Range, Policy, thing_cmp, thing_eq, has_thing, each_once}
+use Rattle.filing_model.proofs.Examples.Setting.{query}
 
 abbrev r1 : Text
 r1 = codes "r1"
@@ -16,9 +16,9 @@ r2 = codes "r2"
 abbrev with_value : Option Text → Thing
 with_value value = Cell r1 ((codes "concept", Some (codes "ex:Name")) ∷ (codes "ex:d", value) ∷ [])
 
--- what is sought of a period, after an identifier or from the first on, up to one or without end
-abbrev of_range : Asked → Option Text → Option Text → Thing
-of_range period after upto = Range r1 (sought period after) upto
+-- a page query of a period, after an identifier or from the first on, up to one or without end
+abbrev of_range : PeriodFilter → Option Text → Option Text → Thing
+of_range period after upto = Range r1 (query period after) upto
 
 -- ---- ranks, then names, then the rest
 
@@ -37,7 +37,7 @@ name_is_before_identifier = refl
 pub null_is_before_text : thing_cmp (with_value None) (with_value (Some [])) ≡ Less
 null_is_before_text = refl
 
--- ---- periods asked for, and ends
+-- ---- period filters, and ends
 
 pub any_is_before_none : thing_cmp (of_range Any (Some r2) None) (of_range Without None None) ≡ Less
 any_is_before_none = refl

@@ -1,11 +1,11 @@
 -- Worked examples of what is written for facts and reports.
 use Rattle.std.specs.Prelude.{◌≡◌, pos, negsuc, [], ◌∷◌, codes, None, Some, Result, Ok, refl}
-use Rattle.filing_model.specs.Text.{Text}
-use Rattle.filing_model.specs.Try.{◌>>=◌}
-use Rattle.filing_model.specs.Writing.{raw_fact_text, fact_text, report_text}
-use Rattle.filing_model.specs.Facts.{Nil, Written, Number}
+use Rattle.filing_model.specs.Common.Text.{Text}
+use Rattle.filing_model.specs.Common.Try.{◌>>=◌}
+use Rattle.filing_model.specs.Reading.Writing.{raw_fact_text, fact_text, report_text}
+use Rattle.filing_model.specs.Oim.Facts.{Nil, Written, Number}
 use Rattle.filing_model.proofs.OnLiterals.{filing_on_literals}
-use Rattle.filing_model.specs.ReadReport.{ReportFault}
+use Rattle.filing_model.specs.Reading.ReadReport.{ReportFault}
 use Rattle.filing_model.proofs.Examples.ReadFact.{raw}
 use Rattle.filing_model.proofs.Examples.ReadReport.{read_literal, report_with, bound, basic}
 

@@ -1,7 +1,7 @@
 use Rattle.std.proofs.Common.{◌≡◌, map}
 use Rattle.filing_step.specs.Steps.{thing_of}
 use Rattle.filing_version.specs.Filed.{version_in}
-use Rattle.filing_laws.specs.StampedVersions.{first_stamped}
+use Rattle.filing_laws.specs.Stamping.StampedVersions.{first_stamped}
 use Rattle.filing_core.proofs.conflict.conflict.Given as goal
 
 -- of the things that are left the first is that of all

@@ -1,11 +1,11 @@
 use Rattle.std.proofs.Common.{◌≡◌, ◌∙◌, ap, sym, Some, None, cond, option_map, option_and_then, is_some}
 use Rattle.std.specs.Arc.{arc_value}
-use Rattle.filing_model.specs.Reports.{Report}
-use Rattle.filing_model.specs.Repository.{report_at}
-use Rattle.filing_model.specs.Replies.{Loaded}
-use Rattle.filing_model.specs.Stamps.{Version, version_with}
-use Rattle.filing_model.specs.Versions.{counts}
-use Rattle.filing_model.specs.Duplicates.{least_disallowed}
+use Rattle.filing_model.specs.Oim.Reports.{Report}
+use Rattle.filing_model.specs.Sessions.Repository.{report_at}
+use Rattle.filing_model.specs.Sessions.Replies.{Loaded}
+use Rattle.filing_model.specs.Histories.Stamps.{Version, version_with}
+use Rattle.filing_model.specs.Histories.Versions.{counts}
+use Rattle.filing_model.specs.Oim.Duplicates.{least_disallowed}
 use Rattle.filing_version.specs.Filed.{repository_in, version_in}
 use Rattle.filing_core.proofs.RefusedReports.{absent, loaded_there, accepted, refused, refusal_at_is_quiet}
 use Rattle.filing_core.proofs.outcome.load_outcome.Goals as goal
@@ -42,8 +42,8 @@ returns-in_ok-reply-in-Some c =
     let least = sym (c.in-Some.ensures ∙ ap (option_and_then (λ (r : Report). least_disallowed r.allowed r.facts.entries)) there) in
     let told = refused before next name report dims none there least in
     record {
-      told_so = ap (λ o. o.reply) c.told-in-Some.ensures ∙ c.in_ok-reply-in-Some.ensures ∙ sym told;
-      next_so = ap (λ o. option_map version_in o.next) c.told-in-Some.ensures
+      told_so = ap (λ o. o.reply) c.reply_alone-in-Some.ensures ∙ c.in_ok-reply-in-Some.ensures ∙ sym told;
+      next_so = ap (λ o. option_map version_in o.next) c.reply_alone-in-Some.ensures
           ∙ ap (λ b. cond b (Some (version_with name report v)) None) (sym (refusal_at_is_quiet next (name, dims))
           ∙ ap counts (sym told));
     }

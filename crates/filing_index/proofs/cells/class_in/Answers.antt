@@ -2,7 +2,7 @@ use Rattle.std.proofs.Common.{◌∙◌, ap, map, rules, refl}
 use Rattle.std.specs.Arc.{arc_value}
 use Rattle.std.proofs.lemmas.Iterator.{items_from_drains, YieldsList-from_map_by}
 use Rattle.std.proofs.lemmas.Iterator.Consumers.{YieldsList-from_first, YieldsList-at}
-use Rattle.filing_model.specs.Duplicates.{class_of, has_dims}
+use Rattle.filing_model.specs.Oim.Duplicates.{class_of, has_dims}
 use Rattle.filing_index.proofs.FoundEntries.{found_all}
 use Rattle.filing_index.proofs.cells.class_in.Goals as goal
 

@@ -2,10 +2,10 @@
 use Rattle.std.proofs.Common.{◌∙◌, ap, sym, refl, true, true≢false, map}
 use Rattle.std.proofs.lemmas.Iterator.{items_from_drains}
 use Rattle.std.proofs.lemmas.Iterator.Consumers.{YieldsList-from_first}
-use Rattle.filing_model.specs.Duplicates.{facts_of, least_disallowed}
+use Rattle.filing_model.specs.Oim.Duplicates.{facts_of, least_disallowed}
 use Rattle.filing_model.specs.declared.duplicates.Allowed.TheVariants.{All}
-use Rattle.filing_model.proofs.EveryPair.{pairs_always}
-use Rattle.filing_model.proofs.DisallowedCells.{obeys_where_no_cell_is_disallowed}
+use Rattle.filing_model.proofs.Oim.EveryPair.{pairs_always}
+use Rattle.filing_model.proofs.Oim.DisallowedCells.{obeys_where_no_cell_is_disallowed}
 use Rattle.filing_index.specs.Cells.{least_among_facts}
 use Rattle.filing_index.proofs.KeptElements.{map-map}
 use Rattle.filing_index.proofs.CrowdedCells.{least_met}

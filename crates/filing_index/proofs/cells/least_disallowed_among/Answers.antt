@@ -4,11 +4,11 @@ use Rattle.std.specs.List.{fold, filter}
 use Rattle.std.specs.Option.{option_map}
 use Rattle.std.specs.Iterator.{Yields}
 use Rattle.std.proofs.lemmas.List.{map-append}
-use Rattle.filing_model.specs.Text.{Text}
-use Rattle.filing_model.specs.TextMap.{TextMap}
-use Rattle.filing_model.specs.Dimensions.{Dims}
-use Rattle.filing_model.specs.Facts.{Fact}
-use Rattle.filing_model.specs.Duplicates.{facts_of, is_disallowed, lesser_dims}
+use Rattle.filing_model.specs.Common.Text.{Text}
+use Rattle.filing_model.specs.Common.TextMap.{TextMap}
+use Rattle.filing_model.specs.Oim.Dimensions.{Dims}
+use Rattle.filing_model.specs.Oim.Facts.{Fact}
+use Rattle.filing_model.specs.Oim.Duplicates.{facts_of, is_disallowed, lesser_dims}
 use Rattle.filing_model.specs.declared.duplicates.Allowed.{Allowed}
 use Rattle.filing_index.specs.Cells.{are_these, facts_given}
 use Rattle.filing_index.proofs.CrowdedCells.{IsLeastSoFar, one_more, passed_over}
@@ -31,8 +31,8 @@ loop-held-preserved g c = λ all index.
     let least = option_map (λ d. d.now) c.loop-held.least in
     let so_far = c.loop-held.invariant all index in
     let of_held = ap (λ (f : Fact). f.dims) c.value-fact.ensures in
-    let dims = c.dims_of-dims.ensures ∙ of_held in
-    taken a all given held c.dims_of-dims.result.now (option_map (λ d. d.now) c.if-not-are_these.least) dims
+    let dims = c.dims-dims.ensures ∙ of_held in
+    taken a all given held c.dims-dims.result.now (option_map (λ d. d.now) c.if-not-are_these.least) dims
     (elim c.if-not-are_these.branch [
       | then-not-are_these w ↦ one_more a all (facts_given given) held.now.1 before least (option_map (λ d. d.now) c.if-not-are_these.least) so_far
           (ap (option_map (λ d. d.now)) w.least-is ∙ w.with_cell-least.ensures all index

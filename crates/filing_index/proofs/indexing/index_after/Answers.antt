@@ -1,28 +1,28 @@
--- A fact keeps its code where only one change is made.
+-- A fact keeps its hash where only one change is made.
 use Rattle.std.proofs.Common.{◌≡◌, ◌∙◌, ap, sym, subst, List, map, IsPermutation}
 use Rattle.std.proofs.lemmas.Result.{IfOk-weaker}
-use Rattle.sorted_pages.specs.declared.change.Change.{Change}
+use Rattle.sorted_pages.specs.declared.edit.Edit.{Edit}
 use Rattle.sorted_pages.specs.Sorted.{IsRising}
 use Rattle.sorted_pages.specs.Changes.{entry_of, with_changes}
-use Rattle.filing_index.specs.Index.{Coded, coded_cmp, IsIndex}
-use Rattle.filing_index.specs.Orders.{code_in}
-use Rattle.filing_index.specs.Moves as move
-use Rattle.filing_index.specs.Moved.{IsIndexAfter, coded_changes}
-use Rattle.filing_index.proofs.MovedFacts.{index_after}
+use Rattle.filing_index.specs.Index.{IndexEntry, hashed_cmp, IsIndex}
+use Rattle.filing_index.specs.IndexKinds.{hash_in}
+use Rattle.filing_facts.specs.FactChanges as move
+use Rattle.filing_index.specs.ChangedIndexes.{IsIndexAfter, hashed_changes}
+use Rattle.filing_index.proofs.ChangedFacts.{index_after}
 use Rattle.filing_index.proofs.indexing.index_after.Goals as goal
 
 pub after-next-requires : goal.after-next-requires
 after-next-requires c =
-    subst (λ (cs : List (Change Coded)). IsRising coded_cmp (map entry_of cs)) (sym c.deref.ensures.value) c.in_ok-changes.ensures.rising
+    subst (λ (cs : List (Edit IndexEntry)). IsRising hashed_cmp (map entry_of cs)) (sym c.deref.ensures.value) c.in_ok-changes.ensures.rising
 
 pub returns : goal.returns
 returns c =
-    IfOk-weaker c.after-next.result (λ p. p ≡ with_changes coded_cmp c.deref.result.now c.args.index.now)
-    (IsIndexAfter (code_in c.args.order) c.args.moves.now c.args.index.now)
+    IfOk-weaker c.after-next.result (λ p. p ≡ with_changes hashed_cmp c.deref.result.now c.args.index.now)
+    (IsIndexAfter (hash_in c.args.order) c.args.fact_changes.now c.args.index.now)
     (λ p same changes facts are is.
-    subst (IsIndex (code_in c.args.order) (move.with_changes changes.entries facts))
-    (sym (same ∙ ap (λ (cs : List (Change Coded)). with_changes coded_cmp cs c.args.index.now) c.deref.ensures.value))
-    (index_after (code_in c.args.order) changes facts c.args.index.now c.in_ok-changes.changes.items
-    (subst (λ (cs : List (Change Coded)). IsPermutation cs c.in_ok-changes.changes.items)
-    (ap (coded_changes (code_in c.args.order)) are) c.in_ok-changes.ensures.changes) is))
+    subst (IsIndex (hash_in c.args.order) (move.with_changes changes.entries facts))
+    (sym (same ∙ ap (λ (cs : List (Edit IndexEntry)). with_changes hashed_cmp cs c.args.index.now) c.deref.ensures.value))
+    (index_after (hash_in c.args.order) changes facts c.args.index.now c.in_ok-changes.changes.items
+    (subst (λ (cs : List (Edit IndexEntry)). IsPermutation cs c.in_ok-changes.changes.items)
+    (ap (hashed_changes (hash_in c.args.order)) are) c.in_ok-changes.ensures.changes) is))
     c.after-next.ensures

@@ -1,4 +1,4 @@
-use Rattle.filing_laws.proofs.TouchedRanges.{ranges_are_touched_by_marks}
+use Rattle.filing_laws.proofs.Stamping.TouchedRanges.{ranges_are_touched_by_marks}
 use Rattle.filing_laws.proofs.marks.ranges_are_touched_by_marks.Goals as goal
 
 pub returns : goal.returns

@@ -1,4 +1,4 @@
-use Rattle.filing_laws.proofs.RisingNumbers.{each_number_is_the_count}
+use Rattle.filing_laws.proofs.Stamping.RisingNumbers.{each_number_is_the_count}
 use Rattle.filing_laws.proofs.numbers.each_number_is_the_count.Goals as goal
 
 pub returns : goal.returns

@@ -1,4 +1,4 @@
-use Rattle.filing_laws.proofs.AllowedCells.{least_disallowed_is_the_least}
+use Rattle.filing_laws.proofs.Updating.AllowedCells.{least_disallowed_is_the_least}
 use Rattle.filing_laws.proofs.obeying.least_disallowed_is_the_least.Goals as goal
 
 pub returns : goal.returns

@@ -1,4 +1,4 @@
-use Rattle.filing_laws.proofs.PlayedHistories.{played_are_the_lawful}
+use Rattle.filing_laws.proofs.Histories.PlayedHistories.{played_are_the_lawful}
 use Rattle.filing_laws.proofs.played.played_histories_are_the_lawful_ones.Goals as goal
 
 pub returns : goal.returns

@@ -1,4 +1,4 @@
-use Rattle.filing_laws.proofs.StampedVersions.{each_load_makes_its_version, each_commit_makes_its_version, each_other_entry_leaves_the_version}
+use Rattle.filing_laws.proofs.Stamping.StampedVersions.{each_load_makes_its_version, each_commit_makes_its_version, each_other_entry_leaves_the_version}
 use Rattle.filing_laws.proofs.stamped_versions.each_entry_makes_its_version.Goals as goal
 
 pub returns-clause-loads : goal.returns-clause-loads

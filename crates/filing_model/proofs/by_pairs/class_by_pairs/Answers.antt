@@ -1,6 +1,6 @@
 use Rattle.std.proofs.Common.{◌∙◌, ap, map}
-use Rattle.filing_model.specs.Duplicates.{class_of}
-use Rattle.filing_model.proofs.ByPairs.{all_are_kept}
+use Rattle.filing_model.specs.Oim.Duplicates.{class_of}
+use Rattle.filing_model.proofs.Oim.ByPairs.{all_are_kept}
 use Rattle.filing_model.proofs.by_pairs.class_by_pairs.Goals as goal
 
 pub returns : goal.returns

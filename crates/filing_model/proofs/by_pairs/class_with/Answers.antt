@@ -1,8 +1,8 @@
 use Rattle.std.proofs.Common.{◌≡◌, ◌∙◌, sym, map, length, arith}
 use Rattle.std.specs.Option.{option_map}
-use Rattle.filing_model.specs.Duplicates.{pair_of}
-use Rattle.filing_model.specs.ByPairs.{is_of, cell_with}
-use Rattle.filing_model.proofs.ByPairs.{count_kept, class_of_none, class_of_one, class_of_many}
+use Rattle.filing_model.specs.Oim.Duplicates.{pair_of}
+use Rattle.filing_model.specs.Oim.ByPairs.{is_of, cell_with}
+use Rattle.filing_model.proofs.Oim.ByPairs.{count_kept, class_of_none, class_of_one, class_of_many}
 use Rattle.filing_model.proofs.by_pairs.class_with.Goals as goal
 
 pub returns-in-0 : goal.returns-in-0

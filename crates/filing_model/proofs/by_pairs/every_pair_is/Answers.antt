@@ -1,8 +1,8 @@
 use Rattle.std.proofs.Common.{◌∙◌, sym}
 use Rattle.std.specs.Option.{option_map}
-use Rattle.filing_model.specs.Duplicates.{pair_of}
-use Rattle.filing_model.specs.ByPairs.{binds, is_of}
-use Rattle.filing_model.proofs.ByPairs.{turn_passes, turn_fails}
+use Rattle.filing_model.specs.Oim.Duplicates.{pair_of}
+use Rattle.filing_model.specs.Oim.ByPairs.{binds, is_of}
+use Rattle.filing_model.proofs.Oim.ByPairs.{turn_passes, turn_fails}
 use Rattle.filing_model.proofs.by_pairs.every_pair_is.Goals as goal
 
 pub returns-then-not-is_bound : goal.returns-then-not-is_bound

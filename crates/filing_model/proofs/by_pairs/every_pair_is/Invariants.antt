@@ -1,7 +1,7 @@
 use Rattle.std.proofs.Common.{◌≡◌, length, map}
 use Rattle.std.specs.Option.{option_map}
-use Rattle.filing_model.specs.Duplicates.{pair_of, every_pair}
-use Rattle.filing_model.specs.ByPairs.{binds, cell_with}
+use Rattle.filing_model.specs.Oim.Duplicates.{pair_of, every_pair}
+use Rattle.filing_model.specs.Oim.ByPairs.{binds, cell_with}
 use Rattle.filing_model.proofs.by_pairs.every_pair_is.Given as goal
 
 abbrev pub invariant-loop-left : goal.invariant-loop-left

@@ -1,8 +1,8 @@
 use Rattle.std.proofs.Common.{◌∙◌, ap, sym, map}
 use Rattle.std.specs.Option.{option_and_then}
 use Rattle.std.specs.List.{position}
-use Rattle.filing_model.specs.Duplicates.{has_dims}
-use Rattle.filing_model.proofs.ByPairs.{position_view}
+use Rattle.filing_model.specs.Oim.Duplicates.{has_dims}
+use Rattle.filing_model.proofs.Oim.ByPairs.{position_view}
 use Rattle.filing_model.proofs.by_pairs.least_disallowed_by_pairs.Goals as goal
 
 pub returns : goal.returns

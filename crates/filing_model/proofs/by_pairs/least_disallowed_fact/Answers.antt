@@ -1,7 +1,7 @@
 use Rattle.std.proofs.Common.{◌∙◌, sym, map}
 use Rattle.std.specs.Option.{option_map}
-use Rattle.filing_model.specs.Duplicates.{is_disallowed, disallowed_dims, least_dims}
-use Rattle.filing_model.proofs.ByPairs.{least_turn, least_end}
+use Rattle.filing_model.specs.Oim.Duplicates.{is_disallowed, disallowed_dims, least_dims}
+use Rattle.filing_model.proofs.Oim.ByPairs.{least_turn, least_end}
 use Rattle.filing_model.proofs.by_pairs.least_disallowed_fact.Goals as goal
 
 pub loop-fact-preserved : goal.loop-fact-preserved

@@ -1,7 +1,7 @@
 use Rattle.std.proofs.Common.{◌≡◌, map, drop, fold}
 use Rattle.std.specs.Option.{option_map}
 use Rattle.std.specs.List.{filter}
-use Rattle.filing_model.specs.Duplicates.{is_disallowed, disallowed_dims, least_dims, lesser_dims}
+use Rattle.filing_model.specs.Oim.Duplicates.{is_disallowed, disallowed_dims, least_dims, lesser_dims}
 use Rattle.filing_model.proofs.by_pairs.least_disallowed_fact.Given as goal
 
 -- the facts still to come change the least so far as all facts change nothing

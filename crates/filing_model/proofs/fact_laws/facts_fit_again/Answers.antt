@@ -1,4 +1,4 @@
-use Rattle.filing_model.proofs.FitAgain.{fit_again}
+use Rattle.filing_model.proofs.Oim.FitAgain.{fit_again}
 use Rattle.filing_model.proofs.fact_laws.facts_fit_again.Goals as goal
 
 pub returns : goal.returns

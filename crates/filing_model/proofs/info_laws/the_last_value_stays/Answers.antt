@@ -1,4 +1,4 @@
-use Rattle.filing_model.proofs.DeclaredValues.{set_twice}
+use Rattle.filing_model.proofs.Reading.DeclaredValues.{set_twice}
 use Rattle.filing_model.proofs.info_laws.the_last_value_stays.Goals as goal
 
 pub returns : goal.returns

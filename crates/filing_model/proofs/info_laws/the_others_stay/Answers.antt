@@ -1,5 +1,5 @@
-use Rattle.filing_model.specs.DeclaredValue.{declaring}
-use Rattle.filing_model.proofs.DeclaredValues.{read_declaring, value_declaring, other_features, others_declaring}
+use Rattle.filing_model.specs.Reading.DeclaredValue.{declaring}
+use Rattle.filing_model.proofs.Reading.DeclaredValues.{read_declaring, value_declaring, other_features, others_declaring}
 use Rattle.filing_model.proofs.info_laws.the_others_stay.Goals as goal
 
 pub returns : goal.returns

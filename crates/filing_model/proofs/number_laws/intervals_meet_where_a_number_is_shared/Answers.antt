@@ -1,4 +1,4 @@
-use Rattle.filing_model.proofs.Intervals.{meets_where_a_number_is_shared}
+use Rattle.filing_model.proofs.Oim.Intervals.{meets_where_a_number_is_shared}
 use Rattle.filing_model.proofs.number_laws.intervals_meet_where_a_number_is_shared.Goals as goal
 
 pub returns : goal.returns

@@ -1,4 +1,4 @@
-use Rattle.filing_model.proofs.Numerals.{only_spellings_are_numbers}
+use Rattle.filing_model.proofs.Oim.Numerals.{only_spellings_are_numbers}
 use Rattle.filing_model.proofs.number_laws.only_spellings_are_numbers.Goals as goal
 
 pub returns : goal.returns

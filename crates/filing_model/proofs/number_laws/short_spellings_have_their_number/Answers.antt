@@ -1,4 +1,4 @@
-use Rattle.filing_model.proofs.Numerals.{short_spellings_have_their_number}
+use Rattle.filing_model.proofs.Oim.Numerals.{short_spellings_have_their_number}
 use Rattle.filing_model.proofs.number_laws.short_spellings_have_their_number.Goals as goal
 
 pub returns : goal.returns

@@ -1,4 +1,4 @@
-use Rattle.filing_model.proofs.Limits.{limits_are_their_numbers}
+use Rattle.filing_model.proofs.Sessions.Limits.{limits_are_their_numbers}
 use Rattle.filing_model.proofs.thing_laws.limits_are_their_numbers.Goals as goal
 
 pub returns : goal.returns

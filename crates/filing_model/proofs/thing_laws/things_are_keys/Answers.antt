@@ -1,4 +1,4 @@
-use Rattle.filing_model.proofs.Things.{things_are_keys}
+use Rattle.filing_model.proofs.Sessions.Things.{things_are_keys}
 use Rattle.filing_model.proofs.thing_laws.things_are_keys.Goals as goal
 
 pub returns : goal.returns

@@ -1,12 +1,12 @@
 use Rattle.std.proofs.Common.{◌≡◌, ◌∙◌, ap, sym, subst, arith, [], ◌∷◌, length, true, false, Vec, Global}
-use Rattle.filing_office.specs.Runs.{Turning, RanAfter, IsLearnt, is_no_memory}
+use Rattle.filing_office.specs.Runs.{NamedDeskState, RanAfter, IsLearnt, is_no_memory}
 use Rattle.filing_office.proofs.RunsOn.{RunsOn, begins, goes_on, stops, ends, not_from_true, not_from_false, no_items}
 use Rattle.filing_office.proofs.steps.take_steps.Goals as goal
 use Rattle.filing_office.proofs.steps.take_steps.Goals.{in-None, in-Some+then-not-take_one}
 
 pub loop-k-init : goal.loop-k-init
 loop-k-init g c =
-    let start = c.args.turn.now.state in
+    let start = c.args.named_desk.now.state in
     let before = c.args.outcomes.now.items in
     let all = c.args.steps.items in
     let same : c.into_iter-k-iterator.result.iter.rest.items ≡ all =
@@ -20,9 +20,9 @@ loop-k-init g c =
 
 pub loop-k-preserved : goal.loop-k-preserved
 loop-k-preserved g c =
-    let start = c.args.turn.now.state in
-    let now = c.loop-k.turn.state in
-    let mid = c.take_one.new.turn.state in
+    let start = c.args.named_desk.now.state in
+    let now = c.loop-k.named_desk.state in
+    let mid = c.take_one.new.named_desk.state in
     let before = c.args.outcomes.now.items in
     let all = c.args.steps.items in
     let rest = c.next.new.self.iter.rest.items in
@@ -39,8 +39,8 @@ loop-k-preserved g c =
 
 pub returns-clause-ran : goal.returns-clause-ran
 returns-clause-ran g c =
-    let start = c.args.turn.now.state in
-    let now = c.loop-k.turn.state in
+    let start = c.args.named_desk.now.state in
+    let now = c.loop-k.named_desk.state in
     let before = c.args.outcomes.now.items in
     let all = c.args.steps.items in
     let told = c.loop-k.outcomes.items in
@@ -50,16 +50,16 @@ returns-clause-ran g c =
           let empty : left.items ≡ [] = no_items left.items (sym w.in-None.ensures.steps.0.0 ∙ left.ok.0) in
           let done : RanAfter start now before all told =
           ends start now before all told (subst (λ xs. RunsOn start now before all xs told) empty c.loop-k.invariant.0) in
-          subst (λ (u : Turning). RanAfter start u.state before all c.match-next.outcomes.items) (sym w.turn-is)
+          subst (λ (u : NamedDeskState). RanAfter start u.state before all c.match-next.outcomes.items) (sym w.named_desk-is)
           (subst (λ os. RanAfter start now before all os) (sym (ap (λ (v : Vec _ Global). v.items) w.outcomes-is)) done)
       | in-Some+then-not-take_one w ↦
-          let mid = w.take_one.new.turn.state in
+          let mid = w.take_one.new.named_desk.state in
           let rest = c.next.new.self.iter.rest.items in
           let went = w.take_one.ensures.goes in
           let run : RunsOn start now before all (w.in-Some.step ∷ rest) told =
           subst (λ xs. RunsOn start now before all xs told) w.in-Some.ensures.steps.0.0 c.loop-k.invariant.0 in
           let last : is_no_memory went.0 ≡ true = not_from_false (is_no_memory went.0) (sym went.3 ∙ w.if-not-take_one.true) in
-          subst (λ (u : Turning). RanAfter start u.state before all c.match-next.outcomes.items) (sym w.turn-is)
+          subst (λ (u : NamedDeskState). RanAfter start u.state before all c.match-next.outcomes.items) (sym w.named_desk-is)
           (subst (λ os. RanAfter start mid before all os) (sym (ap (λ (v : Vec _ Global). v.items) w.outcomes-is ∙ went.2))
           (stops start now mid before all rest w.in-Some.step told went.0 run went.1 last))
     ]
@@ -68,9 +68,9 @@ pub returns-clause-learnt : goal.returns-clause-learnt
 returns-clause-learnt g c =
     elim c.match-next.branch [
       | in-None w ↦
-          subst (λ (u : Turning). IsLearnt u c.match-next.outcomes.items) (sym w.turn-is)
-          (subst (λ os. IsLearnt c.loop-k.turn os) (sym (ap (λ (v : Vec _ Global). v.items) w.outcomes-is)) c.loop-k.invariant.1)
+          subst (λ (u : NamedDeskState). IsLearnt u c.match-next.outcomes.items) (sym w.named_desk-is)
+          (subst (λ os. IsLearnt c.loop-k.named_desk os) (sym (ap (λ (v : Vec _ Global). v.items) w.outcomes-is)) c.loop-k.invariant.1)
       | in-Some+then-not-take_one w ↦
-          subst (λ (u : Turning). IsLearnt u c.match-next.outcomes.items) (sym w.turn-is)
-          (subst (λ os. IsLearnt w.take_one.new.turn os) (sym (ap (λ (v : Vec _ Global). v.items) w.outcomes-is)) w.take_one.ensures.learnt)
+          subst (λ (u : NamedDeskState). IsLearnt u c.match-next.outcomes.items) (sym w.named_desk-is)
+          (subst (λ os. IsLearnt w.take_one.new.named_desk os) (sym (ap (λ (v : Vec _ Global). v.items) w.outcomes-is)) w.take_one.ensures.learnt)
     ]

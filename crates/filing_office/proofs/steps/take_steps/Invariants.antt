@@ -7,6 +7,6 @@ use Rattle.filing_office.proofs.steps.take_steps.Given as goal
 -- what the rest makes of the rest is what the whole makes of the whole
 abbrev pub invariant-loop-k : goal.invariant-loop-k
 invariant-loop-k g l =
-    RunsOn l.fn.turn.state l.turn.state l.fn.outcomes.items l.fn.steps.items l.k-iterator.iter.rest.items l.outcomes.items
-    × IsLearnt l.turn l.outcomes.items
+    RunsOn l.fn.named_desk.state l.named_desk.state l.fn.outcomes.items l.fn.steps.items l.k-iterator.iter.rest.items l.outcomes.items
+    × IsLearnt l.named_desk l.outcomes.items
     × (vec_len l.outcomes + length l.k-iterator.iter.rest.items ≤ vec_capacity l.outcomes)

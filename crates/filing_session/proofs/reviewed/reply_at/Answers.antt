@@ -1,7 +1,7 @@
 use Rattle.std.proofs.Common.{◌∙◌, ap}
-use Rattle.filing_model.specs.Repository.{Repository}
-use Rattle.filing_model.specs.Changes.{Change}
-use Rattle.filing_model.specs.Sessions.{answer}
+use Rattle.filing_model.specs.Sessions.Repository.{Repository}
+use Rattle.filing_model.specs.Sessions.Changes.{Change}
+use Rattle.filing_model.specs.Sessions.Sessions.{answer}
 use Rattle.filing_model.specs.declared.kind.Kind.TheVariants.{Review}
 use Rattle.filing_step.specs.Steps.{call_of}
 use Rattle.filing_version.specs.Filed.{repository_in}

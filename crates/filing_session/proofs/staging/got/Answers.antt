@@ -1,6 +1,6 @@
 use Rattle.std.proofs.Common.{◌∙◌, ap, sym, option_map}
-use Rattle.filing_model.specs.Repository.{report_at, fact_in}
-use Rattle.filing_model.specs.Changes.{change_at}
+use Rattle.filing_model.specs.Sessions.Repository.{report_at, fact_in}
+use Rattle.filing_model.specs.Sessions.Changes.{change_at}
 use Rattle.filing_version.specs.Puts.{fact_seen}
 use Rattle.filing_version.specs.Filed.{repository_in}
 use Rattle.filing_session.proofs.PendingChanges.{seen_over, nothing_put, put_there, fact_laid}

@@ -1,5 +1,5 @@
 use Rattle.std.proofs.Common.{◌∙◌, sym}
-use Rattle.filing_model.proofs.DimensionSets.{dims_decides}
+use Rattle.filing_model.proofs.Oim.DimensionSets.{dims_decides}
 use Rattle.filing_step.proofs.compared_things.is_dims.Goals as goal
 
 pub returns : goal.returns

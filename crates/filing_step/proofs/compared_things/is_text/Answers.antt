@@ -1,6 +1,6 @@
 use Rattle.std.proofs.Common.{◌∙◌, ap, sym}
-use Rattle.filing_model.specs.Text.{text_eq}
-use Rattle.filing_model.proofs.Texts.{text_same, text_eq-refl}
+use Rattle.filing_model.specs.Common.Text.{text_eq}
+use Rattle.filing_model.proofs.Common.Texts.{text_same, text_eq-refl}
 use Rattle.filing_step.proofs.compared_things.is_text.Goals as goal
 
 pub returns : goal.returns

@@ -2,10 +2,10 @@ use Rattle.std.proofs.Common.{◌∙◌, ap, sym, string_bytes}
 use Rattle.std.specs.Cmp.Lexicographic.{slice_cmp}
 use Rattle.std.specs.Option.{option_cmp}
 use Rattle.std.specs.Ordering.{ordering_then}
-use Rattle.filing_model.specs.Text.{text_cmp}
-use Rattle.filing_model.specs.Things.{parts_of}
+use Rattle.filing_model.specs.Common.Text.{text_cmp}
+use Rattle.filing_model.specs.Sessions.Things.{parts_of}
 use Rattle.oim_fact.specs.Texts.{text_view}
-use Rattle.filing_step.specs.Ordered.{sought_order}
+use Rattle.filing_step.specs.Ordered.{page_query_order}
 use Rattle.filing_step.specs.Steps.{thing_of}
 use Rattle.filing_step.proofs.OrderedParts.{dims_by_parts, ranges_by_parts}
 use Rattle.filing_step.proofs.ordered_things.order_alike.Goals as goal
@@ -22,8 +22,8 @@ returns-in-Range-Range c same =
     c.then-in-Range-Range-2.ensures
     ∙ (λ i. ordering_then ((c.then-in-Range-Range.ensures
     ∙ (λ j. ordering_then (c.cmp-in-Range-Range.ensures j)
-    ((c.order_sought.ensures ∙ (λ k. sought_order (c.deref.ensures k) (c.deref-in-Range-Range.ensures k))) j)))
+    ((c.order_sought.ensures ∙ (λ k. page_query_order (c.deref.ensures k) (c.deref-in-Range-Range.ensures k))) j)))
     i) (c.order_nullable.ensures i))
-    ∙ ranges_by_parts (string_bytes c.in-Range-Range.report) (string_bytes c.in-Range-Range.other) c.in-Range-Range.sought.value c.in-Range-Range.other_sought.value
+    ∙ ranges_by_parts (string_bytes c.in-Range-Range.report) (string_bytes c.in-Range-Range.other) c.in-Range-Range.query.value c.in-Range-Range.other_query.value
     (text_view c.in-Range-Range.upto) (text_view c.in-Range-Range.other_upto)
     ∙ (λ i. slice_cmp (option_cmp text_cmp) (parts_of (thing_of (sym c.in-Range-Range.is-0 i))) (parts_of (thing_of (sym c.in-Range-Range.is-1 i))))

@@ -1,6 +1,6 @@
 use Rattle.std.proofs.Common.{◌≡◌, ◌∙◌, ap, sym, Some, None, option_map}
 use Rattle.std.specs.Option.{option_map_or}
-use Rattle.filing_model.specs.TextMap.{get, insert}
+use Rattle.filing_model.specs.Common.TextMap.{get, insert}
 use Rattle.filing_version.specs.Filed.{Filed, mapped, filed_of, changed_filed}
 use Rattle.filing_version.proofs.FiledReports.{get-mapped}
 use Rattle.filing_version.proofs.StampedReports.{parts_up_to, mapped-insert}

@@ -1,6 +1,6 @@
 use Rattle.std.proofs.Common.{◌∙◌, ap}
 use Rattle.std.specs.FinMap.Entries.{find}
-use Rattle.filing_model.specs.Text.{text_cmp}
+use Rattle.filing_model.specs.Common.Text.{text_cmp}
 use Rattle.history_oracle.proofs.NamedLists.{find_shared}
 use Rattle.history_oracle.proofs.books.fact_in.Goals as goal
 

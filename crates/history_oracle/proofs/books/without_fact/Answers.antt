@@ -1,6 +1,6 @@
 use Rattle.std.proofs.Common.{◌∙◌, not}
 use Rattle.oim_report.specs.Parts.{facts_view}
-use Rattle.filing_model.specs.Text.{text_eq}
+use Rattle.filing_model.specs.Common.Text.{text_eq}
 use Rattle.history_oracle.proofs.NamedLists.{where_shared}
 use Rattle.history_oracle.proofs.Plain.{parts_without, whole_without}
 use Rattle.history_oracle.proofs.books.without_fact.Goals as goal

@@ -1,5 +1,5 @@
 use Rattle.std.proofs.Common.{◌≡◌, map, take}
-use Rattle.filing_model.specs.Duplicates.{facts_of}
+use Rattle.filing_model.specs.Oim.Duplicates.{facts_of}
 use Rattle.oim_report.specs.Parts.{facts_view}
 use Rattle.history_oracle.specs.Cells.{held_fact}
 use Rattle.history_oracle.proofs.cells.all_held.Given as goal

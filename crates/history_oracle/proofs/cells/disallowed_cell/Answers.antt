@@ -1,7 +1,7 @@
 use Rattle.std.proofs.Common.{◌≡◌, ◌∙◌, ap, sym, subst, map, string_bytes}
-use Rattle.filing_model.specs.Replies.{Disallowed}
-use Rattle.filing_model.specs.Duplicates.{class_of, facts_of}
-use Rattle.filing_model.specs.ByPairs.{least_disallowed_place}
+use Rattle.filing_model.specs.Sessions.Replies.{Disallowed}
+use Rattle.filing_model.specs.Oim.Duplicates.{class_of, facts_of}
+use Rattle.filing_model.specs.Oim.ByPairs.{least_disallowed_place}
 use Rattle.filing_model.specs.declared.duplicates.Class.TheVariants.{Empty}
 use Rattle.history_oracle.specs.Cells.{held_fact, IsCellOf}
 use Rattle.history_oracle.proofs.FoundCells.{no_place, cell_at_place}

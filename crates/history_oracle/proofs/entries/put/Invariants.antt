@@ -1,6 +1,6 @@
 use Rattle.std.proofs.Common.{◌≡◌, string_bytes}
 use Rattle.std.specs.FinMap.Entries.{put}
-use Rattle.filing_model.specs.Text.{text_cmp}
+use Rattle.filing_model.specs.Common.Text.{text_cmp}
 use Rattle.history_oracle.specs.Named.{named, put_into}
 use Rattle.history_oracle.proofs.entries.put.Given as goal
 

@@ -1,5 +1,5 @@
 use Rattle.std.proofs.Common.{◌∙◌, ap, sym, not, string_bytes}
-use Rattle.filing_model.specs.Text.{text_eq}
+use Rattle.filing_model.specs.Common.Text.{text_eq}
 use Rattle.history_oracle.proofs.KeptElements.{kept_turn}
 use Rattle.history_oracle.proofs.entries.without.Goals as goal
 

@@ -1,6 +1,6 @@
 use Rattle.std.proofs.Common.{◌≡◌, ◌++◌, not}
 use Rattle.std.specs.FinMap.Entries.{where_key}
-use Rattle.filing_model.specs.Text.{text_cmp, text_eq}
+use Rattle.filing_model.specs.Common.Text.{text_cmp, text_eq}
 use Rattle.history_oracle.specs.Named.{named}
 use Rattle.history_oracle.proofs.entries.without.Given as goal
 

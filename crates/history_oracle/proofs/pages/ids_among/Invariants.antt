@@ -5,4 +5,4 @@ use Rattle.history_oracle.proofs.pages.ids_among.Given as goal
 
 -- those among the facts so far
 abbrev pub invariant-loop-id : goal.invariant-loop-id
-invariant-loop-id l = map string_bytes l.ids.items ≡ ids_among l.sought (facts_view (take l.id-index l.facts))
+invariant-loop-id l = map string_bytes l.ids.items ≡ ids_among l.query (facts_view (take l.id-index l.facts))

@@ -1,6 +1,6 @@
 use Rattle.std.proofs.Common.{◌≡◌, ◌++◌, map, not}
 use Rattle.std.specs.List.{filter}
-use Rattle.filing_model.specs.Things.{thing_eq}
+use Rattle.filing_model.specs.Sessions.Things.{thing_eq}
 use Rattle.filing_step.specs.Steps.{thing_of}
 use Rattle.history_oracle.proofs.reads.others.Given as goal
 

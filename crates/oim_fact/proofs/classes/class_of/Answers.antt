@@ -2,7 +2,7 @@
 use Rattle.std.proofs.Common.{◌≡◌, ◌∙◌, ap, refl, List, [], ◌∷◌, map}
 use Rattle.std.specs.Arc.{arc_value}
 use Rattle.std.proofs.lemmas.Iterator.{items_from_drains, YieldsList-from_slice}
-use Rattle.filing_model.specs.Duplicates.{class_of}
+use Rattle.filing_model.specs.Oim.Duplicates.{class_of}
 use Rattle.oim_fact.specs.SharedFacts.{FactRef, facts_behind}
 use Rattle.oim_fact.proofs.classes.class_of.Goals as goal
 

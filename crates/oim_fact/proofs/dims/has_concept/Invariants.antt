@@ -1,6 +1,6 @@
 use Rattle.std.proofs.Common.{◌≡◌, drop}
 use Rattle.std.specs.List.{list_any}
-use Rattle.filing_model.specs.Dimensions.{is_concept}
+use Rattle.filing_model.specs.Oim.Dimensions.{is_concept}
 use Rattle.oim_fact.specs.Dims.{dims_view}
 use Rattle.oim_fact.proofs.dims.has_concept.Given as goal
 

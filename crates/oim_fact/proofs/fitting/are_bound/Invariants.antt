@@ -1,5 +1,5 @@
 use Rattle.std.proofs.Common.{◌≡◌, drop}
-use Rattle.filing_model.specs.Facts.{are_bound}
+use Rattle.filing_model.specs.Oim.Facts.{are_bound}
 use Rattle.oim_fact.specs.Dims.{dims_view}
 use Rattle.oim_fact.proofs.fitting.are_bound.Given as goal
 

@@ -2,7 +2,7 @@ use Rattle.std.proofs.Common.{◌≡◌, ◌∙◌, [], ap, sym, arith, true, is
 use Rattle.json.specs.Value.{value_view}
 use Rattle.json.specs.Reads.{token_of}
 use Rattle.serde_json.specs.Read.{of_json, read}
-use Rattle.filing_model.proofs.JsonTexts.{json_of-Some, json_of-None}
+use Rattle.filing_model.proofs.Reading.JsonTexts.{json_of-Some, json_of-None}
 use Rattle.oim_report.proofs.InRange.{no_value, read_more, read_none, read_whole, the_value}
 use Rattle.oim_report.proofs.borrowed.text_value.Goals as goal
 use Rattle.oim_report.proofs.borrowed.text_value.Goals.{else-is_none-via-then-is_none+else-is_in_range, else-is_none-via-else-is_none}

@@ -5,8 +5,8 @@ use Rattle.serde_json.specs.Read.{read}
 use Rattle.serde_json.specs.View.{members_view}
 use Rattle.serde_json.specs.Written.{has_float, compact_text}
 use Rattle.serde_json.proofs.Views.{view-Object}
-use Rattle.filing_model.specs.DeclaredValue.{whole_members}
-use Rattle.filing_model.proofs.DeclaredValues.{set_in_members, set_in_none}
+use Rattle.filing_model.specs.Reading.DeclaredValue.{whole_members}
+use Rattle.filing_model.proofs.Reading.DeclaredValues.{set_in_members, set_in_none}
 use Rattle.oim_report.proofs.declared_value.with_allowed.Goals as goal
 
 pub returns-in_ok-declaring-in-Some : goal.returns-in_ok-declaring-in-Some

@@ -1,4 +1,4 @@
-use Rattle.filing_model.specs.ReadFact.{dim_of}
+use Rattle.filing_model.specs.Reading.ReadFact.{dim_of}
 use Rattle.oim_report.specs.Readings.{dim_view}
 use Rattle.oim_report.proofs.EachMember.{read_turn}
 use Rattle.oim_report.proofs.fact.dims_in.Goals as goal

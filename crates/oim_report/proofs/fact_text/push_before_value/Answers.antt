@@ -1,5 +1,5 @@
 use Rattle.std.proofs.Common.{codes, string_bytes}
-use Rattle.filing_model.specs.Writing.{decimals_text, dims_text, links_text}
+use Rattle.filing_model.specs.Reading.Writing.{decimals_text, dims_text, links_text}
 use Rattle.oim_fact.specs.Texts.{text_view}
 use Rattle.oim_report.specs.Pieces.{before_value}
 use Rattle.oim_report.proofs.Fronts.{on_err, front_before, front_behind, front_pushed}

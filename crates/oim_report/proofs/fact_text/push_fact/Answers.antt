@@ -1,8 +1,8 @@
 use Rattle.std.proofs.Common.{◌≡◌, ℤ, Option, codes, string_bytes, subst, ap, ◌∙◌}
-use Rattle.filing_model.specs.Text.{Text}
-use Rattle.filing_model.specs.Dimensions.{Dims}
-use Rattle.filing_model.specs.Writing.{decimals_in, fact_text, raw_fact_text}
-use Rattle.filing_model.specs.Writing.{text_of as text_of_value}
+use Rattle.filing_model.specs.Common.Text.{Text}
+use Rattle.filing_model.specs.Oim.Dimensions.{Dims}
+use Rattle.filing_model.specs.Reading.Writing.{decimals_in, fact_text, raw_fact_text}
+use Rattle.filing_model.specs.Reading.Writing.{text_of as text_of_value}
 use Rattle.oim_fact.specs.Facts.{value_view}
 use Rattle.oim_fact.specs.Texts.{text_view}
 use Rattle.oim_fact.specs.declared.fact.FactValue.{FactValue}

@@ -1,8 +1,8 @@
 use Rattle.std.proofs.Common.{◌≡◌, ℕ, ◌+◌, ◌<◌, Bool, true, List, ◌++◌, length, drop, get_or, codes, Option, String, string_bytes, refl, rules}
 use Rattle.std.specs.declared.alloc.Global.{Global}
 use Rattle.serde_json.specs.Written.{comma_if}
-use Rattle.filing_model.specs.Text.{Text}
-use Rattle.filing_model.specs.Writing.{listed, member_text, nullable_text}
+use Rattle.filing_model.specs.Common.Text.{Text}
+use Rattle.filing_model.specs.Reading.Writing.{listed, member_text, nullable_text}
 use Rattle.oim_fact.specs.Dims.{dims_view}
 use Rattle.oim_fact.specs.Texts.{text_view}
 use Rattle.oim_report.specs.Appended.{IsFrontAppended}

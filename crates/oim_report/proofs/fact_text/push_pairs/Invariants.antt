@@ -1,5 +1,5 @@
 use Rattle.std.proofs.Common.{false, drop, string_bytes}
-use Rattle.filing_model.specs.Writing.{listed, member_text, nullable_text}
+use Rattle.filing_model.specs.Reading.Writing.{listed, member_text, nullable_text}
 use Rattle.oim_fact.specs.Dims.{dims_view}
 use Rattle.oim_report.proofs.Fronts.{IsUnderway}
 use Rattle.oim_report.proofs.fact_text.push_pairs.Given as goal

@@ -1,5 +1,5 @@
 use Rattle.std.proofs.Common.{codes, string_bytes, subst}
-use Rattle.filing_model.specs.Writing.{raw_fact_text}
+use Rattle.filing_model.specs.Reading.Writing.{raw_fact_text}
 use Rattle.oim_fact.specs.Texts.{text_view}
 use Rattle.oim_report.specs.Appended.{IsFrontAppended}
 use Rattle.oim_report.proofs.Fronts.{on_err, front_pushed}

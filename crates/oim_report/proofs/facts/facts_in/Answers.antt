@@ -1,8 +1,8 @@
 use Rattle.std.proofs.Common.{◌∙◌, ap, sym}
 use Rattle.serde_json.specs.View.{members_view}
-use Rattle.filing_model.specs.JsonText.{pairs}
-use Rattle.filing_model.specs.ReadReport.{entry_of}
-use Rattle.filing_model.specs.Try.{each}
+use Rattle.filing_model.specs.Reading.JsonText.{pairs}
+use Rattle.filing_model.specs.Reading.ReadReport.{entry_of}
+use Rattle.filing_model.specs.Common.Try.{each}
 use Rattle.oim_report.specs.Parts.{facts_view}
 use Rattle.oim_report.proofs.SortedMembers.{sorted_members}
 use Rattle.oim_report.proofs.FactList.{sorted_facts}

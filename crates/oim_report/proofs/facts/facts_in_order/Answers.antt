@@ -1,8 +1,8 @@
 use Rattle.std.proofs.Common.{◌≡◌, subst, arith, T}
 use Rattle.std.specs.FinMap.Entries.{is_sorted}
-use Rattle.filing_model.specs.Text.{text_cmp}
-use Rattle.filing_model.specs.JsonText.{pairs}
-use Rattle.filing_model.specs.ReadReport.{entry_of}
+use Rattle.filing_model.specs.Common.Text.{text_cmp}
+use Rattle.filing_model.specs.Reading.JsonText.{pairs}
+use Rattle.filing_model.specs.Reading.ReadReport.{entry_of}
 use Rattle.oim_report.specs.Borrowed.{members_at}
 use Rattle.oim_report.specs.Parts.{fact_view, facts_view}
 use Rattle.oim_report.proofs.FactList.{fitted_turn, sorted_facts}

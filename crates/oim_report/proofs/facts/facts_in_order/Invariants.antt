@@ -1,7 +1,7 @@
 use Rattle.std.proofs.Common.{◌≡◌, true}
-use Rattle.filing_model.specs.Try.{each}
-use Rattle.filing_model.specs.JsonText.{pairs}
-use Rattle.filing_model.specs.ReadReport.{entry_of}
+use Rattle.filing_model.specs.Common.Try.{each}
+use Rattle.filing_model.specs.Reading.JsonText.{pairs}
+use Rattle.filing_model.specs.Reading.ReadReport.{entry_of}
 use Rattle.oim_report.specs.Borrowed.{are_in_range, members_at}
 use Rattle.oim_report.specs.Parts.{fact_view, facts_view}
 use Rattle.oim_report.specs.Readable.{AreFitted}

@@ -1,9 +1,9 @@
 use Rattle.std.proofs.Common.{◌∙◌, ap, sym, subst, codes, option_and_then, Ok}
 use Rattle.json.specs.Value.{value_view}
 use Rattle.serde_json.specs.Read.{of_json}
-use Rattle.filing_model.specs.ReadReport.{facts_of}
-use Rattle.filing_model.specs.TextMap.{from_entries}
-use Rattle.filing_model.specs.Try.{Gives}
+use Rattle.filing_model.specs.Reading.ReadReport.{facts_of}
+use Rattle.filing_model.specs.Common.TextMap.{from_entries}
+use Rattle.filing_model.specs.Common.Try.{Gives}
 use Rattle.oim_report.specs.Borrowed.{data_of}
 use Rattle.oim_report.specs.Faults.{report_fault}
 use Rattle.oim_report.specs.Parts.{facts_view}

@@ -1,4 +1,4 @@
-use Rattle.filing_model.specs.ReadReport.{entry_of}
+use Rattle.filing_model.specs.Reading.ReadReport.{entry_of}
 use Rattle.oim_report.specs.Parts.{fact_view}
 use Rattle.oim_report.proofs.EachMember.{read_turn}
 use Rattle.oim_report.proofs.FactList.{fitted_turn}

@@ -1,4 +1,4 @@
-use Rattle.filing_model.specs.ReadReport.{prefix_of}
+use Rattle.filing_model.specs.Reading.ReadReport.{prefix_of}
 use Rattle.oim_fact.specs.Texts.{row_of}
 use Rattle.oim_report.proofs.EachMember.{read_turn}
 use Rattle.oim_report.proofs.info.prefixes_in.Goals as goal

@@ -1,8 +1,8 @@
 use Rattle.std.proofs.Common.{◌≡◌}
 use Rattle.serde_json.specs.View.{members_view}
-use Rattle.filing_model.specs.Try.{each}
-use Rattle.filing_model.specs.JsonText.{pairs}
-use Rattle.filing_model.specs.ReadReport.{prefix_of}
+use Rattle.filing_model.specs.Common.Try.{each}
+use Rattle.filing_model.specs.Reading.JsonText.{pairs}
+use Rattle.filing_model.specs.Reading.ReadReport.{prefix_of}
 use Rattle.oim_fact.specs.Texts.{row_of}
 use Rattle.oim_report.proofs.EachMember.{read_on}
 use Rattle.oim_report.proofs.info.prefixes_in.Given as goal

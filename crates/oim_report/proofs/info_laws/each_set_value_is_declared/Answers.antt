@@ -1,4 +1,4 @@
-use Rattle.filing_model.specs.DeclaredValue.{with_allowed}
+use Rattle.filing_model.specs.Reading.DeclaredValue.{with_allowed}
 use Rattle.oim_report.proofs.SetInfos.{info_set, info_read}
 use Rattle.oim_report.proofs.info_laws.each_set_value_is_declared.Goals as goal
 

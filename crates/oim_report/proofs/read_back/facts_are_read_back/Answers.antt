@@ -1,5 +1,5 @@
-use Rattle.filing_model.specs.Writing.{raw_of}
-use Rattle.filing_model.proofs.FitAgain.{fit_again}
+use Rattle.filing_model.specs.Reading.Writing.{raw_of}
+use Rattle.filing_model.proofs.Oim.FitAgain.{fit_again}
 use Rattle.oim_report.proofs.WrittenFacts.{raw_fact_back}
 use Rattle.oim_report.proofs.WrittenReports.{IsReadableFact-fitted}
 use Rattle.oim_report.proofs.read_back.facts_are_read_back.Goals as goal

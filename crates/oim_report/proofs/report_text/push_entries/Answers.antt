@@ -1,9 +1,9 @@
 -- Each turn appends the first of the facts that the iterator still gives.
 use Rattle.std.proofs.Common.{ap, refl, Bool, true, List, ◌++◌}
 use Rattle.serde_json.specs.Written.{comma_if}
-use Rattle.filing_model.specs.Text.{Text}
-use Rattle.filing_model.specs.Facts.{Fact}
-use Rattle.filing_model.specs.Writing.{fact_text, listed, member_text}
+use Rattle.filing_model.specs.Common.Text.{Text}
+use Rattle.filing_model.specs.Oim.Facts.{Fact}
+use Rattle.filing_model.specs.Reading.Writing.{fact_text, listed, member_text}
 use Rattle.oim_report.specs.Entries.{entry_seen}
 use Rattle.oim_report.proofs.Fronts.{on_err, front_underway, underway_all, underway_next}
 use Rattle.oim_report.proofs.GivenEntries.{none_left, first_left}

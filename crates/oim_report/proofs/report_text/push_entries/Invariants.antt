@@ -1,8 +1,8 @@
 use Rattle.std.proofs.Common.{List, false, string_bytes}
 use Rattle.std.specs.Iterator.{AlwaysYields}
-use Rattle.filing_model.specs.Text.{Text}
-use Rattle.filing_model.specs.Facts.{Fact}
-use Rattle.filing_model.specs.Writing.{listed, member_text, fact_text}
+use Rattle.filing_model.specs.Common.Text.{Text}
+use Rattle.filing_model.specs.Oim.Facts.{Fact}
+use Rattle.filing_model.specs.Reading.Writing.{listed, member_text, fact_text}
 use Rattle.oim_report.specs.Entries.{entry_seen}
 use Rattle.oim_report.proofs.Fronts.{IsUnderway}
 use Rattle.oim_report.proofs.report_text.push_entries.Given as goal

@@ -1,6 +1,6 @@
 use Rattle.std.proofs.Common.{◌∷◌, codes, string_bytes}
 use Rattle.json.specs.Print.{quoted}
-use Rattle.filing_model.specs.Writing.{fact_text}
+use Rattle.filing_model.specs.Reading.Writing.{fact_text}
 use Rattle.oim_report.specs.Appended.{IsFrontAppended}
 use Rattle.oim_report.proofs.Fronts.{on_err, on_err_too, front_before, front_behind}
 use Rattle.oim_report.proofs.report_text.push_entry.Goals as goal

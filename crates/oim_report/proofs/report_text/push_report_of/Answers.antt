@@ -1,7 +1,7 @@
 use Rattle.std.proofs.Common.{List, codes, false, string_bytes, sym, subst}
-use Rattle.filing_model.specs.Text.{Text}
-use Rattle.filing_model.specs.Facts.{Fact}
-use Rattle.filing_model.specs.Writing.{fact_text, listed, member_text, report_text}
+use Rattle.filing_model.specs.Common.Text.{Text}
+use Rattle.filing_model.specs.Oim.Facts.{Fact}
+use Rattle.filing_model.specs.Reading.Writing.{fact_text, listed, member_text, report_text}
 use Rattle.oim_report.specs.Appended.{IsFrontAppended}
 use Rattle.oim_report.proofs.Fronts.{on_err, appended_as, front_before, front_behind, front_pushed}
 use Rattle.oim_report.proofs.WrittenPieces.{once_appended, five_pieces}

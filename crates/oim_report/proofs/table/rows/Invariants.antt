@@ -1,6 +1,6 @@
 use Rattle.std.proofs.Common.{◌≡◌, ◌≤◌, ◌+◌, length, option_map}
-use Rattle.filing_model.specs.Tables.{numbered_lines, row_at}
-use Rattle.filing_model.specs.Try.{each, with_front}
+use Rattle.filing_model.specs.Oim.Tables.{numbered_lines, row_at}
+use Rattle.filing_model.specs.Common.Try.{each, with_front}
 use Rattle.oim_fact.specs.Texts.{rows_view}
 use Rattle.oim_report.specs.Lines.{numbered_from}
 use Rattle.oim_report.proofs.TableLines.{size_left}

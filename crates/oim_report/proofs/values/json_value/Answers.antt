@@ -1,5 +1,5 @@
 use Rattle.std.proofs.Common.{◌∙◌, sym, true≢false}
-use Rattle.filing_model.proofs.JsonTexts.{json_of-Some, json_of-None}
+use Rattle.filing_model.proofs.Reading.JsonTexts.{json_of-Some, json_of-None}
 use Rattle.oim_report.proofs.values.json_value.Goals as goal
 
 pub returns-in-Ok : goal.returns-in-Ok

@@ -1,5 +1,5 @@
 use Rattle.std.proofs.Common.{◌≡◌, ◌*◌, ◌<◌, true, cond, Ok, Err, ap, sym, subst, ◌∙◌, arith}
-use Rattle.filing_model.specs.Numerals.{scaled, are_few}
+use Rattle.filing_model.specs.Oim.Numerals.{scaled, are_few}
 use Rattle.filing_model.specs.declared.faults.NumberFault.TheVariants.{TooLarge}
 use Rattle.oim_value.specs.Numbers.{number_limit}
 use Rattle.oim_value.proofs.Sizes.{few_behind, scaled_by_running, scaled_is_small}

@@ -1,5 +1,5 @@
 use Rattle.std.proofs.Common.{◌+◌, ◌*◌, ◌^◌, length, drop}
-use Rattle.filing_model.specs.Numerals.{place_sum}
+use Rattle.filing_model.specs.Oim.Numerals.{place_sum}
 use Rattle.oim_value.proofs.Running.{Makes}
 use Rattle.oim_value.proofs.decimal.with_digits.Given as goal
 

@@ -1,5 +1,5 @@
 use Rattle.std.proofs.Common.{◌≡◌, length}
-use Rattle.filing_model.specs.Numerals.{without_end}
+use Rattle.filing_model.specs.Oim.Numerals.{without_end}
 use Rattle.oim_value.specs.Padding.{is_padding}
 use Rattle.oim_value.proofs.decimal.without_end.Given as goal
 

@@ -1,5 +1,5 @@
 use Rattle.std.proofs.Common.{◌≡◌, length}
-use Rattle.filing_model.specs.Numerals.{without_front}
+use Rattle.filing_model.specs.Oim.Numerals.{without_front}
 use Rattle.oim_value.specs.Padding.{is_padding}
 use Rattle.oim_value.proofs.decimal.without_front.Given as goal
 

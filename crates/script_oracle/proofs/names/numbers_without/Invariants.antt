@@ -1,6 +1,6 @@
 use Rattle.std.proofs.Common.{◌≡◌, not, take}
 use Rattle.std.specs.List.{filter}
-use Rattle.filing_model.specs.Text.{text_eq}
+use Rattle.filing_model.specs.Common.Text.{text_eq}
 use Rattle.history_oracle.specs.Named.{named}
 use Rattle.script_oracle.proofs.names.numbers_without.Given as goal
 

@@ -1,7 +1,7 @@
 use Rattle.std.proofs.Common.{◌∙◌, ap, drop, string_bytes}
 use Rattle.std.proofs.lemmas.List.{drop_all}
 use Rattle.std.specs.Arc.{arc_value}
-use Rattle.filing_text.specs.Script.{start}
+use Rattle.script_format.specs.Script.{start}
 use Rattle.script_oracle.specs.Lines.{texts, output_of}
 use Rattle.script_oracle.proofs.Telling.{all_told}
 use Rattle.script_oracle.proofs.script.expected_output.Goals as goal

@@ -1,6 +1,6 @@
 use Rattle.std.proofs.Common.{◌≡◌, ◌++◌, drop, string_bytes}
 use Rattle.std.specs.Arc.{arc_value}
-use Rattle.filing_text.specs.Script.{start}
+use Rattle.script_format.specs.Script.{start}
 use Rattle.script_oracle.specs.Lines.{texts, output_of}
 use Rattle.script_oracle.proofs.script.expected_output.Given as goal
 

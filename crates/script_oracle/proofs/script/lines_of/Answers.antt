@@ -1,6 +1,6 @@
 use Rattle.std.proofs.Common.{◌≡◌, ◌∙◌, ap, sym, subst, [], ◌++◌, ◌∷◌, drop, get_or, ◌+◌, length, ◌==◌}
 use Rattle.std.proofs.lemmas.List.{drop_all, append-nil}
-use Rattle.line_run.specs.Lines.{line_begun}
+use Rattle.line_io.specs.Lines.{line_begun}
 use Rattle.script_oracle.specs.Lines.{texts}
 use Rattle.script_oracle.proofs.Cutting.{IsCutSo, cut_feed, cut_byte, cut_end, begun_some, begun_none, texts_more, next_byte, is_feed, is_other}
 use Rattle.script_oracle.proofs.script.lines_of.Goals.{then-byte-eq10+in_ok-push, else-byte-eq10+in_ok-push-2, then-not-is_empty+in_ok-push-3, else-not-is_empty}

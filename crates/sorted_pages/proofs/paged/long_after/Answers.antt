@@ -8,8 +8,8 @@ use Rattle.sorted_pages.proofs.paged.long_after.Goals as goal
 
 pub long-requires : goal.long-requires
 long-requires g c =
-    let laid : flat_map of_group c.in_ok-groups.groups.items ≡ with_changes g.E.Entry.order c.args.changes.now (flat_map of_group c.args.groups.now) =
+    let laid : flat_map of_group c.in_ok-groups.groups.items ≡ with_changes g.E.PageEntry.order c.args.changes.now (flat_map of_group c.args.groups.now) =
     c.in_ok-groups.ensures
-    ∙ ap (λ es. flat_map of_group es ++ with_changes g.E.Entry.order c.args.changes.now (flat_map of_group c.args.groups.now)) c.in_ok-grown.ensures.items in
-    subst (IsRising g.E.Entry.order) (sym laid)
-    (rising-with_changes g.E.Entry.order g.met.E.Entry.is_total c.args.changes.now (flat_map of_group c.args.groups.now) c.requires.entries)
+    ∙ ap (λ es. flat_map of_group es ++ with_changes g.E.PageEntry.order c.args.changes.now (flat_map of_group c.args.groups.now)) c.in_ok-grown.ensures.items in
+    subst (IsRising g.E.PageEntry.order) (sym laid)
+    (rising-with_changes g.E.PageEntry.order g.met.E.PageEntry.is_total c.args.changes.now (flat_map of_group c.args.groups.now) c.requires.entries)

@@ -5,5 +5,5 @@ use Rattle.sorted_pages.proofs.paged.long_changed.Goals as goal
 
 pub long-requires : goal.long-requires
 long-requires g c =
-    rises_made g.E.Entry.order g.met.E.Entry.is_total c.args.change.now (flat_map of_group c.args.groups.items) _ c.in_ok-groups.is_made
+    rises_made g.E.PageEntry.order g.met.E.PageEntry.is_total c.args.change.now (flat_map of_group c.args.groups.items) _ c.in_ok-groups.is_made
     c.in_ok-groups.ensures.entries c.requires

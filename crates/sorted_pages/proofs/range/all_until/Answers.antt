@@ -7,31 +7,31 @@ use Rattle.sorted_pages.proofs.range.all_until.Goals as goal
 
 pub blocks_until-requires : goal.blocks_until-requires
 blocks_until-requires g c =
-    (each_rises g.E.Entry.order g.met.E.Entry.is_total (g.S.Span.side c.args.span.now) (g.met.S.Span.is_monotone c.args.span.now)
+    (each_rises g.E.PageEntry.order g.met.E.PageEntry.is_total (g.S.Span.side c.args.span.now) (g.met.S.Span.is_monotone c.args.span.now)
     (flat_map single c.args.front.entries.now) (flat_map of_page c.args.front.pages.now)
     (flat_map of_run c.args.front.runs.now) (flat_map of_group c.args.front.groups.now) c.requires).3
 
 pub runs_until-requires-then-reaches-2 : goal.runs_until-requires-then-reaches-2
 runs_until-requires-then-reaches-2 g c =
-    (each_rises g.E.Entry.order g.met.E.Entry.is_total (g.S.Span.side c.args.span.now) (g.met.S.Span.is_monotone c.args.span.now)
+    (each_rises g.E.PageEntry.order g.met.E.PageEntry.is_total (g.S.Span.side c.args.span.now) (g.met.S.Span.is_monotone c.args.span.now)
     (flat_map single c.args.front.entries.now) (flat_map of_page c.args.front.pages.now)
     (flat_map of_run c.args.front.runs.now) (flat_map of_group c.args.front.groups.now) c.requires).2
 
 pub pages_until-requires : goal.pages_until-requires
 pages_until-requires g c =
-    (each_rises g.E.Entry.order g.met.E.Entry.is_total (g.S.Span.side c.args.span.now) (g.met.S.Span.is_monotone c.args.span.now)
+    (each_rises g.E.PageEntry.order g.met.E.PageEntry.is_total (g.S.Span.side c.args.span.now) (g.met.S.Span.is_monotone c.args.span.now)
     (flat_map single c.args.front.entries.now) (flat_map of_page c.args.front.pages.now)
     (flat_map of_run c.args.front.runs.now) (flat_map of_group c.args.front.groups.now) c.requires).1
 
 pub entries_until-requires : goal.entries_until-requires
 entries_until-requires g c =
-    (each_rises g.E.Entry.order g.met.E.Entry.is_total (g.S.Span.side c.args.span.now) (g.met.S.Span.is_monotone c.args.span.now)
+    (each_rises g.E.PageEntry.order g.met.E.PageEntry.is_total (g.S.Span.side c.args.span.now) (g.met.S.Span.is_monotone c.args.span.now)
     (flat_map single c.args.front.entries.now) (flat_map of_page c.args.front.pages.now)
     (flat_map of_run c.args.front.runs.now) (flat_map of_group c.args.front.groups.now) c.requires).0
 
 pub returns-then-reaches : goal.returns-then-reaches
 returns-then-reaches g c =
-    until_in_groups g.E.Entry.order g.met.E.Entry.is_total (g.S.Span.side c.args.span.now) (g.met.S.Span.is_monotone c.args.span.now)
+    until_in_groups g.E.PageEntry.order g.met.E.PageEntry.is_total (g.S.Span.side c.args.span.now) (g.met.S.Span.is_monotone c.args.span.now)
     (flat_map single c.args.front.entries.now) (flat_map of_page c.args.front.pages.now)
     (flat_map of_run c.args.front.runs.now) (flat_map of_group c.args.front.groups.now)
     (flat_map of_group c.blocks_until.result.0.now) (behind c.runs_until.result.runs.now c.runs_until.result.pages.now c.runs_until.result.entries.now)
@@ -40,7 +40,7 @@ returns-then-reaches g c =
 
 pub returns-then-reaches-2 : goal.returns-then-reaches-2
 returns-then-reaches-2 g c =
-    until_in_runs g.E.Entry.order g.met.E.Entry.is_total (g.S.Span.side c.args.span.now) (g.met.S.Span.is_monotone c.args.span.now)
+    until_in_runs g.E.PageEntry.order g.met.E.PageEntry.is_total (g.S.Span.side c.args.span.now) (g.met.S.Span.is_monotone c.args.span.now)
     (flat_map single c.args.front.entries.now) (flat_map of_page c.args.front.pages.now)
     (flat_map of_run c.args.front.runs.now) (flat_map of_group c.args.front.groups.now)
     (behind c.runs_until-then-reaches-2.result.runs.now c.runs_until-then-reaches-2.result.pages.now c.runs_until-then-reaches-2.result.entries.now)
@@ -49,7 +49,7 @@ returns-then-reaches-2 g c =
 
 pub returns-then-reaches-3 : goal.returns-then-reaches-3
 returns-then-reaches-3 g c =
-    until_in_pages g.E.Entry.order g.met.E.Entry.is_total (g.S.Span.side c.args.span.now) (g.met.S.Span.is_monotone c.args.span.now)
+    until_in_pages g.E.PageEntry.order g.met.E.PageEntry.is_total (g.S.Span.side c.args.span.now) (g.met.S.Span.is_monotone c.args.span.now)
     (flat_map single c.args.front.entries.now) (flat_map of_page c.args.front.pages.now)
     (flat_map of_run c.args.front.runs.now) (flat_map of_group c.args.front.groups.now)
     (flat_map of_page c.pages_until.result.0.now) (flat_map single c.pages_until.result.1.now)
@@ -58,7 +58,7 @@ returns-then-reaches-3 g c =
 
 pub returns : goal.returns
 returns g c =
-    until_in_entries g.E.Entry.order g.met.E.Entry.is_total (g.S.Span.side c.args.span.now) (g.met.S.Span.is_monotone c.args.span.now)
+    until_in_entries g.E.PageEntry.order g.met.E.PageEntry.is_total (g.S.Span.side c.args.span.now) (g.met.S.Span.is_monotone c.args.span.now)
     (flat_map single c.args.front.entries.now) (flat_map of_page c.args.front.pages.now)
     (flat_map of_run c.args.front.runs.now) (flat_map of_group c.args.front.groups.now)
     (flat_map single c.entries_until.result.now)

@@ -1,10 +1,10 @@
 use Rattle.std.proofs.Common.{◌≡◌, ◌∙◌, ap, sym}
 use Rattle.std.specs.Option.{option_map_or}
 use Rattle.std.proofs.lemmas.Result.{IfOk-weaker}
-use Rattle.filing_model.specs.Repository.{report_at}
-use Rattle.filing_model.specs.Replies.{NoReport}
-use Rattle.filing_model.specs.History.{repository}
-use Rattle.filing_text.specs.ReplyText.{exported_text, reply_text}
+use Rattle.filing_model.specs.Sessions.Repository.{report_at}
+use Rattle.filing_model.specs.Sessions.Replies.{NoReport}
+use Rattle.filing_model.specs.Histories.History.{repository}
+use Rattle.script_format.specs.ReplyText.{exported_text, reply_text}
 use Rattle.filing_version.specs.Filed.{repository_in}
 use Rattle.oim_report.proofs.GivenEntries.{of_what_was_found}
 use Rattle.filing_cli.proofs.script_machine.ScriptMachine.export.Goals as goal

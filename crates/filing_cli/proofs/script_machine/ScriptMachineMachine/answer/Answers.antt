@@ -4,12 +4,12 @@ use Rattle.std.proofs.lemmas.Result.{IfOk-weaker}
 use Rattle.filing_cli.proofs.JudgedReplies.{judged_now, told_reply, export_reply, due_reply}
 use Rattle.filing_cli.proofs.script_machine.ScriptMachineMachine.answer.Goals as goal
 
-pub returns-in-Told : goal.returns-in-Told
-returns-in-Told c =
+pub returns-in-ReplyNow : goal.returns-in-ReplyNow
+returns-in-ReplyNow c =
     told_reply c.args.self.now c.args.line.now c.in_ok-text.field-0
     (judged_now (arc_value c.self.inside.table) c.self.inside.core.history c.self.inside.names c.args.self.now c.args.line.now
     c.in_ok-text.field-0 c.self.view_is c.in_ok-text.ensures)
-    c.in-Told.text c.in-Told.is
+    c.in-ReplyNow.text c.in-ReplyNow.is
 
 pub returns-in-Export : goal.returns-in-Export
 returns-in-Export c =
@@ -21,12 +21,12 @@ returns-in-Export c =
     c.in-Export.name c.deref.result.now (string_bytes reply) c.in-Export.is named is)
     c.export.ensures
 
-pub returns-in-Due : goal.returns-in-Due
-returns-in-Due c =
-    let named : c.deref-in-Due.result.now ≡ string_bytes c.in-Due.name = search rules in
+pub returns-in-StepDue : goal.returns-in-StepDue
+returns-in-StepDue c =
+    let named : c.deref-in-StepDue.result.now ≡ string_bytes c.in-StepDue.name = search rules in
     IfOk-weaker c.take_due.result _ _
     (λ reply is. due_reply c.args.self.now c.args.line.now c.in_ok-text.field-0
     (judged_now (arc_value c.self.inside.table) c.self.inside.core.history c.self.inside.names c.args.self.now c.args.line.now
     c.in_ok-text.field-0 c.self.view_is c.in_ok-text.ensures)
-    c.in-Due.name c.in-Due.step c.deref-in-Due.result.now (string_bytes reply) c.take_due.new.self c.in-Due.is named is)
+    c.in-StepDue.name c.in-StepDue.step c.deref-in-StepDue.result.now (string_bytes reply) c.take_due.new.self c.in-StepDue.is named is)
     c.take_due.ensures

@@ -1,12 +1,12 @@
 use Rattle.std.proofs.Common.{◌≡◌, ◌∙◌, ap, sym, [], ◌∷◌, List, Option, None, Some, Bor, option_map}
 use Rattle.std.specs.Option.{MatchOption}
-use Rattle.filing_index.specs.Index.{Coded}
+use Rattle.filing_index.specs.Index.{IndexEntry}
 use Rattle.filing_index.specs.Cells.{crowded, crowded_from}
 use Rattle.filing_index.proofs.KeptElements.{filter-true}
 use Rattle.filing_index.proofs.cells.Crowded.of.Goals as goal
 
 -- with the first of the entries taken
-first_taken : (es rest : List Coded) (first : Option (Bor Coded)) → MatchOption first ((es ≡ []) × (rest ≡ [])) (λ x. es ≡ x.now ∷ rest)
+first_taken : (es rest : List IndexEntry) (first : Option (Bor IndexEntry)) → MatchOption first ((es ≡ []) × (rest ≡ [])) (λ x. es ≡ x.now ∷ rest)
     → crowded_from (option_map (λ e. e.now) first) rest ≡ crowded es
 first_taken es rest None h = sym (ap crowded h.0)
 first_taken es rest (Some x) h = sym (ap crowded h)

@@ -1,19 +1,19 @@
--- Each order after the moves is that of the map after them.
+-- Each index after the fact changes is that of the map after them.
 use Rattle.std.proofs.Common.{◌≡◌, ◌∙◌, ap, sym, subst, refl, IfOk}
-use Rattle.filing_pages.specs.MapChanges.{map_with_changes}
-use Rattle.filing_model.specs.TextMap.{TextMap}
-use Rattle.filing_model.specs.Facts.{Fact}
-use Rattle.filing_pages.specs.Codes.{cell_code, period_code, concept_code}
+use Rattle.text_map.specs.MapChanges.{map_with_changes}
+use Rattle.filing_model.specs.Common.TextMap.{TextMap}
+use Rattle.filing_model.specs.Oim.Facts.{Fact}
+use Rattle.filing_facts.specs.Hashes.{cell_hash, period_hash, concept_hash}
 use Rattle.filing_index.specs.Index.{IsIndex}
-use Rattle.filing_index.specs.Moves.{with_changes}
-use Rattle.filing_index.specs.Moved.{id_changes}
-use Rattle.filing_index.proofs.MovedFacts.{map_after}
+use Rattle.filing_facts.specs.FactChanges.{with_changes}
+use Rattle.filing_index.specs.ChangedIndexes.{id_changes}
+use Rattle.filing_index.proofs.ChangedFacts.{map_after}
 use Rattle.filing_index.proofs.KeptOrders.{order_after}
 use Rattle.filing_index.proofs.facts.Facts.into_after.Goals as goal
 
 pub returns : goal.returns
 returns c = λ changes are.
-    let moved = id_changes c.args.moves.now in
+    let moved = id_changes c.args.fact_changes.now in
     let made : c.in_ok-by_id.by_id ≡ map_with_changes moved c.self.inside.by_id =
     subst (λ r. IfOk r (λ m. m ≡ map_with_changes moved c.self.inside.by_id)) c.in_ok-by_id.ensures.0 c.ids_into_after.ensures in
     sym (ap (λ t. t.0) c.in_ok-by_cell.ensures.1 ∙ ap (λ t. t.0) c.in_ok-by_period.ensures.1 ∙ ap (λ t. t.0) c.in_ok-by_concept.ensures.1)
@@ -25,7 +25,7 @@ pub invariant_of-result : goal.invariant_of-result
 invariant_of-result c =
     let changes = c.requires.0 in
     let facts = c.args.self in
-    let moved = id_changes c.args.moves.now in
+    let moved = id_changes c.args.fact_changes.now in
     let made : c.in_ok-by_id.by_id ≡ map_with_changes moved c.self.inside.by_id =
     subst (λ r. IfOk r (λ m. m ≡ map_with_changes moved c.self.inside.by_id)) c.in_ok-by_id.ensures.0 c.ids_into_after.ensures in
     let back : with_changes changes.entries facts ≡ c.in_ok-by_concept.by_id =
@@ -34,17 +34,17 @@ invariant_of-result c =
     ∙ ap (λ t. t.0) c.in_ok-by_period.ensures.1
     ∙ ap (λ t. t.0) c.in_ok-by_concept.ensures.1 in
     record {
-      cell = order_after cell_code changes facts _ c.args.moves.now c.self.inside.by_cell _ _ _ _
+      cell = order_after cell_hash changes facts _ c.args.fact_changes.now c.self.inside.by_cell _ _ _ _
           c.index_into_after.ensures c.in_ok-by_cell.ensures.0 (ap (λ t. t.0) c.in_ok-by_id.ensures.1)
           (ap (λ t. t.1) c.in_ok-by_period.ensures.1 ∙ ap (λ t. t.1) c.in_ok-by_concept.ensures.1) c.requires.1 back
-          (subst (λ (m : TextMap Fact). IsIndex cell_code m c.self.inside.by_cell) c.self.view_is c.self.invariant.cell);
-      period = order_after period_code changes facts _ c.args.moves.now c.self.inside.by_period _ _ _ _
+          (subst (λ (m : TextMap Fact). IsIndex cell_hash m c.self.inside.by_cell) c.self.view_is c.self.invariant.cell);
+      period = order_after period_hash changes facts _ c.args.fact_changes.now c.self.inside.by_period _ _ _ _
           c.index_into_after-2.ensures c.in_ok-by_period.ensures.0 (ap (λ t. t.1) c.in_ok-by_id.ensures.1 ∙ ap (λ t. t.1) c.in_ok-by_cell.ensures.1)
           (ap (λ t. t.2) c.in_ok-by_concept.ensures.1) c.requires.1 back
-          (subst (λ (m : TextMap Fact). IsIndex period_code m c.self.inside.by_period) c.self.view_is c.self.invariant.period);
-      concept = order_after concept_code changes facts _ c.args.moves.now c.self.inside.by_concept _ _ _ _
+          (subst (λ (m : TextMap Fact). IsIndex period_hash m c.self.inside.by_period) c.self.view_is c.self.invariant.period);
+      concept = order_after concept_hash changes facts _ c.args.fact_changes.now c.self.inside.by_concept _ _ _ _
           c.index_into_after-3.ensures c.in_ok-by_concept.ensures.0
           (ap (λ t. t.2) c.in_ok-by_id.ensures.1 ∙ ap (λ t. t.2) c.in_ok-by_cell.ensures.1 ∙ ap (λ t. t.2) c.in_ok-by_period.ensures.1)
           refl c.requires.1 back
-          (subst (λ (m : TextMap Fact). IsIndex concept_code m c.self.inside.by_concept) c.self.view_is c.self.invariant.concept);
+          (subst (λ (m : TextMap Fact). IsIndex concept_hash m c.self.inside.by_concept) c.self.view_is c.self.invariant.concept);
     }

@@ -1,5 +1,5 @@
 use Rattle.std.proofs.Common.{◌∙◌, ap, map}
-use Rattle.filing_model.specs.Duplicates.{has_dims}
+use Rattle.filing_model.specs.Oim.Duplicates.{has_dims}
 use Rattle.filing_index.proofs.FoundEntries.{found_all}
 use Rattle.filing_index.proofs.ids.Ids.of_cell.Goals as goal
 

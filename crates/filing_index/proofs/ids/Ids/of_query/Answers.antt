@@ -1,11 +1,11 @@
 use Rattle.std.proofs.Common.{◌∙◌, ap, map}
 use Rattle.std.specs.Option.{option_map}
-use Rattle.filing_model.specs.Queries.{answers_query}
-use Rattle.filing_index.specs.Wanted.{asked_of}
+use Rattle.filing_model.specs.Sessions.Queries.{answers_query}
+use Rattle.filing_facts.specs.PeriodFilterRef.{period_filter_of}
 use Rattle.filing_index.proofs.FoundEntries.{found_ids}
 use Rattle.filing_index.proofs.ids.Ids.of_query.Goals as goal
 
 pub returns : goal.returns
 returns c = λ facts index.
     ap (map (λ e. e.0)) (c.of-facts.ensures facts index)
-    ∙ found_ids (answers_query c.args.concept.now (asked_of c.args.period)) (option_map (λ t. t.now) c.args.after) facts
+    ∙ found_ids (answers_query c.args.concept.now (period_filter_of c.args.period)) (option_map (λ t. t.now) c.args.after) facts

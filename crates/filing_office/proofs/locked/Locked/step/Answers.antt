@@ -1,5 +1,5 @@
 use Rattle.std.proofs.Common.{◌∙◌, ◌+◌, ℕ, Bool, cond, ap, sym}
-use Rattle.filing_model.specs.History.{repository}
+use Rattle.filing_model.specs.Histories.History.{repository}
 use Rattle.filing_step.specs.Steps.{step_of}
 use Rattle.filing_office.specs.Answers.{IsTold}
 use Rattle.filing_office.proofs.ToldSteps.{told_of_entered}

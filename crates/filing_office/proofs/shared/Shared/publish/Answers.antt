@@ -1,7 +1,7 @@
 use Rattle.std.proofs.Common.{◌≡◌, ◌∙◌, ◌++◌, ◌∷◌, [], List, ap, sym, subst}
-use Rattle.filing_model.specs.Repository.{Repository}
-use Rattle.filing_model.specs.History.{History}
-use Rattle.filing_model.specs.Versions.{IsChain}
+use Rattle.filing_model.specs.Sessions.Repository.{Repository}
+use Rattle.filing_model.specs.Histories.History.{History}
+use Rattle.filing_model.specs.Histories.Versions.{IsChain}
 use Rattle.filing_version.specs.Filed.{repository_in}
 use Rattle.filing_step.specs.Steps.{step_of}
 use Rattle.filing_office.specs.Answers.{IsTold}

@@ -1,7 +1,7 @@
 use Rattle.std.proofs.Common.{◌≡◌, ◌∙◌, ap, sym, option_map, unwrap_or, Option, Some, None}
 use Rattle.std.specs.Arc.{arc_value}
-use Rattle.filing_model.specs.Repository.{Repository, declaring_at}
-use Rattle.filing_model.specs.Changes.{Change, with_declared, laid_over}
+use Rattle.filing_model.specs.Sessions.Repository.{Repository, declaring_at}
+use Rattle.filing_model.specs.Sessions.Changes.{Change, with_declared, laid_over}
 use Rattle.filing_version.specs.Filed.{repository_in}
 use Rattle.filing_session.proofs.PendingChanges.{made_of_both, declared_laid, declared_both, of_either}
 use Rattle.filing_session.proofs.staging.Staging.declaring.Goals as goal

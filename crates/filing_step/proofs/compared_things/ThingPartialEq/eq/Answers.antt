@@ -1,5 +1,5 @@
 use Rattle.std.proofs.Common.{◌≡◌, ◌∙◌, sym, refl, Bool, true, false}
-use Rattle.filing_model.proofs.Things.{thing_decides}
+use Rattle.filing_model.proofs.Sessions.Things.{thing_decides}
 use Rattle.filing_step.specs.Steps.{thing_of}
 use Rattle.filing_step.proofs.compared_things.ThingPartialEq.eq.Goals as goal
 

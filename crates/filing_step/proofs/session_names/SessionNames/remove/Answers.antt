@@ -1,7 +1,7 @@
 use Rattle.std.proofs.Common.{◌∙◌, ap}
-use Rattle.filing_model.specs.TextMap.{remove}
-use Rattle.filing_model.specs.Keyed.{keyed_map}
-use Rattle.filing_model.proofs.KeyedRemovals.{keyed_map_remove_entry}
+use Rattle.filing_model.specs.Common.TextMap.{remove}
+use Rattle.filing_model.specs.Common.Keyed.{keyed_map}
+use Rattle.filing_model.proofs.Common.KeyedRemovals.{keyed_map_remove_entry}
 use Rattle.filing_step.proofs.session_names.SessionNames.remove.Goals as goal
 
 pub returns : goal.returns

@@ -1,7 +1,7 @@
 use Rattle.std.proofs.Common.{◌∙◌, ap, refl, sym}
-use Rattle.filing_model.specs.TextMap.{empty}
-use Rattle.filing_model.specs.Changes.{Change}
-use Rattle.filing_model.proofs.TextMaps.{same_list}
+use Rattle.filing_model.specs.Common.TextMap.{empty}
+use Rattle.filing_model.specs.Sessions.Changes.{Change}
+use Rattle.filing_model.proofs.Common.TextMaps.{same_list}
 use Rattle.filing_version.proofs.change.Change.is_empty.Goals as goal
 
 pub returns-in-None : goal.returns-in-None

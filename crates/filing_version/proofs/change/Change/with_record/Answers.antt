@@ -1,8 +1,8 @@
 use Rattle.std.proofs.Common.{◌≡◌, ◌∙◌, ap}
 use Rattle.std.specs.Prelude.{unwrap_or}
 use Rattle.std.proofs.lemmas.Result.{IfOk-weaker}
-use Rattle.filing_model.specs.TextMap.{get, insert}
-use Rattle.filing_model.specs.Changes.{change_in}
+use Rattle.filing_model.specs.Common.TextMap.{get, insert}
+use Rattle.filing_model.specs.Sessions.Changes.{change_in}
 use Rattle.filing_version.proofs.change.Change.with_record.Goals as goal
 
 pub returns : goal.returns

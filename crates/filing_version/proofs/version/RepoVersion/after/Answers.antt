@@ -1,6 +1,6 @@
 use Rattle.std.proofs.Common.{◌≡◌, ◌∙◌, ap, sym, subst, ◌+◌, [], ◌∷◌, List}
-use Rattle.filing_model.specs.Text.{Text}
-use Rattle.filing_model.specs.Changes.{ReportChange}
+use Rattle.filing_model.specs.Common.Text.{Text}
+use Rattle.filing_model.specs.Sessions.Changes.{ReportChange}
 use Rattle.filing_version.specs.Filed.{StampedReports, mapped, filed_of, filed_after, version_of, ChangesWhatIsThere, IsStampedUpTo}
 use Rattle.filing_version.proofs.FiledReports.{version_after_change}
 use Rattle.filing_version.proofs.StampedReports.{LaysTheRest, lays_next, absent_seen}

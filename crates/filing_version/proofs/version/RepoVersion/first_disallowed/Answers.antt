@@ -1,9 +1,9 @@
 use Rattle.std.proofs.Common.{◌≡◌, ◌∙◌, ap, sym, [], ◌∷◌, List, Some, None, option_map, option_and_then}
-use Rattle.filing_model.specs.Text.{Text}
-use Rattle.filing_model.specs.TextMap.{get}
-use Rattle.filing_model.specs.Repository.{report_at}
-use Rattle.filing_model.specs.Changes.{ReportChange, find_map, first_disallowed, least_changed}
-use Rattle.filing_laws.specs.NetChange.{refusal_at}
+use Rattle.filing_model.specs.Common.Text.{Text}
+use Rattle.filing_model.specs.Common.TextMap.{get}
+use Rattle.filing_model.specs.Sessions.Repository.{report_at}
+use Rattle.filing_model.specs.Sessions.Changes.{ReportChange, find_map, first_disallowed, least_changed}
+use Rattle.filing_laws.specs.Updating.NetChange.{refusal_at}
 use Rattle.filing_version.specs.Filed.{StampedReport, repository_in}
 use Rattle.filing_version.proofs.StampedReports.{reported, disallowed_at, found_first, found_later, decides}
 use Rattle.filing_version.proofs.version.RepoVersion.first_disallowed.Goals as goal

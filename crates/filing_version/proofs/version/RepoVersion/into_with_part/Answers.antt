@@ -1,9 +1,9 @@
 use Rattle.std.proofs.Common.{◌≡◌, ◌∙◌, ap, sym, subst, Some}
 use Rattle.std.specs.Prelude.{option_map, string_bytes, IfSome, IfOk, Ok}
-use Rattle.filing_model.specs.Text.{Text}
-use Rattle.filing_model.specs.TextMap.{get, insert, remove}
-use Rattle.filing_model.specs.Changes.{ReportChange, changed, changed_at}
-use Rattle.filing_pages.proofs.TakenEntries.{named_so, insert-remove, insert_back}
+use Rattle.filing_model.specs.Common.Text.{Text}
+use Rattle.filing_model.specs.Common.TextMap.{get, insert, remove}
+use Rattle.filing_model.specs.Sessions.Changes.{ReportChange, changed, changed_at}
+use Rattle.text_map.proofs.TakenEntries.{named_so, insert-remove, insert_back}
 use Rattle.filing_version.specs.Filed.{StampedReport, StampedReports, mapped, filed_of, version_of, version_in, repository_in, IsStampedUpTo}
 use Rattle.filing_version.proofs.StampedReports.{keeps_its_stamps, another_report, another_up_to, changed_there}
 use Rattle.filing_version.proofs.version.RepoVersion.into_with_part.Goals as goal

@@ -1,8 +1,8 @@
 use Rattle.std.proofs.Common.{◌∙◌, ap, sym, List}
-use Rattle.filing_model.specs.TextMap.{get}
-use Rattle.filing_model.specs.Things as thing
-use Rattle.filing_index.specs.Moves.{Cell}
-use Rattle.filing_index.specs.Stamps.{Stamp, stamp_in as part_stamp}
+use Rattle.filing_model.specs.Common.TextMap.{get}
+use Rattle.filing_model.specs.Sessions.Things as thing
+use Rattle.filing_facts.specs.FactChanges.{Cell}
+use Rattle.filing_stamps.specs.Stamps.{Stamp, stamp_in as part_stamp}
 use Rattle.filing_version.proofs.StampedReports.{stamp_there, stamp_nowhere}
 use Rattle.filing_version.proofs.version.RepoVersion.stamp_cell.Goals as goal
 

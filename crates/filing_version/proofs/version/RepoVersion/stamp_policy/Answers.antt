@@ -1,6 +1,6 @@
 use Rattle.std.proofs.Common.{◌∙◌, sym}
-use Rattle.filing_model.specs.TextMap.{get}
-use Rattle.filing_model.specs.Things as thing
+use Rattle.filing_model.specs.Common.TextMap.{get}
+use Rattle.filing_model.specs.Sessions.Things as thing
 use Rattle.filing_version.proofs.StampedReports.{stamp_there, stamp_nowhere}
 use Rattle.filing_version.proofs.version.RepoVersion.stamp_policy.Goals as goal
 

@@ -1,9 +1,9 @@
 use Rattle.std.proofs.Common.{◌∙◌, ap, sym, List, option_map}
-use Rattle.filing_model.specs.TextMap.{get}
-use Rattle.filing_model.specs.Things as thing
-use Rattle.filing_index.specs.Moves.{Range}
-use Rattle.filing_index.specs.Stamps.{Stamp, stamp_in as part_stamp}
-use Rattle.filing_index.specs.Wanted.{asked_of}
+use Rattle.filing_model.specs.Common.TextMap.{get}
+use Rattle.filing_model.specs.Sessions.Things as thing
+use Rattle.filing_facts.specs.FactChanges.{Range}
+use Rattle.filing_stamps.specs.Stamps.{Stamp, stamp_in as part_stamp}
+use Rattle.filing_facts.specs.PeriodFilterRef.{period_filter_of}
 use Rattle.filing_version.proofs.StampedReports.{stamp_there, stamp_nowhere}
 use Rattle.filing_version.proofs.version.RepoVersion.stamp_range.Goals as goal
 
@@ -13,7 +13,7 @@ returns-in-Some c =
     ∙ ap (λ (s : List Stamp). part_stamp s
     (Range (record {
       concept = c.args.concept.now;
-      period = asked_of c.args.period;
+      period = period_filter_of c.args.period;
       after = option_map
           (λ t. t.now) c.args.after;
     }) (option_map (λ t. t.now) c.args.upto))) c.stamps.ensures
@@ -21,7 +21,7 @@ returns-in-Some c =
     (thing.Range c.args.report.now
     (record {
       concept = c.args.concept.now;
-      period = asked_of c.args.period;
+      period = period_filter_of c.args.period;
       after = option_map (λ t. t.now)
           c.args.after;
     }) (option_map (λ t. t.now) c.args.upto)) c.in-Some.filed.now
@@ -33,7 +33,7 @@ returns-in-None c =
     (thing.Range c.args.report.now
     (record {
       concept = c.args.concept.now;
-      period = asked_of c.args.period;
+      period = period_filter_of c.args.period;
       after = option_map (λ t. t.now)
           c.args.after;
     }) (option_map (λ t. t.now) c.args.upto))

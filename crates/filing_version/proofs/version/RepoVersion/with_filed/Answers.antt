@@ -1,6 +1,6 @@
 use Rattle.std.proofs.Common.{◌≡◌, ◌∙◌, sym, subst}
 use Rattle.std.specs.Prelude.{string_bytes}
-use Rattle.filing_model.specs.TextMap.{insert}
+use Rattle.filing_model.specs.Common.TextMap.{insert}
 use Rattle.filing_version.specs.Filed.{StampedReports, mapped, filed_of, version_of, IsStampedUpTo}
 use Rattle.filing_version.proofs.StampedReports.{another_report, another_up_to}
 use Rattle.filing_version.proofs.version.RepoVersion.with_filed.Goals as goal

@@ -1,9 +1,9 @@
 use Rattle.std.proofs.Common.{◌≡◌, ◌∙◌, ap, sym, Some}
 use Rattle.std.specs.Prelude.{string_bytes}
 use Rattle.std.proofs.lemmas.Result.{IfOk-weaker}
-use Rattle.filing_model.specs.TextMap.{get}
-use Rattle.filing_model.specs.Repository.{with_report_at}
-use Rattle.filing_model.specs.Changes.{ReportChange, changed}
+use Rattle.filing_model.specs.Common.TextMap.{get}
+use Rattle.filing_model.specs.Sessions.Repository.{with_report_at}
+use Rattle.filing_model.specs.Sessions.Changes.{ReportChange, changed}
 use Rattle.filing_version.specs.Filed.{filed_of, version_in, repository_in}
 use Rattle.filing_version.proofs.StampedReports.{parts_up_to, keeps_its_stamps, changed_there}
 use Rattle.filing_version.proofs.version.RepoVersion.with_part.Goals as goal

@@ -1,5 +1,5 @@
 use Rattle.std.proofs.lemmas.Result.{IfOk-weaker}
-use Rattle.filing_model.specs.DeclaredValue.{report_declaring}
+use Rattle.filing_model.specs.Reading.DeclaredValue.{report_declaring}
 use Rattle.history_oracle.proofs.Plain.{set_there}
 use Rattle.history_oracle.proofs.books.Books.declaring_at.Goals as goal
 

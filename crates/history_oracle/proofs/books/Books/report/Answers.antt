@@ -1,6 +1,6 @@
 use Rattle.std.proofs.Common.{◌∙◌, ap}
 use Rattle.std.specs.FinMap.Entries.{find}
-use Rattle.filing_model.specs.Text.{text_cmp}
+use Rattle.filing_model.specs.Common.Text.{text_cmp}
 use Rattle.history_oracle.specs.Named.{named}
 use Rattle.history_oracle.proofs.Plain.{report_found}
 use Rattle.history_oracle.proofs.books.Books.report.Goals as goal

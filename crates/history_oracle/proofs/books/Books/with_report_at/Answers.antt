@@ -1,6 +1,6 @@
 use Rattle.std.proofs.Common.{◌∙◌, ap, string_bytes}
 use Rattle.std.specs.FinMap.Entries.{put}
-use Rattle.filing_model.specs.Text.{text_cmp}
+use Rattle.filing_model.specs.Common.Text.{text_cmp}
 use Rattle.history_oracle.specs.Named.{named}
 use Rattle.history_oracle.proofs.Plain.{still_rises, report_set}
 use Rattle.history_oracle.proofs.books.Books.with_report_at.Goals as goal

@@ -1,6 +1,6 @@
 use Rattle.std.proofs.Common.{None}
 use Rattle.std.proofs.lemmas.Result.{IfOk-weaker}
-use Rattle.filing_model.specs.Repository.{with_fact}
+use Rattle.filing_model.specs.Sessions.Repository.{with_fact}
 use Rattle.history_oracle.proofs.Plain.{set_there}
 use Rattle.history_oracle.proofs.books.Books.without_fact_at.Goals as goal
 

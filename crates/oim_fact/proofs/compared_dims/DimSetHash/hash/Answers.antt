@@ -1,6 +1,6 @@
 use Rattle.std.proofs.Common.{◌∙◌, ap}
 use Rattle.std.specs.List.{fold}
-use Rattle.filing_model.specs.Dimensions.{dims_hash}
+use Rattle.filing_model.specs.Oim.Dimensions.{dims_hash}
 use Rattle.oim_fact.proofs.ComparedDims.{hashed}
 use Rattle.oim_fact.proofs.compared_dims.DimSetHash.hash.Goals as goal
 

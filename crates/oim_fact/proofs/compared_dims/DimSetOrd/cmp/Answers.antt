@@ -1,5 +1,5 @@
 use Rattle.std.proofs.Common.{◌∙◌}
-use Rattle.filing_model.specs.Dimensions.{dims_cmp}
+use Rattle.filing_model.specs.Oim.Dimensions.{dims_cmp}
 use Rattle.oim_fact.proofs.ComparedDims.{compared}
 use Rattle.oim_fact.proofs.compared_dims.DimSetOrd.cmp.Goals as goal
 

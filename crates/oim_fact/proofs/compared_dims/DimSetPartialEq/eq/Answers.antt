@@ -1,5 +1,5 @@
 use Rattle.std.proofs.Common.{◌∙◌}
-use Rattle.filing_model.specs.Dimensions.{dims_eq}
+use Rattle.filing_model.specs.Oim.Dimensions.{dims_eq}
 use Rattle.oim_fact.proofs.ComparedDims.{equal}
 use Rattle.oim_fact.proofs.compared_dims.DimSetPartialEq.eq.Goals as goal
 

@@ -1,6 +1,6 @@
 -- A dimension set has a concept.
 use Rattle.std.proofs.Common.{◌∙◌, ap, sym, is_some, true≢false}
-use Rattle.filing_model.proofs.DimensionSets.{concept-AreDims}
+use Rattle.filing_model.proofs.Oim.DimensionSets.{concept-AreDims}
 use Rattle.oim_fact.proofs.dims.DimSet.concept.Goals as goal
 
 pub unreachable-requires : goal.unreachable-requires

@@ -1,5 +1,5 @@
 use Rattle.std.proofs.Common.{◌≡◌, drop}
-use Rattle.filing_model.specs.Dimensions.{core_value}
+use Rattle.filing_model.specs.Oim.Dimensions.{core_value}
 use Rattle.oim_fact.specs.Dims.{dims_view}
 use Rattle.oim_fact.proofs.dims.DimSet.core_value.Given as goal
 

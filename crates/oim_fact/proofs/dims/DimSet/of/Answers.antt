@@ -1,6 +1,6 @@
 -- The pairs were sorted, which changes neither the set nor its first fault.
 use Rattle.std.proofs.Common.{◌∙◌, ap, sym, subst, Ok}
-use Rattle.filing_model.specs.Dimensions.{dims_of}
+use Rattle.filing_model.specs.Oim.Dimensions.{dims_of}
 use Rattle.oim_fact.specs.Texts.{names_in, NoneFalls}
 use Rattle.oim_fact.specs.Dims.{dims_view}
 use Rattle.oim_fact.proofs.SortedDims.{NoneFalls-dims, dims_of-moved, given, refused}

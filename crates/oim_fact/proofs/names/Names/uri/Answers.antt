@@ -1,8 +1,8 @@
 use Rattle.std.proofs.Common.{◌∙◌, ap, sym, subst, T, Some, Ok, Err, string_bytes, get_or, rules}
 use Rattle.std.specs.FinMap.Entries.{is_sorted}
 use Rattle.std.proofs.lemmas.Fn.{always_returns_same}
-use Rattle.filing_model.specs.Text.{text_cmp}
-use Rattle.filing_model.specs.TextMap.{get, from_entries}
+use Rattle.filing_model.specs.Common.Text.{text_cmp}
+use Rattle.filing_model.specs.Common.TextMap.{get, from_entries}
 use Rattle.oim_fact.specs.Texts.{row_of, rows_view}
 use Rattle.oim_fact.proofs.NamedRows.{searched_prefix}
 use Rattle.oim_fact.proofs.names.Names.uri.Goals as goal

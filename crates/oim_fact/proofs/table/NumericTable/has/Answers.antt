@@ -1,8 +1,8 @@
 use Rattle.std.proofs.Common.{◌∙◌, ap, sym, subst, T, rules}
 use Rattle.std.proofs.lemmas.Fn.{always_returns_same}
-use Rattle.filing_model.specs.Text.{Text}
-use Rattle.filing_model.specs.Facts.{is_numeric}
-use Rattle.filing_model.specs.Tables.{row_cmp}
+use Rattle.filing_model.specs.Common.Text.{Text}
+use Rattle.filing_model.specs.Oim.Facts.{is_numeric}
+use Rattle.filing_model.specs.Oim.Tables.{row_cmp}
 use Rattle.oim_fact.specs.Texts.{row_of, rows_view}
 use Rattle.oim_fact.specs.Tables.{is_table}
 use Rattle.oim_fact.proofs.NumericRows.{search_is_numeric}

@@ -3,7 +3,7 @@ use Rattle.std.proofs.Common.{◌∙◌, ap, sym, subst, T, Ok}
 use Rattle.std.specs.Cmp.{on_total}
 use Rattle.std.proofs.lemmas.List.Filters.{dedup_is}
 use Rattle.std.proofs.lemmas.List.Kept.{IsStrictlySortedBy-dedup}
-use Rattle.filing_model.proofs.NumericTables.{row_cmp-total}
+use Rattle.filing_model.proofs.Oim.NumericTables.{row_cmp-total}
 use Rattle.oim_fact.specs.Texts.{row_of, rows_view}
 use Rattle.oim_fact.specs.Tables.{is_table}
 use Rattle.oim_fact.proofs.NumericRows.{held_eq, held_ties, is_table-held, table_of-kept}

@@ -1,8 +1,8 @@
 -- A fact more: the flags are those of the others and of this fact, and the interval is the common part.
 use Rattle.std.proofs.Common.{◌≡◌, ◌∙◌, ◌&&◌, refl, subst, Option}
-use Rattle.filing_model.specs.Dimensions.{dims_eq}
-use Rattle.filing_model.specs.Duplicates.{has_dims, is_complete, value_pair}
-use Rattle.filing_model.specs.Intervals.{Interval}
+use Rattle.filing_model.specs.Oim.Dimensions.{dims_eq}
+use Rattle.filing_model.specs.Oim.Duplicates.{has_dims, is_complete, value_pair}
+use Rattle.filing_model.specs.Oim.Intervals.{Interval}
 use Rattle.oim_fact.specs.Tallies.{IsCommonPart, interval_in, has_value_of}
 use Rattle.oim_fact.proofs.Tallying.{one_more, flag_tested, flag_kept}
 use Rattle.oim_fact.proofs.tally.Tally.add.Goals as goal

@@ -1,5 +1,5 @@
 use Rattle.std.proofs.Common.{◌∙◌, sym, ap}
-use Rattle.filing_model.proofs.MapsOfLists.{from_entries-sorted}
+use Rattle.filing_model.proofs.Common.MapsOfLists.{from_entries-sorted}
 use Rattle.oim_report.specs.Parts.{facts_view}
 use Rattle.oim_report.proofs.report.Report.facts.Goals as goal
 

@@ -1,5 +1,5 @@
 use Rattle.std.proofs.Common.{◌∙◌, ap, sym, subst, string_bytes}
-use Rattle.filing_model.specs.DeclaredValue.{with_allowed}
+use Rattle.filing_model.specs.Reading.DeclaredValue.{with_allowed}
 use Rattle.oim_report.specs.Parts.{IsInfo}
 use Rattle.oim_report.proofs.SetInfos.{info_set}
 use Rattle.oim_report.proofs.report.Report.with_allowed.Goals as goal

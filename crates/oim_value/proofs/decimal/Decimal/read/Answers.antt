@@ -1,5 +1,5 @@
 use Rattle.std.proofs.Common.{◌≡◌, rules}
-use Rattle.filing_model.specs.Numerals.{number_of}
+use Rattle.filing_model.specs.Oim.Numerals.{number_of}
 use Rattle.oim_value.proofs.Readings.{read_as_spelled}
 use Rattle.oim_value.proofs.decimal.Decimal.read.Goals as goal
 

@@ -1,6 +1,6 @@
 use Rattle.std.proofs.Common.{◌≤ℤ◌, ◌↔◌, IsTrue, subst, rules}
-use Rattle.filing_model.specs.Intervals.{ShareANumber}
-use Rattle.filing_model.proofs.Intervals.{meets_where_a_number_is_shared}
+use Rattle.filing_model.specs.Oim.Intervals.{ShareANumber}
+use Rattle.filing_model.proofs.Oim.Intervals.{meets_where_a_number_is_shared}
 use Rattle.oim_value.proofs.interval.Interval.meets.Goals as goal
 
 pub returns-then-self-other-clause-shared : goal.returns-then-self-other-clause-shared

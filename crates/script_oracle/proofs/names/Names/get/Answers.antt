@@ -2,9 +2,9 @@ use Rattle.std.proofs.Common.{◌≡◌, ◌∙◌, ap, sym, refl, ℕ, Option, 
 use Rattle.std.specs.Prelude.{option_map, option_copied}
 use Rattle.std.specs.Borrow.{Bor}
 use Rattle.std.specs.FinMap.Entries.{find}
-use Rattle.filing_model.specs.Text.{text_cmp}
-use Rattle.filing_model.specs.TextMap.{get}
-use Rattle.filing_model.proofs.TextMaps.{get-from_entries}
+use Rattle.filing_model.specs.Common.Text.{text_cmp}
+use Rattle.filing_model.specs.Common.TextMap.{get}
+use Rattle.filing_model.proofs.Common.TextMaps.{get-from_entries}
 use Rattle.history_oracle.specs.Named.{named}
 use Rattle.script_oracle.proofs.names.Names.get.Goals as goal
 

@@ -8,9 +8,9 @@ use Rattle.sorted_pages.proofs.in_place.LeafInPlace.change.Goals as goal
 pub returns-clause-entries : goal.returns-clause-entries
 returns-clause-entries g c =
     singles c.in_ok-changed.changed.items
-    ∙ changed_at g.E.Entry.order g.met.E.Entry.is_total c.args.change.now c.entry-entry.result.now c.args.items.items
+    ∙ changed_at g.E.PageEntry.order g.met.E.PageEntry.is_total c.args.change.now c.entry-entry.result.now c.args.items.items
     c.split_at_edge.result.0.now c.split_at_edge.result.1.now c.in_ok-changed.changed.items _ _ c.in_ok-changed.is_made
     c.entry-entry.ensures (sym c.deref.ensures.value ∙ c.split_at_edge.ensures.parts)
-    (subst (IsRising g.E.Entry.order) (singles c.args.items.items) c.requires)
+    (subst (IsRising g.E.PageEntry.order) (singles c.args.items.items) c.requires)
     c.split_at_edge.ensures.front c.split_at_edge.ensures.back refl c.is_tied-ties.ensures c.in_ok-changed.ensures.entries
-    ∙ ap (λ es. cond c.in_ok-changed.is_made (with_change g.E.Entry.order c.args.change.now es) es) (sym (singles c.args.items.items))
+    ∙ ap (λ es. cond c.in_ok-changed.is_made (with_change g.E.PageEntry.order c.args.change.now es) es) (sym (singles c.args.items.items))

@@ -8,7 +8,7 @@ use Rattle.sorted_pages.proofs.paged.Paged.first_in.Goals as goal
 pub returns-in-Some : goal.returns-in-Some
 returns-in-Some g c =
     c.only_in.ensures
-    ∙ found_first g.E.Entry.order g.met.E.Entry.is_total (g.S.Span.side c.args.span.now) (g.met.S.Span.is_monotone c.args.span.now)
+    ∙ found_first g.E.PageEntry.order g.met.E.PageEntry.is_total (g.S.Span.side c.args.span.now) (g.met.S.Span.is_monotone c.args.span.now)
     c.args.self.now (ahead c.with_entries-front.result.entries.now c.with_entries-front.result.pages.now c.with_entries-front.result.runs.now
     c.with_entries-front.result.groups.now)
     (flat_map single (drop 1 c.with_entries-front.result.entries.now) ++ (flat_map of_page c.with_entries-front.result.pages.now
@@ -21,7 +21,7 @@ returns-in-Some g c =
 
 pub returns-in-None : goal.returns-in-None
 returns-in-None g c =
-    found_nowhere g.E.Entry.order g.met.E.Entry.is_total (g.S.Span.side c.args.span.now) (g.met.S.Span.is_monotone c.args.span.now)
+    found_nowhere g.E.PageEntry.order g.met.E.PageEntry.is_total (g.S.Span.side c.args.span.now) (g.met.S.Span.is_monotone c.args.span.now)
     c.args.self.now (ahead c.with_entries-front.result.entries.now c.with_entries-front.result.pages.now c.with_entries-front.result.runs.now
     c.with_entries-front.result.groups.now)
     c.front_from.ensures.rising

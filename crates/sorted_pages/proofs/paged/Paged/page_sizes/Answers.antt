@@ -13,9 +13,9 @@ returns-then-not-is_empty g c =
     let groups = c.self.inside.groups.items in
     let some : 0 < length entries = omega (arith, false-eqb _ 0 c.if-not-is_empty.ensures, c.self.inside.entries.ok.0) in
     let few : length entries ≤ 64 = c.self.invariant.few in
-    let none : length groups ≡ 0 = in_place g.E.Entry.order entries groups c.self.invariant some in
+    let none : length groups ≡ 0 = in_place g.E.PageEntry.order entries groups c.self.invariant some in
     let all : length c.args.self.now ≡ length entries =
-    ap length (sym c.self.view_is ∙ of_short g.E.Entry.order entries groups none ∙ singles entries) in
+    ap length (sym c.self.view_is ∙ of_short g.E.PageEntry.order entries groups none ∙ singles entries) in
     let told : c.len.result ≡ length entries = omega (arith, c.len.ensures, c.self.inside.entries.ok.0) in
     let whole : 0 + c.len.result ≡ length c.args.self.now = omega (arith, told, all) in
     subst (λ n. AreSizes c.push.new.self.items n) whole

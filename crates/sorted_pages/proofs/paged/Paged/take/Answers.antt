@@ -1,6 +1,6 @@
 use Rattle.std.proofs.Common.{◌≡◌, ◌∙◌, ◌<◌, ◌++◌, ◌∷◌, [], ap, sym, subst, refl, arith, drop, length, get_or, true}
 use Rattle.std.specs.Ordering.{is_eq}
-use Rattle.sorted_pages.specs.declared.change.Change.TheVariants.{Remove}
+use Rattle.sorted_pages.specs.declared.edit.Edit.TheVariants.{Remove}
 use Rattle.sorted_pages.specs.Changes.{with_change}
 use Rattle.sorted_pages.specs.Edges.{first_passes}
 use Rattle.sorted_pages.specs.Ranges.{first_within}
@@ -13,11 +13,11 @@ use Rattle.sorted_pages.proofs.paged.Paged.take.Goals as goal
 
 record Taken (g : _) (c : goal.After-taken_at-entries g) : Type 0 where
   none : length c.self.inside.groups.items ≡ 0
-  rises : IsRising g.E.Entry.order c.self.inside.entries.items
+  rises : IsRising g.E.PageEntry.order c.self.inside.entries.items
   passes : true ≡ first_passes (λ e. is_eq (g.S.Span.side c.args.span.now e)) c.split_at_edge.result.1.now
   head : c.split_at_edge.result.1.now ≡ c.taken_at-entries.result.1 ∷ drop 1 c.split_at_edge.result.1.now
   whole : c.self.inside.entries.items ≡ c.split_at_edge.result.0.now ++ c.taken_at-entries.result.1 ∷ drop 1 c.split_at_edge.result.1.now
-  left : c.taken_at-entries.result.0.items ≡ with_change g.E.Entry.order (Remove c.taken_at-entries.result.1) c.self.inside.entries.items
+  left : c.taken_at-entries.result.0.items ≡ with_change g.E.PageEntry.order (Remove c.taken_at-entries.result.1) c.self.inside.entries.items
 
 how : (g : _) (c : goal.After-taken_at-entries g) → Taken g c
 how g c =
@@ -32,10 +32,10 @@ how g c =
     let whole : c.self.inside.entries.items ≡ before ++ x ∷ drop 1 from = parts ∙ ap (λ zs. before ++ zs) head in
     let as_long : length c.self.inside.entries.items ≡ length (before ++ from) = ap length parts in
     let none : length c.self.inside.groups.items ≡ 0 =
-    in_place g.E.Entry.order c.self.inside.entries.items c.self.inside.groups.items c.self.invariant (omega (arith, as_long, inside)) in
-    let rises : IsRising g.E.Entry.order c.self.inside.entries.items =
-    subst (IsRising g.E.Entry.order) (singles c.self.inside.entries.items)
-    (rises_short g.E.Entry.order c.self.inside.entries.items c.self.inside.groups.items c.self.invariant none) in
+    in_place g.E.PageEntry.order c.self.inside.entries.items c.self.inside.groups.items c.self.invariant (omega (arith, as_long, inside)) in
+    let rises : IsRising g.E.PageEntry.order c.self.inside.entries.items =
+    subst (IsRising g.E.PageEntry.order) (singles c.self.inside.entries.items)
+    (rises_short g.E.PageEntry.order c.self.inside.entries.items c.self.inside.groups.items c.self.invariant none) in
     record {
       none = none;
       rises = rises;
@@ -43,24 +43,24 @@ how g c =
       head = head;
       whole = whole;
       left = with_out c.self.inside.entries.items before from (length before) c.taken_at-entries.result.0.items parts refl c.taken_at-entries.ensures.left
-          ∙ taken g.E.Entry.order g.met.E.Entry.is_total x c.self.inside.entries.items before (drop 1 from) whole rises;
+          ∙ taken g.E.PageEntry.order g.met.E.PageEntry.is_total x c.self.inside.entries.items before (drop 1 from) whole rises;
     }
 
 pub short-requires-clause-rises : goal.short-requires-clause-rises
 short-requires-clause-rises g c =
-    subst (IsRising g.E.Entry.order) (sym (singles c.taken_at-entries.result.0.items ∙ (how g c).left))
-    (rising-with_changes g.E.Entry.order g.met.E.Entry.is_total (Remove c.taken_at-entries.result.1 ∷ []) c.self.inside.entries.items (how g c).rises)
+    subst (IsRising g.E.PageEntry.order) (sym (singles c.taken_at-entries.result.0.items ∙ (how g c).left))
+    (rising-with_changes g.E.PageEntry.order g.met.E.PageEntry.is_total (Remove c.taken_at-entries.result.1 ∷ []) c.self.inside.entries.items (how g c).rises)
 
 pub returns-clause-some : goal.returns-clause-some
 returns-clause-some g c =
     let t = how g c.before.before in
     let same : c.self.inside.entries.items ≡ c.args.self =
-    sym (singles c.self.inside.entries.items) ∙ sym (of_short g.E.Entry.order c.self.inside.entries.items c.self.inside.groups.items t.none) ∙ c.self.view_is in (
-      first_there g.E.Entry.order g.met.E.Entry.is_total (g.S.Span.side c.args.span.now) (g.met.S.Span.is_monotone c.args.span.now)
+    sym (singles c.self.inside.entries.items) ∙ sym (of_short g.E.PageEntry.order c.self.inside.entries.items c.self.inside.groups.items t.none) ∙ c.self.view_is in (
+      first_there g.E.PageEntry.order g.met.E.PageEntry.is_total (g.S.Span.side c.args.span.now) (g.met.S.Span.is_monotone c.args.span.now)
           c.taken_at-entries.result.1 c.self.inside.entries.items c.split_at_edge.result.0.now (drop 1 c.split_at_edge.result.1.now) t.whole t.rises
           c.split_at_edge.ensures.front
           (with_passes (λ e. is_eq (g.S.Span.side c.args.span.now e)) c.split_at_edge.result.1.now (drop 1 c.split_at_edge.result.1.now)
           c.taken_at-entries.result.1 t.head t.passes)
           ∙ ap (first_within (g.S.Span.side c.args.span.now)) same,
-      c.short.ensures ∙ singles c.taken_at-entries.result.0.items ∙ t.left ∙ ap (with_change g.E.Entry.order (Remove c.taken_at-entries.result.1)) same,
+      c.short.ensures ∙ singles c.taken_at-entries.result.0.items ∙ t.left ∙ ap (with_change g.E.PageEntry.order (Remove c.taken_at-entries.result.1)) same,
     )

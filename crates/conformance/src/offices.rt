@@ -1,0 +1,75 @@
+//! Offices: what their desks and reviewers are answered, in turn and in threads of their own.
+//!
+//! `stage` plays the acts of `data/offices.rows`, each sheet in an office of two desks and two reviewers: `acts` has their parts, `readers` what reviewers do, and `ends` how offices end. `lent` plays those of `data/lent.rows` on what a lock lends, without an office. `crowd` lets four desks take the steps of `rounds` in threads, and compares what `entered` says they were told with the history; at a `meeting` they wait for one another. `places` makes something of each value at its place.
+
+mod acts;
+mod crowd;
+mod ends;
+mod entered;
+mod lent;
+mod meeting;
+mod places;
+mod readers;
+mod rounds;
+mod stage;
+
+use crate::sheet::{Answers, Sheet, compare_rows};
+use anyhow::Result;
+use crowd::{Way, take_rounds};
+use ends::core_text;
+use filing_office::{Blanks, UnopenedLog, opened_and_finished};
+use lent::play_lent;
+use stage::play;
+use std::alloc::Global;
+use std::marker::{Brand, Sync};
+use std::rt::Files;
+use std::sync::Wait;
+use std::thread::Threads;
+
+/// What plays sheets of acts.
+#[derive(Drop)]
+struct Player<'a, R: Wait + AllocGlobal> {
+    rt: &'a R,
+}
+
+impl<R: Wait + AllocGlobal> Answers for Player<'_, R> {
+    fn told(&self, _alloc: Global, sheet: &Sheet) -> Result<Vec<u8>> {
+        play::<Brand, Brand, _>(self.rt, Blanks::of(2), &sheet.lines)
+    }
+}
+
+/// What plays sheets of acts without an office.
+#[derive(Drop)]
+struct Lender<'a, R: Wait + AllocGlobal> {
+    rt: &'a R,
+}
+
+impl<R: Wait + AllocGlobal> Answers for Lender<'_, R> {
+    fn told(&self, _alloc: Global, sheet: &Sheet) -> Result<Vec<u8>> {
+        play_lent::<Brand, _>(self.rt, UnopenedLog::new(), &sheet.lines)
+    }
+}
+
+/// Opens an office and ends it at once, and tells what it made.
+fn end_at_once<R: Wait + Print + AllocGlobal>(rt: &R) -> Result<()> {
+    let core = opened_and_finished::<Brand, Brand, _>(rt, rt.alloc(), 2, 1, Blanks::of(2))?;
+    let told = core_text(rt.alloc(), core)?;
+    println!(rt; "an office that takes no step: {told}")?;
+    Ok(())
+}
+
+/// Lets desks take rounds in threads.
+fn run_crowd<R: Threads + Wait + Sync + Print + AllocGlobal>(rt: &R, way: Way) -> Result<()> {
+    take_rounds::<Brand, Brand, _>(rt, Blanks::of(4), way)
+}
+
+/// Plays the acts of offices and of what a lock lends, and lets desks take rounds in threads, in both ways.
+pub(crate) fn show_offices<R: Threads + Wait + Sync + Print + Files + AllocGlobal>(
+    rt: &R,
+) -> Result<()> {
+    compare_rows(rt, "offices", &Player { rt })?;
+    compare_rows(rt, "lent", &Lender { rt })?;
+    end_at_once(rt)?;
+    run_crowd(rt, Way::Steps)?;
+    run_crowd(rt, Way::Lists)
+}

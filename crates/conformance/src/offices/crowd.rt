@@ -1,0 +1,240 @@
+//! Four desks that take rounds of steps in threads of their own, and whether the finished history has just these.
+
+ghost use Rattle.std.specs.Prelude.{◌≡◌, ◌<◌, ◌^◌};
+
+use crate::offices::acts::line_step;
+use crate::offices::ends::{all_came, give_up};
+use crate::offices::entered::Told;
+use crate::offices::meeting::Meeting;
+use crate::offices::places::made_of_each;
+use crate::offices::readers::Readers;
+use crate::offices::rounds::work_of;
+use anyhow::{Result, anyhow};
+use filing_office::{Blanks, Core, Desk, DeskStep, Naming, Office, Outcome, Ran, Work, run_desks};
+use filing_step::Entry;
+use std::alloc::{AllocError, Global};
+use std::marker::{Send, Sync};
+use std::sync::Wait;
+use std::sync::ledger::Ledger;
+use std::thread;
+use std::thread::Threads;
+
+/// How desks take their rounds.
+#[derive(Clone, Copy)]
+pub(crate) enum Way {
+    /// One step after the other, each with the session that the step before it was told.
+    Steps,
+    /// As a list of steps under a name, where each waits until all have a session open.
+    Lists,
+}
+
+// The load of a report without facts.
+const LOAD: &str =
+    r#"["load","r1",{"documentInfo":{"documentType":"https://xbrl.org/2021/xbrl-json","namespaces":{"ex":"http://e.org/t"}}}]"#;
+
+/// Takes steps one after the other, each with the session that the step before it was told. Where one fails, there are fewer outcomes.
+fn take_all<L: Ledger + Naming, M: Ledger, R: Wait + AllocGlobal>(
+    rt: &R,
+    office: &Office<L, M>,
+    desk: &mut Desk<L, M>,
+    steps: Vec<DeskStep>,
+    outcomes: &mut Vec<Outcome<L>>,
+) -> Result<(), AllocError> {
+    let mut session = None;
+    for one in steps {
+        let DeskStep { name, step } = one;
+        drop(name);
+        let Ok(answer) = desk.step(rt, rt.alloc(), office, session, step) else {
+            return Ok(());
+        };
+        session = answer.session;
+        outcomes.push(Outcome::Answered(answer))?;
+    }
+    Ok(())
+}
+
+/// What comes back of a work whose steps are taken one after the other.
+fn worked<L: Ledger + Naming, M: Ledger, R: Wait + AllocGlobal>(
+    rt: &R,
+    office: &Office<L, M>,
+    work: Work<L, M>,
+) -> Ran<L, M> {
+    let Work {
+        mut desk,
+        reviewer,
+        steps,
+    } = work;
+    let mut outcomes = Vec::new(rt.alloc());
+    let _ = take_all(rt, office, &mut desk, steps, &mut outcomes);
+    (desk, reviewer, outcomes)
+}
+
+/// Lets each desk take its rounds in a thread of its own, and tells whether one waited for the others in vain.
+fn run_lists<
+    L: Ledger + Naming + Send + Sync,
+    M: Ledger + Send + Sync,
+    R: Threads + Wait + Sync + Print + AllocGlobal,
+>(rt: &R, office: &Office<L, M>, works: Vec<Work<L, M>>) -> Result<Vec<Ran<L, M>>> {
+    let meeting = Meeting::new();
+    let ran = run_desks(rt, rt.alloc(), office, works, &meeting)?;
+    match meeting.tell(rt) {
+        Ok(()) => Ok(ran),
+        Err(error) => {
+            drop(ran);
+            Err(error)
+        }
+    }
+}
+
+/// Loads the report.
+fn load<L: Ledger + Naming, M: Ledger, R: Wait + AllocGlobal>(
+    rt: &R,
+    office: &Office<L, M>,
+    desks: &mut Vec<Desk<L, M>>,
+) -> Result<()> {
+    let step = line_step(rt.alloc(), LOAD)?;
+    match desks.last_mut() {
+        Some(desk) => {
+            drop(desk.step(rt, rt.alloc(), office, None, step)?);
+            Ok(())
+        }
+        None => {
+            drop(step);
+            Err(anyhow!("a desk is wanted"))
+        }
+    }
+}
+
+/// Loads the report, and lets desks take their rounds.
+fn run_rounds<
+    L: Ledger + Naming + Send + Sync,
+    M: Ledger + Send + Sync,
+    R: Threads + Wait + Sync + Print + AllocGlobal,
+>(rt: &R, office: &Office<L, M>, desks: Vec<Desk<L, M>>, way: Way) -> Result<Vec<Ran<L, M>>> {
+    let mut desks = desks;
+    if let Err(error) = load(rt, office, &mut desks) {
+        drop(desks);
+        return Err(error);
+    }
+    let works = made_of_each(rt.alloc(), desks, work_of::<L, M>)?;
+    match way {
+        Way::Steps => {
+            let run = |work: Work<L, M>| -> Ran<L, M> { worked(rt, office, work) };
+            Ok(thread::map_vec(rt, works, &run)?)
+        }
+        Way::Lists => run_lists(rt, office, works),
+    }
+}
+
+/// The desk that comes back.
+fn desk_of<L: Ledger + Naming, M: Ledger>(
+    _alloc: Global,
+    _place: usize,
+    ran: Ran<L, M>,
+) -> Result<Desk<L, M>> {
+    let (desk, reviewer, outcomes) = ran;
+    drop(reviewer);
+    drop(outcomes);
+    Ok(desk)
+}
+
+/// What each desk was told, whose receipts a reviewer learns.
+fn told_of_all<L: Ledger + Naming, M: Ledger>(
+    alloc: Global,
+    ran: &[Ran<L, M>],
+    readers: &mut Readers<L>,
+) -> Result<Vec<Told>> {
+    let mut all = Vec::with_capacity(alloc, ran.len())?;
+    for (one, place) in ran.iter().zip(0usize..) {
+        readers.learn_all(&one.2)?;
+        all.push(Told::of(alloc, place, &one.2)?)?;
+    }
+    Ok(all)
+}
+
+/// The desks that come back, and what each was told.
+fn come_back<L: Ledger + Naming, M: Ledger>(
+    alloc: Global,
+    ran: Vec<Ran<L, M>>,
+    readers: &mut Readers<L>,
+) -> Result<(Vec<Desk<L, M>>, Vec<Told>)> {
+    match told_of_all(alloc, &ran, readers) {
+        Ok(told) => match made_of_each(alloc, ran, desk_of::<L, M>) {
+            Ok(desks) => Ok((desks, told)),
+            Err(error) => {
+                drop(told);
+                Err(error)
+            }
+        },
+        Err(error) => {
+            drop(ran);
+            Err(error)
+        }
+    }
+}
+
+/// Writes of each desk how many answers it got, and whether the entries of its sessions are those, in order.
+fn compare_all<R: Print + AllocGlobal>(rt: &R, history: &[Entry], all_told: &[Told]) -> Result<()> {
+    for (told, place) in all_told.iter().zip(0usize..) {
+        let answers = told.lines.len();
+        let is_same = told.is_entered(rt.alloc(), history)?;
+        println!(rt;
+            "desk {place}: {answers} answers, which are the entries of its sessions: {is_same}"
+        )?;
+    }
+    Ok(())
+}
+
+/// Compares what desks were told with the history of their office, and writes what it made, and which version a reviewer has learnt.
+fn compare_end<J: Naming, R: Print + AllocGlobal>(
+    rt: &R,
+    core: &Core,
+    told: &[Told],
+    readers: &Readers<J>,
+) -> Result<()> {
+    compare_all(rt, core.history(), told)?;
+    let (entries, number) = (core.history().len(), core.current().number());
+    let seen = readers.seen(rt.alloc(), 0)?;
+    println!(rt; "{entries} entries, {number} versions, {seen} learnt")?;
+    Ok(())
+}
+
+/// Ends the office of desks that came back, and compares what they were told with the history.
+fn end_crowd<L: Ledger + Naming, M: Ledger, R: Wait + Print + AllocGlobal>(
+    rt: &R,
+    office: Office<L, M>,
+    ran: Vec<Ran<L, M>>,
+    readers: &mut Readers<L>,
+) -> Result<()> {
+    match come_back(rt.alloc(), ran, readers) {
+        Ok((desks, told)) => {
+            let core = all_came(rt, office.finish(rt, desks))?;
+            let compared = compare_end(rt, &core, &told, readers);
+            drop(core);
+            drop(told);
+            compared
+        }
+        Err(error) => give_up(rt, office, error),
+    }
+}
+
+/// Four desks that take their rounds in an office of their own.
+pub(crate) fn take_rounds<
+    L: Ledger + Naming + Send + Sync,
+    M: Ledger + Send + Sync,
+    R: Threads + Wait + Sync + Print + AllocGlobal,
+>(rt: &R, blanks: Blanks, way: Way) -> Result<()>
+    requires book { blanks.unopened_log.seen.book ≡ L.book }
+    requires steps { (blanks.steps.name ≡ L.name) × (blanks.steps.parts ≡ L.parts) × (blanks.steps.parts ≡ 4) }
+    requires receipts { (blanks.receipts.name ≡ M.name) × (blanks.receipts.parts ≡ M.parts)
+        × (blanks.receipts.parts ≡ 4) }
+{
+    let (office, desks, reviewers) = Office::<L, M>::open(rt, rt.alloc(), 4, 1, blanks)?;
+    let mut readers = Readers::of(rt.alloc(), reviewers);
+    let ended = match run_rounds(rt, &office, desks, way) {
+        Ok(ran) => end_crowd(rt, office, ran, &mut readers),
+        Err(error) => give_up(rt, office, error),
+    };
+    drop(readers);
+    ended
+}

@@ -1,0 +1,87 @@
+//! Steps on what the lock of an office lends, without an office.
+//!
+//! An act `["step",SESSION,STEP]` is a step, as histories write it, of the session of that number, or of none. It is told the session of its entry, the reply, and the number of the receipt; or `["no-session"]`. At the end stands how many entries and versions there are.
+
+ghost use Rattle.std.specs.Prelude.{◌≡◌, ◌<◌, ◌^◌};
+
+use crate::lines::push_line;
+use crate::offices::acts::step_at;
+use crate::offices::ends::core_text;
+use anyhow::Result;
+use filing_office::{Answer, CoreFault, Naming, Receipt, Shared, UnopenedLog, apply_in};
+use oim_report::json_value;
+use script_format::reply_text;
+use serde_json::Value;
+use std::alloc::{AllocError, Global};
+use std::sync::Wait;
+
+/// A number, or null.
+fn number_text(alloc: Global, number: Option<u64>) -> Result<String, AllocError> {
+    match number {
+        Some(number) => number.to_string(alloc),
+        None => String::from_str(alloc, "null"),
+    }
+}
+
+/// The session of an answer, its reply, and the number of its receipt.
+fn answer_text<J: Naming>(alloc: Global, answer: &Answer<J>) -> Result<String, AllocError> {
+    let session = number_text(alloc, answer.session)?;
+    let reply = reply_text(alloc, &answer.reply)?;
+    let receipt = number_text(alloc, answer.receipt.as_ref().map(Receipt::number))?;
+    format!(in alloc; "[{session},{reply},{receipt}]")
+}
+
+/// What is told of an act.
+fn told<J: Naming, R: Wait + AllocGlobal>(
+    rt: &R,
+    shared: &mut Shared<J>,
+    act: &Value,
+) -> Result<String> {
+    let session = act.get(1usize).and_then(Value::as_u64);
+    let step = step_at(rt.alloc(), act)?;
+    match apply_in(rt, rt.alloc(), shared, session, step) {
+        Ok(answer) => {
+            let told = answer_text(rt.alloc(), &answer);
+            drop(answer);
+            Ok(told?)
+        }
+        Err(CoreFault::NoSession) => Ok(String::from_str(rt.alloc(), r#"["no-session"]"#)?),
+        Err(CoreFault::NoMemory) => Err(AllocError.into()),
+    }
+}
+
+/// Plays acts in turn.
+fn play_acts<J: Naming, R: Wait + AllocGlobal>(
+    rt: &R,
+    shared: &mut Shared<J>,
+    acts: &str,
+    all_told: &mut Vec<u8>,
+) -> Result<()> {
+    for line in acts.lines() {
+        if let Some(act) = json_value(rt.alloc(), line.as_bytes())? {
+            let told = told(rt, shared, &act);
+            drop(act);
+            push_line(all_told, told?.as_bytes())?;
+        }
+    }
+    Ok(())
+}
+
+/// What is told of acts on a repository of their own.
+pub(crate) fn play_lent<J: Naming, R: Wait + AllocGlobal>(
+    rt: &R,
+    unopened_log: UnopenedLog,
+    acts: &[u8],
+) -> Result<Vec<u8>>
+    requires { unopened_log.seen.book ≡ J.book }
+{
+    let (mut shared, reviewers) = Shared::<J>::open(rt, rt.alloc(), unopened_log, 1)?;
+    drop(reviewers);
+    let mut all_told = Vec::new(rt.alloc());
+    let acts = str::from_utf8(acts).unwrap_or("");
+    let played = play_acts(rt, &mut shared, acts, &mut all_told);
+    let ended = core_text(rt.alloc(), shared.close(rt));
+    played?;
+    push_line(&mut all_told, ended?.as_bytes())?;
+    Ok(all_told)
+}

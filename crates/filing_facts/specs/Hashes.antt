@@ -1,0 +1,54 @@
+-- The hashes by which look-ups find the facts of one report: those that one look-up finds have one hash. The project's own; the hash is SipHash-1-3 with both keys 0, as std's `DefaultHasher` makes it.
+use Rattle.std.specs.Prelude.{ℕ, ◌++◌, [], fold, Option, Some, None, unwrap_or}
+use Rattle.std.specs.Hash as fed
+use Rattle.std.specs.Hash.{HashWrites}
+use Rattle.std.specs.Hash.DefaultHasher as sip
+use Rattle.filing_model.specs.Common.Text.{Text}
+use Rattle.filing_model.specs.Oim.Dimensions.{Dims, dims_hash, concept_of, period_of}
+use Rattle.filing_model.specs.Oim.Facts.{Fact}
+use Rattle.filing_model.specs.Sessions.Calls.{PeriodFilter, Any, Without, Exactly}
+
+-- the hash of what a hasher is fed
+abbrev pub hash_of_value : HashWrites → ℕ
+hash_of_value writes = sip.finish (fold sip.write sip.initial writes)
+
+-- ---- of what is looked for
+
+-- the hash of a cell
+abbrev pub hash_of_dims : Dims → ℕ
+hash_of_dims dims = hash_of_value (dims_hash dims)
+
+-- the hash of a concept with a period, or with none
+abbrev pub hash_of_period : Text → Option Text → ℕ
+hash_of_period concept period = hash_of_value (fed.str concept ++ fed.option fed.str period)
+
+-- the hash of a concept with any period
+abbrev pub hash_of_concept : Text → ℕ
+hash_of_concept concept = hash_of_value (fed.str concept)
+
+-- the hash of a page query
+abbrev pub hash_of_query : Text → PeriodFilter → ℕ
+hash_of_query concept Any = hash_of_concept concept
+hash_of_query concept Without = hash_of_period concept None
+hash_of_query concept (Exactly period) = hash_of_period concept (Some period)
+
+-- ---- of a fact
+
+-- its concept. Each dimension set has one
+abbrev pub concept_in : Fact → Text
+concept_in fact = unwrap_or (concept_of fact.dims) []
+
+abbrev pub cell_hash : Fact → ℕ
+cell_hash fact = hash_of_dims fact.dims
+
+abbrev pub period_hash : Fact → ℕ
+period_hash fact = hash_of_period (concept_in fact) (period_of fact.dims)
+
+abbrev pub concept_hash : Fact → ℕ
+concept_hash fact = hash_of_concept (concept_in fact)
+
+-- the hash by which a page query finds a fact
+abbrev pub query_hash : PeriodFilter → Fact → ℕ
+query_hash Any fact = concept_hash fact
+query_hash Without fact = period_hash fact
+query_hash (Exactly period) fact = period_hash fact

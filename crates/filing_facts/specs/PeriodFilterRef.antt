@@ -1,0 +1,11 @@
+-- The period filter of a query, as code borrows it. The project's own.
+use Rattle.filing_model.specs.Sessions.Calls as call
+use Rattle.filing_model.specs.Sessions.Calls.{PeriodFilter as PlainPeriodFilter}
+use Rattle.filing_facts.specs.declared.period_filter_ref.PeriodFilterRef.{PeriodFilterRef}
+use Rattle.filing_facts.specs.declared.period_filter_ref.PeriodFilterRef.TheVariants as asked
+
+-- the period filter, by the bytes of its period
+abbrev pub period_filter_of : PeriodFilterRef → PlainPeriodFilter
+period_filter_of asked.Any = call.Any
+period_filter_of asked.Without = call.Without
+period_filter_of (asked.Text text) = call.Exactly text.now

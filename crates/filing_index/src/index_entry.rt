@@ -1,0 +1,103 @@
+//! A fact under its hash.
+ghost use Rattle.std.specs.Prelude.{◌≡◌, IfOk};
+ghost use Rattle.filing_index.specs.IndexKinds.{hash_in};
+
+use crate::index_kind::IndexKind;
+use filing_facts::IndexedFact;
+use sorted_pages::{Numbered, PageEntry};
+use std::alloc::AllocError;
+use std::cmp::Ordering;
+use std::marker::Model;
+use text_map::NamedValue;
+
+/// A fact with its identifier, under its hash in some index. The hash stands beside the pointer, so that most comparisons follow none.
+///
+/// Contracts see the hash with the identifier, and the fact.
+#[derive(Drop)]
+pub struct IndexEntry {
+    hash: u64,
+    held: NamedValue<IndexedFact>,
+}
+
+impl Model for IndexEntry {
+    ghost use Rattle.filing_index.specs.Index.{IndexEntry as HashedFact};
+
+    ghost Value = { HashedFact };
+
+    ghost view = { λ c. ((c.hash, c.held.0), c.held.1) };
+}
+
+impl IndexEntry {
+    /// The same fact, which it shares, under its hash in an index of this kind.
+    pub fn of(order: IndexKind, held: &NamedValue<IndexedFact>) -> Result<IndexEntry, AllocError>
+        ensures { IfOk result (λ c. c ≡ ((hash_in order held.now.1, held.now.0), held.now.1)) }
+    {
+        let hash = order.hash(held.value());
+        let held = held.share()?;
+        Ok(IndexEntry { hash, held })
+    }
+
+    pub fn hash(&self) -> u64
+        ensures { result ≡ self.now.0.0 }
+    {
+        self.hash
+    }
+
+    pub fn held(&self) -> &NamedValue<IndexedFact>
+        ensures { result.now ≡ (self.now.0.1, self.now.1) }
+    {
+        &self.held
+    }
+}
+
+impl Numbered for IndexEntry {
+    ghost max_number = { λ c. 0 };
+
+    fn are_zero() -> bool {
+        true
+    }
+
+    fn max_number(&self) -> u64 {
+        0
+    }
+}
+
+impl PageEntry for IndexEntry {
+    ghost use Rattle.filing_index.specs.Index.{hashed_cmp};
+    ghost use Rattle.filing_index.specs.KeyOrder.{hashed_cmp_total, hashes_rise};
+
+    ghost order = { hashed_cmp };
+
+    ghost is_total = { hashed_cmp_total };
+
+    ghost key = { λ c. c.0.0 };
+
+    ghost key_rises = { hashes_rise };
+
+    /// As of facts under their identifiers.
+    fn most_in_page() -> usize {
+        16
+    }
+
+    fn key(&self) -> u64 {
+        self.hash
+    }
+
+    fn order(&self, other: &Self) -> Ordering {
+        self.hash
+            .cmp(&other.hash)
+            .then_with(|| self.held.order(&other.held))
+    }
+
+    fn owners(&self) -> usize {
+        self.held.owners()
+    }
+
+    fn share(&self) -> Result<IndexEntry, AllocError> {
+        let held = self.held.share()?;
+        Ok(IndexEntry {
+            hash: self.hash,
+            held,
+        })
+    }
+}

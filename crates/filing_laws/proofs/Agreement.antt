@@ -1,0 +1,5 @@
+-- Repositories that agree on what a session reads.
+pub mod AgreeOnThings
+pub mod PagesAlike
+pub mod AnsweredAlike
+pub mod RunsAlike

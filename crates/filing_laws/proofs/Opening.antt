@@ -1,0 +1,3 @@
+-- Sessions: not opened yet, and their replies as at their opening.
+pub mod NotYetOpened
+pub mod OwnReplies

@@ -1,0 +1,3 @@
+-- What each session is told, as if it ran alone.
+pub mod WholeRuns
+pub mod Untouched

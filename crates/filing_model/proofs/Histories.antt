@@ -1,0 +1,2 @@
+-- The one next reply.
+pub mod NextReply

@@ -1,0 +1,3 @@
+-- Things and limits.
+pub mod Things
+pub mod Limits

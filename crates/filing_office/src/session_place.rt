@@ -1,0 +1,10 @@
+//! `SessionPlace`: where a session stands.
+
+use filing_publish::Review;
+
+/// Where the session of a name stands: under the lock of the office, by its number, or at a version of the desk's own reviewer.
+#[derive(Drop)]
+pub(crate) enum SessionPlace {
+    Office(u64),
+    Review(Review),
+}

@@ -1,6 +1,0 @@
-pub mod NamedLists
-pub mod MapsOfChanges
-pub mod KeptTexts
-pub mod ComparedHeads
-pub mod TakenEntries
-pub mod ComparedKeys

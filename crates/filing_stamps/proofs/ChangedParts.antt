@@ -1,0 +1,290 @@
+-- Which parts the stamps of fact changes stand in, and what they make of the stamps before.
+use Rattle.std.proofs.Common.{◌≡◌, ◌∙◌, ap, sym, subst, refl, ℕ, ◌≤◌, arith, Bool, true, false, cond, ◌&&◌, ◌||◌}
+use Rattle.std.proofs.Common.{List, [], ◌∷◌, ◌++◌, Option, Some, None, is_none, Ordering, Less, Equal, Greater}
+use Rattle.std.proofs.Common.{is_eq, true≢false}
+use Rattle.std.proofs.Math.Bool.{or_self}
+use Rattle.std.specs.Cmp.{Equal-is, tied_itself, tied_then, nat_cmp_total, eq_by_cmp_equiv}
+use Rattle.std.specs.List.{list_any, flat_map}
+use Rattle.std.specs.Option.{option_cmp, option_eq, option_map, option_map_or}
+use Rattle.std.specs.Ordering.{nat_cmp, ordering_then}
+use Rattle.sorted_pages.specs.declared.edit.Edit.{Edit}
+use Rattle.sorted_pages.specs.Changes.{with_changes}
+use Rattle.filing_model.specs.Common.Text.{Text, text_cmp, text_eq}
+use Rattle.filing_model.specs.Oim.Dimensions.{Dims, dims_cmp, dims_eq, concept_of, period_of}
+use Rattle.filing_model.specs.Oim.Facts.{Fact}
+use Rattle.filing_model.specs.Sessions.Calls.{PeriodFilter, Any, Without, Exactly}
+use Rattle.filing_model.specs.Oim.Duplicates.{has_dims}
+use Rattle.filing_model.specs.Sessions.Queries.{is_after, answers_query}
+use Rattle.filing_model.specs.Histories.Touches.{is_within}
+use Rattle.filing_model.proofs.Common.Texts.{text_cmp-Equal, text_eq-sym}
+use Rattle.text_map.specs.Heads.{name_key}
+use Rattle.filing_model.proofs.Oim.DimensionSets.{dims_cmp-total, dims_cmp-Equal, dims_same, nullable_Equal}
+use Rattle.filing_model.proofs.Common.Tests.{both_are_equal}
+use Rattle.filing_facts.specs.FactChanges.{FactChange, Part, Id, Cell, Range, is_touched, is_touched_by, stamped_by}
+use Rattle.filing_stamps.specs.Stamps.{Group, no_group, group_cmp, group_code, Stamp, stamp_cmp, stamps_of}
+use Rattle.filing_stamps.specs.Stamps.{stamps_if_there, stamps_beside, stamps_of_change, stamps_of_changes}
+use Rattle.filing_stamps.specs.Stamps.{ArePuts, Between, is_upto}
+use Rattle.filing_stamps.specs.Stamps.{ids_side, among_side, part_among, stamp_in}
+use Rattle.std.proofs.lemmas.List.Folds.{list_any-append}
+use Rattle.filing_stamps.proofs.StampTies.{among_alike}
+use Rattle.filing_stamps.proofs.PutNumbers.{AllHave, put_all}
+
+-- ---- tests
+
+or_false : (b : Bool) → (b || false) ≡ b
+or_false true = refl
+or_false false = refl
+
+and_true : (b : Bool) → (b && true) ≡ b
+and_true true = refl
+and_true false = refl
+
+implied : (n g r : Bool) → (g ≡ true → n ≡ true) → (n && (g && r)) ≡ (g && r)
+implied true g r f = refl
+implied false true r f = absurd (true≢false (sym (f refl)))
+implied false false r f = refl
+
+implied_alone : (n g : Bool) → (g ≡ true → n ≡ true) → (n && g) ≡ g
+implied_alone true g f = refl
+implied_alone false true f = absurd (true≢false (sym (f refl)))
+implied_alone false false f = refl
+
+and_turned : (a b : Bool) → (a && b) ≡ (b && a)
+and_turned true true = refl
+and_turned true false = refl
+and_turned false true = refl
+and_turned false false = refl
+
+-- ---- one group and another
+
+group_cmp-Equal : (g h : Group) → group_cmp g h ≡ Equal → g ≡ h
+group_cmp-Equal g h e =
+    let one = both_are_equal (option_cmp dims_cmp g.dims h.dims) _ e in
+    let two = both_are_equal (option_cmp text_cmp g.concept h.concept) _ one.1 in
+    let dims = cells g.dims h.dims one.0 in
+    let concept = nullable_Equal g.concept h.concept two.0 in
+    let period = periods g.period h.period two.1 in
+    λ i. record { dims = dims i; concept = concept i; period = period i }
+  where
+    cells : (x y : Option Dims) → option_cmp dims_cmp x y ≡ Equal → x ≡ y
+    cells None None e = refl
+    cells None (Some y) e = absurd (true≢false (sym (ap is_eq e)))
+    cells (Some x) None e = absurd (true≢false (sym (ap is_eq e)))
+    cells (Some x) (Some y) e = ap Some (dims_cmp-Equal x y e)
+
+    periods : (x y : Option (Option Text)) → option_cmp (option_cmp text_cmp) x y ≡ Equal → x ≡ y
+    periods None None e = refl
+    periods None (Some y) e = absurd (true≢false (sym (ap is_eq e)))
+    periods (Some x) None e = absurd (true≢false (sym (ap is_eq e)))
+    periods (Some x) (Some y) e = ap Some (nullable_Equal x y e)
+
+-- groups that tie have one code, so the code decides nothing
+coded : (g h : Group) (r : Ordering)
+    → is_eq (ordering_then (nat_cmp (group_code g) (group_code h)) (ordering_then (group_cmp g h) r)) ≡ (is_eq (group_cmp g h) && is_eq r)
+coded g h r =
+    let codes : Ordering = nat_cmp (group_code g) (group_code h) in
+    let groups : Ordering = group_cmp g h in
+    sym (tied_then codes (ordering_then groups r)) ∙ ap (λ b. is_eq codes && b) (sym (tied_then groups r))
+    ∙ implied (is_eq codes) (is_eq groups) (is_eq r) (λ e.
+    ap (λ k. is_eq (nat_cmp (group_code g) (group_code k))) (sym (group_cmp-Equal g h ((Equal-is groups).0 e)))
+    ∙ ap is_eq (tied_itself nat_cmp_total (group_code g)))
+
+-- names that tie have one key
+named : (id x : Text) → is_eq (ordering_then (nat_cmp (name_key id) (name_key x)) (text_cmp id x)) ≡ text_eq id x
+named id x =
+    let keys : Ordering = nat_cmp (name_key id) (name_key x) in
+    sym (tied_then keys (text_cmp id x))
+    ∙ implied_alone (is_eq keys) (is_eq (text_cmp id x)) (λ e.
+    ap (λ y. is_eq (nat_cmp (name_key id) (name_key y))) (sym (text_cmp-Equal id x ((Equal-is (text_cmp id x)).0 e)))
+    ∙ ap is_eq (tied_itself nat_cmp_total (name_key id)))
+
+-- a text that may be missing, against one that is there
+ties_with : (o : Option Text) (t : Text) → is_eq (option_cmp text_cmp o (Some t)) ≡ option_eq text_eq (Some t) o
+ties_with None t = refl
+ties_with (Some c) t = text_eq-sym c t
+
+both_ways : (a b : Bool) → is_eq (cond a (cond b Equal Greater) Less) ≡ (a && b)
+both_ways true true = refl
+both_ways true false = refl
+both_ways false b = refl
+
+within_ties : (after upto : Option Text) (id : Text) → is_eq (ids_side (Between after upto) id) ≡ is_within after upto id
+within_ties after upto id = both_ways (is_after after id) (is_upto upto id)
+
+none_ties : (period : Option Text) → is_eq (option_cmp text_cmp period None) ≡ is_none period
+none_ties None = refl
+none_ties (Some x) = refl
+
+-- ---- the stamps of one fact
+
+-- whether a fact under its identifier stands in a part
+abbrev stands_in : Part → Text → Fact → Bool
+stands_in (Id x) id fact = text_eq x id
+stands_in (Cell dims) id fact = has_dims dims fact
+stands_in (Range query upto) id fact = is_within query.after upto id && answers_query query.concept query.period fact
+
+abbrev hits : Part → List Stamp → Bool
+hits part stamps = list_any (λ s. is_eq (among_side (part_among part) s)) stamps
+
+-- one of the groups of a fact against that of a part, with the same rank
+group_hits : (g h : Group) (r : Ordering) (group_ties ids_tie : Bool) → is_eq (group_cmp g h) ≡ group_ties → is_eq r ≡ ids_tie
+    → (is_eq (ordering_then (nat_cmp (group_code g) (group_code h)) (ordering_then (group_cmp g h) r)) || false) ≡ (group_ties && ids_tie)
+group_hits g h r a b ea eb = or_false _ ∙ coded g h r ∙ (λ i. ea i && eb i)
+
+cell_ties : (dims other : Dims) → is_eq (group_cmp (record no_group { dims = Some other }) (record no_group { dims = Some dims })) ≡ dims_eq dims other
+cell_ties dims other =
+    sym (tied_then (dims_cmp other dims) Equal) ∙ and_true (dims_eq other dims) ∙ (eq_by_cmp_equiv dims_cmp-total).symm other dims
+
+range_ties : (concept : Text) (c : Option Text) (p q : Option (Option Text))
+    → is_eq (group_cmp (record no_group { concept = c; period = p }) (record no_group { concept = Some concept; period = q }))
+    ≡ (option_eq text_eq (Some concept) c && is_eq (option_cmp (option_cmp text_cmp) p q))
+range_ties concept c p q =
+    sym (tied_then (option_cmp text_cmp c (Some concept)) (option_cmp (option_cmp text_cmp) p q))
+    ∙ ap (λ b. b && is_eq (option_cmp (option_cmp text_cmp) p q)) (ties_with c concept)
+
+fact_hits : (part : Part) (n : ℕ) (id : Text) (fact : Fact) → hits part (stamps_of n (id, fact)) ≡ stands_in part id fact
+fact_hits (Id x) n id fact = or_false _ ∙ named id x ∙ text_eq-sym id x
+fact_hits (Cell dims) n id fact =
+    group_hits (record no_group { dims = Some fact.dims }) (record no_group { dims = Some dims }) Equal (dims_eq dims fact.dims) true
+    (cell_ties dims fact.dims) refl
+    ∙ and_true (dims_eq dims fact.dims)
+fact_hits (Range query upto) n id fact = by query.period
+  where
+    by : (asked : PeriodFilter) → hits (Range (record query { period = asked }) upto) (stamps_of n (id, fact)) ≡ stands_in (Range (record query { period = asked }) upto) id fact
+    by Any =
+        group_hits (record no_group { concept = concept_of fact.dims }) (record no_group { concept = Some query.concept })
+        (ids_side (Between query.after upto) id) _ _ (range_ties query.concept (concept_of fact.dims) None None) (within_ties query.after upto id)
+        ∙ and_turned _ (is_within query.after upto id)
+    by Without =
+        group_hits (record no_group { concept = concept_of fact.dims; period = Some (period_of fact.dims) })
+        (record no_group { concept = Some query.concept; period = Some None })
+        (ids_side (Between query.after upto) id) _ _
+        (range_ties query.concept (concept_of fact.dims) (Some (period_of fact.dims)) (Some None)
+        ∙ ap (λ b. option_eq text_eq (Some query.concept) (concept_of fact.dims) && b) (none_ties (period_of fact.dims)))
+        (within_ties query.after upto id)
+        ∙ and_turned _ (is_within query.after upto id)
+    by (Exactly text) =
+        group_hits (record no_group { concept = concept_of fact.dims; period = Some (period_of fact.dims) })
+        (record no_group { concept = Some query.concept; period = Some (Some text) })
+        (ids_side (Between query.after upto) id) _ _
+        (range_ties query.concept (concept_of fact.dims) (Some (period_of fact.dims)) (Some (Some text))
+        ∙ ap (λ b. option_eq text_eq (Some query.concept) (concept_of fact.dims) && b) (ties_with (period_of fact.dims) text))
+        (within_ties query.after upto id)
+        ∙ and_turned _ (is_within query.after upto id)
+
+-- ---- the stamps of fact changes
+
+if_there : (part : Part) (n : ℕ) (id : Text) (fact : Option Fact) → hits part (stamps_if_there n (option_map (λ f. (id, f)) fact)) ≡ option_map_or (stands_in part id) fact false
+if_there part n id None = refl
+if_there part n id (Some fact) = fact_hits part n id fact
+
+-- facts of the same dimensions stand in the same parts
+stands_alike : (part : Part) (id : Text) (f g : Fact) → f.dims ≡ g.dims → stands_in part id f ≡ stands_in part id g
+stands_alike (Id x) id f g e = refl
+stands_alike (Cell dims) id f g e = ap (dims_eq dims) e
+stands_alike (Range query upto) id f g e =
+    let answers = answers_query query.concept query.period in
+    ap (λ dims. is_within query.after upto id && answers (record f { dims = dims })) e
+
+-- so what a new fact leaves beside what the old one leaves is all that is to be left
+both_hit : (part : Part) (n : ℕ) (id : Text) (old new : Option Fact)
+    → (hits part (stamps_if_there n (option_map (λ f. (id, f)) old))
+    || hits part (stamps_beside n (option_map (λ f. (id, f)) old) (option_map (λ f. (id, f)) new)))
+    ≡ (option_map_or (stands_in part id) old false || option_map_or (stands_in part id) new false)
+both_hit part n id old None = ap (λ b. b || false) (if_there part n id old)
+both_hit part n id None (Some new) = fact_hits part n id new
+both_hit part n id (Some old) (Some new) = by (dims_eq old.dims new.dims) refl
+  where
+    by : (same : Bool) → dims_eq old.dims new.dims ≡ same
+        → (hits part (stamps_of n (id, old)) || hits part (cond same [] (stamps_of n (id, new))))
+        ≡ (stands_in part id old || stands_in part id new)
+    by true e =
+        or_false _
+        ∙ fact_hits part n id old
+        ∙ sym (or_self (stands_in part id old))
+        ∙ ap (λ b. stands_in part id old || b) (stands_alike part id old new (dims_same old.dims new.dims e))
+    by false e = λ i. fact_hits part n id old i || fact_hits part n id new i
+
+-- a test before one of two that may be missing
+either_both : {X : Type 0} (a : Bool) (p : X → Bool) (x y : Option X)
+    → (option_map_or (λ f. a && p f) x false || option_map_or (λ f. a && p f) y false) ≡ (a && (option_map_or p x false || option_map_or p y false))
+either_both true p x y = refl
+either_both false p None None = refl
+either_both false p None (Some y) = refl
+either_both false p (Some x) None = refl
+either_both false p (Some x) (Some y) = refl
+
+move_stands : (part : Part) (move : FactChange)
+    → (option_map_or (stands_in part move.id) move.old false || option_map_or (stands_in part move.id) move.new false) ≡ is_touched_by part move
+move_stands (Id x) move = ap (λ (b : Bool). b) (id_stands (text_eq x move.id) move.old move.new)
+  where
+    id_stands : (a : Bool) (old new : Option Fact)
+        → (option_map_or (λ f. a) old false || option_map_or (λ f. a) new false) ≡ (a && (option_map_or (λ f. true) old false || option_map_or (λ f. true) new false))
+    id_stands true old new = refl
+    id_stands false None None = refl
+    id_stands false None (Some y) = refl
+    id_stands false (Some x) None = refl
+    id_stands false (Some x) (Some y) = refl
+move_stands (Cell dims) move = refl
+move_stands (Range query upto) move = either_both (is_within query.after upto move.id) (answers_query query.concept query.period) move.old move.new
+
+moves_hit : (part : Part) (n : ℕ) (fact_changes : List FactChange) → hits part (flat_map (stamps_of_change n) fact_changes) ≡ is_touched fact_changes part
+moves_hit part n [] = refl
+moves_hit part n (move ∷ fact_changes) =
+    list_any-append (λ s. is_eq (among_side (part_among part) s)) (stamps_of_change n move) (flat_map (stamps_of_change n) fact_changes)
+    ∙ (λ i. (list_any-append (λ s. is_eq (among_side (part_among part) s))
+    (stamps_if_there n (option_map (λ f. (move.id, f)) move.old))
+    (stamps_beside n (option_map (λ f. (move.id, f)) move.old) (option_map (λ f. (move.id, f)) move.new))
+    ∙ both_hit part n move.id move.old move.new ∙ move_stands part move) i || moves_hit part n fact_changes i)
+
+fact_has : (n : ℕ) (id : Text) (fact : Option Fact) → AllHave (λ s. s.number) n (stamps_if_there n (option_map (λ f. (id, f)) fact))
+fact_has n id None = tt
+fact_has n id (Some fact) = (refl, (refl, (refl, (refl, tt))))
+
+beside_has : (n : ℕ) (id : Text) (old new : Option Fact)
+    → AllHave (λ s. s.number) n (stamps_beside n (option_map (λ f. (id, f)) old) (option_map (λ f. (id, f)) new))
+beside_has n id old None = tt
+beside_has n id None (Some new) = fact_has n id (Some new)
+beside_has n id (Some old) (Some new) = by (dims_eq old.dims new.dims)
+  where
+    by : (same : Bool) → AllHave (λ s. s.number) n (cond same [] (stamps_of n (id, new)))
+    by true = tt
+    by false = fact_has n id (Some new)
+
+both_have : (n : ℕ) (xs ys : List Stamp) → AllHave (λ s. s.number) n xs → AllHave (λ s. s.number) n ys → AllHave (λ s. s.number) n (xs ++ ys)
+both_have n [] ys a b = b
+both_have n (x ∷ xs) ys a b = (a.0, both_have n xs ys a.1 b)
+
+moves_have : (n : ℕ) (fact_changes : List FactChange) → AllHave (λ s. s.number) n (flat_map (stamps_of_change n) fact_changes)
+moves_have n [] = tt
+moves_have n (move ∷ fact_changes) =
+    both_have n (stamps_of_change n move) (flat_map (stamps_of_change n) fact_changes)
+    (both_have n (stamps_if_there n (option_map (λ f. (move.id, f)) move.old))
+    (stamps_beside n (option_map (λ f. (move.id, f)) move.old) (option_map (λ f. (move.id, f)) move.new))
+    (fact_has n move.id move.old) (beside_has n move.id move.old move.new))
+    (moves_have n fact_changes)
+
+pub puts_of_these : {left these : List Stamp} {changes others : List (Edit Stamp)} → left ≡ these → others ≡ changes → ArePuts left changes → ArePuts these others
+puts_of_these {left} {these} {changes} {others} e same are = subst (λ (ss : List Stamp). ArePuts ss others) e (subst (λ (cs : List (Edit Stamp)). ArePuts left cs) (sym same) are)
+
+-- stamps of fact changes that are put in: what they touch has their number, all else keeps its own
+pub stamped : (fact_changes : List FactChange) (n : ℕ) (stamps : List Stamp) (changes : List (Edit Stamp)) → ArePuts (stamps_of_changes n fact_changes) changes
+    → ((part : Part) → stamp_in stamps part ≤ n) → stamp_in (with_changes stamp_cmp changes stamps) ≡ stamped_by fact_changes n (stamp_in stamps)
+stamped fact_changes n stamps changes are upto = λ i part. at part i
+  where
+    at : (part : Part) → stamp_in (with_changes stamp_cmp changes stamps) part ≡ stamped_by fact_changes n (stamp_in stamps) part
+    at part =
+        ap (λ (cs : List (Edit Stamp)). stamp_in (with_changes stamp_cmp cs stamps) part) are.puts
+        ∙ put_all stamp_cmp (λ s. s.number) (among_side (part_among part)) (among_alike (part_among part)) n are.entries stamps
+        (are.numbered n (moves_have n fact_changes)) (upto part)
+        ∙ ap (λ b. cond b n (stamp_in stamps part))
+        (are.alike (λ s. is_eq (among_side (part_among part) s)) (λ x y e. ap is_eq (among_alike (part_among part) x y e)) ∙ moves_hit part n fact_changes)
+
+-- no part has more than the number of the last fact changes
+pub stamped_upto : (fact_changes : List FactChange) (n : ℕ) (old new : Part → ℕ) → ((part : Part) → old part ≤ n) → new ≡ stamped_by fact_changes n old
+    → (part : Part) → new part ≤ n
+stamped_upto fact_changes n old new h e part = subst (λ f. f part ≤ n) (sym e) (by (is_touched fact_changes part))
+  where
+    by : (b : Bool) → cond b n (old part) ≤ n
+    by true = omega arith
+    by false = h part

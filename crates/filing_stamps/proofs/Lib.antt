@@ -1,0 +1,4 @@
+pub mod StampTies
+pub mod PutNumbers
+pub mod ChangedParts
+pub mod GatheredStamps

@@ -1,0 +1,205 @@
+-- The stamps of one report: what touched facts leave behind, each with the number of the last touch. The project's own.
+use Rattle.std.specs.Prelude.{◌≡◌, ℕ, ◌+◌, ◌*◌, ◌/◌, min, Bool, true, false, cond, not}
+use Rattle.std.specs.Prelude.{List, [], ◌∷◌, ◌++◌, map, Option, Some, None}
+use Rattle.std.specs.List.{AllByRecursion, flat_map, list_any}
+use Rattle.std.specs.Option.{option_cmp, option_map, option_map_or}
+use Rattle.std.specs.Ordering.{on, then_cmp, ordering_then, nat_cmp, is_lt}
+use Rattle.std.specs.declared.cmp.Ordering.{Ordering}
+use Rattle.std.specs.declared.cmp.Ordering.TheVariants.{Less, Equal, Greater}
+use Rattle.sorted_pages.specs.Pages.{greatest}
+use Rattle.sorted_pages.specs.declared.edit.Edit.{Edit}
+use Rattle.sorted_pages.specs.declared.edit.Edit.TheVariants.{Put}
+use Rattle.sorted_pages.specs.Ranges.{within}
+use Rattle.filing_model.specs.Common.Text.{Text, text_cmp}
+use Rattle.filing_model.specs.Oim.Dimensions.{Dims, dims_cmp, dims_eq, concept_of, period_of}
+use Rattle.filing_model.specs.Oim.Facts.{Fact}
+use Rattle.filing_model.specs.Sessions.Queries.{is_after}
+use Rattle.filing_model.specs.Sessions.Calls.{PeriodFilter, Any, Without, Exactly}
+use Rattle.filing_facts.specs.Hashes.{hash_of_dims, hash_of_concept, hash_of_period}
+use Rattle.text_map.specs.Heads.{name_key}
+use Rattle.filing_facts.specs.FactChanges.{FactChange, Part, Id, Cell, Range}
+use Rattle.filing_stamps.specs.declared.stamp.StampKind.{StampKind}
+use Rattle.filing_stamps.specs.declared.stamp.StampKind.TheVariants as kind
+
+-- ---- stamps and their order
+
+-- what a stamp looks at in the dimensions of a fact: nothing, all of them, a concept, or a concept with a period or none
+pub record Group : Type 0 where
+  pub dims : Option Dims
+  pub concept : Option Text
+  pub period : Option (Option Text)
+
+abbrev pub no_group : Group
+no_group = record { dims = None; concept = None; period = None }
+
+abbrev pub group_cmp : Group → Group → Ordering
+group_cmp =
+    then_cmp (on (λ g. g.dims) (option_cmp dims_cmp))
+    (then_cmp (on (λ g. g.concept) (option_cmp text_cmp)) (on (λ g. g.period) (option_cmp (option_cmp text_cmp))))
+
+-- the code of what is looked at: a hash, or 0 of nothing
+abbrev pub code_of_parts : Option Dims → Option Text → Option (Option Text) → ℕ
+code_of_parts (Some dims) concept period = hash_of_dims dims
+code_of_parts None (Some concept) None = hash_of_concept concept
+code_of_parts None (Some concept) (Some period) = hash_of_period concept period
+code_of_parts None None period = 0
+
+abbrev pub group_code : Group → ℕ
+group_code group = code_of_parts group.dims group.concept group.period
+
+-- the rank of its kind, its code, the group, an identifier or nothing, and the number of the last touch
+pub record Stamp : Type 0 where
+  pub rank : ℕ
+  pub code : ℕ
+  pub group : Group
+  pub id : Text
+  pub number : ℕ
+
+-- the code comes early because it is fast to compare. The number takes no part
+abbrev pub stamp_cmp : Stamp → Stamp → Ordering
+stamp_cmp =
+    then_cmp (on (λ s. s.rank) nat_cmp) (then_cmp (on (λ s. s.code) nat_cmp)
+    (then_cmp (on (λ s. s.group) group_cmp) (on (λ s. s.id) text_cmp)))
+
+-- a number that never falls where stamps rise: the rank, then the code without its last two bits
+abbrev pub stamp_key : ℕ → ℕ → ℕ
+stamp_key rank code = rank * 4611686018427387904 + min (code / 4) 4611686018427387903
+
+-- ---- the stamps that a fact leaves
+
+abbrev pub rank_of : StampKind → ℕ
+rank_of kind.Identifier = 0
+rank_of kind.Cell = 1
+rank_of kind.AnyPeriod = 2
+rank_of kind.OnePeriod = 3
+
+abbrev pub group_of : StampKind → Dims → Group
+group_of kind.Identifier dims = no_group
+group_of kind.Cell dims = record no_group { dims = Some dims }
+group_of kind.AnyPeriod dims = record no_group { concept = concept_of dims }
+group_of kind.OnePeriod dims = record no_group { concept = concept_of dims; period = Some (period_of dims) }
+
+-- a cell has one stamp for all its identifiers
+abbrev pub id_of : StampKind → Text → Text
+id_of kind.Identifier id = id
+id_of kind.Cell id = []
+id_of kind.AnyPeriod id = id
+id_of kind.OnePeriod id = id
+
+-- the stamp of a kind that a fact under its identifier leaves
+abbrev pub stamp_of : StampKind → ℕ → ℕ → Text × Fact → Stamp
+stamp_of stamp_kind code number held =
+    record {
+      rank = rank_of stamp_kind;
+      code = code;
+      group = group_of stamp_kind held.1.dims;
+      id = id_of stamp_kind held.0;
+      number = number;
+    }
+
+-- the code of a stamp: that of its group, but of an identifier the key of its name
+abbrev pub stamp_code : StampKind → Text × Fact → ℕ
+stamp_code kind.Identifier held = name_key held.0
+stamp_code kind.Cell held = group_code (group_of kind.Cell held.1.dims)
+stamp_code kind.AnyPeriod held = group_code (group_of kind.AnyPeriod held.1.dims)
+stamp_code kind.OnePeriod held = group_code (group_of kind.OnePeriod held.1.dims)
+
+-- the same, under its code
+abbrev pub coded_stamp : StampKind → ℕ → Text × Fact → Stamp
+coded_stamp stamp_kind number held = stamp_of stamp_kind (stamp_code stamp_kind held) number held
+
+-- one of each kind
+abbrev pub stamps_of : ℕ → Text × Fact → List Stamp
+stamps_of number held =
+    coded_stamp kind.Identifier number held ∷ coded_stamp kind.Cell number held ∷ coded_stamp kind.AnyPeriod number held
+    ∷ coded_stamp kind.OnePeriod number held ∷ []
+
+abbrev pub stamps_if_there : ℕ → Option (Text × Fact) → List Stamp
+stamps_if_there number None = []
+stamps_if_there number (Some held) = stamps_of number held
+
+-- whether a fact, where there was one, had these dimensions
+abbrev pub had_dims : Option (Text × Fact) → Dims → Bool
+had_dims None dims = false
+had_dims (Some held) dims = dims_eq held.1.dims dims
+
+-- what the new fact of an identifier leaves beside what the old one leaves: nothing where that had the same dimensions
+abbrev pub stamps_beside : ℕ → Option (Text × Fact) → Option (Text × Fact) → List Stamp
+stamps_beside number old None = []
+stamps_beside number old (Some held) = cond (had_dims old held.1.dims) [] (stamps_of number held)
+
+-- of the fact before and of the fact after
+abbrev pub stamps_of_change : ℕ → FactChange → List Stamp
+stamps_of_change number move =
+    stamps_if_there number (option_map (λ f. (move.id, f)) move.old)
+    ++ stamps_beside number (option_map (λ f. (move.id, f)) move.old) (option_map (λ f. (move.id, f)) move.new)
+
+-- each that fact changes leave, some more than once
+abbrev pub stamps_of_changes : ℕ → List FactChange → List Stamp
+stamps_of_changes number fact_changes = flat_map (stamps_of_change number) fact_changes
+
+-- puts of stamps, each of these or of one that ties with it: they have the one number that all of these have, and nothing that
+-- treats those that tie alike tells them from these
+pub record ArePuts (stamps : List Stamp) (changes : List (Edit Stamp)) : Type 0 where
+  pub entries : List Stamp
+  pub puts : changes ≡ map Put entries
+  pub numbered : (n : ℕ) → AllByRecursion (λ s. s.number ≡ n) stamps → AllByRecursion (λ s. s.number ≡ n) entries
+  pub alike : (test : Stamp → Bool) → ((x y : Stamp) → stamp_cmp x y ≡ Equal → test x ≡ test y)
+      → list_any test entries ≡ list_any test stamps
+
+-- ---- the stamp of a part
+
+-- one identifier; or those greater than one, where it is given, and not greater than another, where that is given
+pub data IdRange : Type 0 where
+  Only : Text → IdRange
+  Between : Option Text → Option Text → IdRange
+
+abbrev pub is_upto : Option Text → Text → Bool
+is_upto upto id = option_map_or (λ last. not (is_lt (text_cmp last id))) upto true
+
+-- how an identifier stands to such a range
+abbrev pub ids_side : IdRange → Text → Ordering
+ids_side (Only id) other = text_cmp other id
+ids_side (Between after upto) id = cond (is_after after id) (cond (is_upto upto id) Equal Greater) Less
+
+-- the stamps of one kind, code and group with identifiers in a range
+pub record Among : Type 0 where
+  pub rank : ℕ
+  pub code : ℕ
+  pub group : Group
+  pub ids : IdRange
+
+-- how a stamp stands to them
+abbrev pub among_side : Among → Stamp → Ordering
+among_side among s =
+    ordering_then (nat_cmp s.rank among.rank) (ordering_then (nat_cmp s.code among.code)
+    (ordering_then (group_cmp s.group among.group) (ids_side among.ids s.id)))
+
+abbrev pub asked_kind : PeriodFilter → StampKind
+asked_kind Any = kind.AnyPeriod
+asked_kind Without = kind.OnePeriod
+asked_kind (Exactly text) = kind.OnePeriod
+
+abbrev pub asked_period : PeriodFilter → Option (Option Text)
+asked_period Any = None
+asked_period Without = Some None
+asked_period (Exactly text) = Some (Some text)
+
+-- those of one kind and group
+abbrev pub among_group : StampKind → Group → IdRange → Among
+among_group stamp_kind group ids =
+    record { rank = rank_of stamp_kind; code = group_code group; group = group; ids = ids }
+
+-- those of a part
+abbrev pub part_among : Part → Among
+part_among (Id id) = record { rank = rank_of kind.Identifier; code = name_key id; group = no_group; ids = Only id }
+part_among (Cell dims) = among_group kind.Cell (record no_group { dims = Some dims }) (Between None None)
+part_among (Range query upto) =
+    among_group (asked_kind query.period) (record no_group {
+      concept = Some query.concept;
+      period = asked_period query.period;
+    }) (Between query.after upto)
+
+-- the number of the last touch of a part, or 0 where none was
+abbrev pub stamp_in : List Stamp → Part → ℕ
+stamp_in stamps part = greatest (λ s. s.number) (within (among_side (part_among part)) stamps)

@@ -1,0 +1,14 @@
+//! The number of the last touch of each part of one report.
+//!
+//! - `stamps`: the stamps that touched facts left, and the number of each part by them.
+//! - `stamp`: one of them, which compares by what it stands for.
+//! - `stamp_spans`: where the stamps of a part stand among the others.
+//!
+//! It knows nothing of how facts are found, of other reports, of versions or of sessions.
+#![tactic(auto)]
+
+mod stamp;
+mod stamp_spans;
+mod stamps;
+
+pub use stamps::Stamps;

@@ -1,0 +1,364 @@
+//! What a touched fact leaves: stamps, which compare by what they stand for.
+ghost use Rattle.std.specs.Prelude.{◌≡◌, refl, option_copied, option_map, IfOk, Some};
+ghost use Rattle.std.specs.Cmp.{eq_by_cmp_equiv, partial_equiv_from_equiv, partial_order_from_agreeing_total};
+ghost use Rattle.std.specs.Ordering.{eq_by_cmp, ordering_then};
+ghost use Rattle.std.specs.Option.{option_cmp};
+ghost use Rattle.filing_model.specs.Common.Text.{text_cmp};
+ghost use Rattle.filing_model.specs.Oim.Dimensions.{dims_cmp};
+ghost use Rattle.filing_stamps.specs.Stamps.{no_group, rank_of, group_of, id_of, group_cmp, group_code, coded_stamp, stamp_cmp, stamp_code, stamp_key};
+ghost use Rattle.filing_stamps.specs.StampKeys.{stamp_keys_rise};
+ghost use Rattle.filing_stamps.specs.StampOrders.{stamp_cmp-total};
+
+use filing_facts::{IndexedFact, hash_of_concept, hash_of_dims, hash_of_period};
+use oim_fact::DimSet;
+use sorted_pages::{Numbered, PageEntry};
+use std::alloc::AllocError;
+use std::cmp::Ordering;
+use std::marker::Model;
+use text_map::{NamedValue, SoughtName};
+
+/// What a stamp stands for.
+#[derive(Clone, Copy, Debug, PartialEq, Eq)]
+pub(crate) enum StampKind {
+    /// An identifier.
+    Identifier,
+    /// The facts of one dimension set.
+    Cell,
+    /// An identifier among the facts of a concept, for pages of any period.
+    AnyPeriod,
+    /// An identifier among the facts of a concept and a period, or none.
+    OnePeriod,
+}
+
+impl StampKind {
+    /// Its place among the kinds.
+    pub(crate) fn rank(self) -> u8
+        ensures { result ≡ rank_of self }
+    {
+        self as u8
+    }
+
+    /// The key of the stamps of this kind with a code: the rank in two bits, then the code without its last two.
+    pub(crate) fn key(self, code: u64) -> u64
+        ensures { result ≡ stamp_key (rank_of self) code }
+    {
+        u64::from(self.rank()) * (1 << 62) + code / 4
+    }
+
+    /// What a stamp of this kind looks at in a fact.
+    pub(crate) fn group(self, held: &IndexedFact) -> Group<'_>
+        ensures { result ≡ group_of self held.now.dims }
+    {
+        match self {
+            StampKind::Identifier => Group::none(),
+            StampKind::Cell => Group::of_cell(&held.fact().dims),
+            StampKind::AnyPeriod => Group::of_concept(held.concept()),
+            StampKind::OnePeriod => Group::of_period(held.concept(), held.period()),
+        }
+    }
+
+    /// The code of the stamp of this kind that a fact leaves: of an identifier the key of its name, else a hash.
+    fn code(self, held: &NamedValue<IndexedFact>) -> u64
+        ensures { result ≡ stamp_code self held.now }
+    {
+        match self {
+            StampKind::Identifier => held.key(),
+            StampKind::Cell => held.value().cell_hash(),
+            StampKind::AnyPeriod => held.value().concept_hash(),
+            StampKind::OnePeriod => held.value().period_hash(),
+        }
+    }
+}
+
+/// How texts stand to each other that may be missing.
+fn order_texts(one: Option<&str>, other: Option<&str>) -> Ordering
+    ensures { result ≡ option_cmp text_cmp (option_map (λ t. t.now) one.entry) (option_map (λ t. t.now) other.entry) }
+{
+    one.cmp(&other)
+}
+
+/// How dimension sets stand to each other that may be missing.
+fn order_dims(one: Option<&DimSet>, other: Option<&DimSet>) -> Ordering
+    ensures { result ≡ option_cmp dims_cmp (option_copied one.entry) (option_copied other.entry) }
+{
+    one.cmp(&other)
+}
+
+/// How periods stand to each other that are none, and that may not be looked at.
+fn order_periods(one: Option<Option<&str>>, other: Option<Option<&str>>) -> Ordering
+    ensures { result ≡ option_cmp (option_cmp text_cmp) (option_map (option_map (λ t. t.now)) one.entry)
+        (option_map (option_map (λ t. t.now)) other.entry) }
+{
+    one.cmp(&other)
+}
+
+/// What a stamp looks at in the dimensions of a fact: all of them, or a concept, with a period or none or without. Contracts see the parts.
+#[derive(Drop)]
+pub(crate) struct Group<'a> {
+    dims: Option<&'a DimSet>,
+    concept: Option<&'a str>,
+    period: Option<Option<&'a str>>,
+}
+
+impl<'a> Model for Group<'a> {
+    ghost use Rattle.std.specs.Prelude.{option_copied, option_map};
+    ghost use Rattle.filing_stamps.specs.Stamps.{Group as PlainGroup};
+
+    ghost Value = { PlainGroup };
+
+    ghost view = { λ g.
+        record {
+          dims = option_copied g.dims;
+          concept = option_map (λ t. t.now) g.concept;
+          period = option_map (option_map (λ t. t.now)) g.period;
+        } };
+}
+
+impl<'a> Group<'a> {
+    pub(crate) fn none() -> Group<'a>
+        ensures { result ≡ no_group }
+    {
+        Group {
+            dims: None,
+            concept: None,
+            period: None,
+        }
+    }
+
+    pub(crate) fn of_cell(dims: &'a DimSet) -> Group<'a>
+        ensures { result ≡ record no_group { dims = Some dims.now } }
+    {
+        Group {
+            dims: Some(dims),
+            concept: None,
+            period: None,
+        }
+    }
+
+    pub(crate) fn of_concept(concept: &'a str) -> Group<'a>
+        ensures { result ≡ record no_group { concept = Some concept.now } }
+    {
+        Group {
+            dims: None,
+            concept: Some(concept),
+            period: None,
+        }
+    }
+
+    pub(crate) fn of_period(concept: &'a str, period: Option<&'a str>) -> Group<'a>
+        ensures { result
+            ≡ record no_group { concept = Some concept.now; period = Some (option_map (λ t. t.now) period.entry) } }
+    {
+        Group {
+            dims: None,
+            concept: Some(concept),
+            period: Some(period),
+        }
+    }
+
+    pub(crate) fn order(&self, other: &Group<'_>) -> Ordering
+        ensures { result ≡ group_cmp self.now other.now }
+    {
+        order_dims(self.dims, other.dims)
+            .then(order_texts(self.concept, other.concept))
+            .then(order_periods(self.period, other.period))
+    }
+
+    /// The code of what is looked at: a hash, or 0 of nothing.
+    pub(crate) fn code(&self) -> u64
+        ensures { result ≡ group_code self.now }
+    {
+        match (self.dims, self.concept, self.period) {
+            (Some(dims), _, _) => hash_of_dims(dims),
+            (None, Some(concept), None) => hash_of_concept(concept),
+            (None, Some(concept), Some(period)) => hash_of_period(concept, period),
+            (None, None, _) => 0,
+        }
+    }
+}
+
+/// The number of the last touch of what a fact stands in.
+///
+/// It compares by what it stands for, which is read from the fact. The number takes no part.
+#[derive(Drop)]
+pub(crate) struct Stamp {
+    kind: StampKind,
+    code: u64,
+    number: u64,
+    held: NamedValue<IndexedFact>,
+}
+
+impl Model for Stamp {
+    ghost use Rattle.filing_stamps.specs.Stamps.{Stamp as PlainStamp, stamp_of};
+
+    ghost Value = { PlainStamp };
+
+    ghost view = { λ s. stamp_of s.kind s.code s.number s.held };
+}
+
+impl Stamp {
+    /// The stamp of a kind that a fact leaves.
+    pub(crate) fn of(
+        kind: StampKind,
+        held: &NamedValue<IndexedFact>,
+        number: u64,
+    ) -> Result<Stamp, AllocError>
+        ensures { IfOk result (λ s. s ≡ coded_stamp kind number held.now) }
+    {
+        let code = kind.code(held);
+        let held = held.share()?;
+        Ok(Stamp {
+            kind,
+            code,
+            number,
+            held,
+        })
+    }
+
+    pub(crate) fn rank(&self) -> u8
+        ensures { result ≡ self.now.rank }
+    {
+        self.kind.rank()
+    }
+
+    pub(crate) fn code(&self) -> u64
+        ensures { result ≡ self.now.code }
+    {
+        self.code
+    }
+
+    pub(crate) fn group(&self) -> Group<'_>
+        ensures { result ≡ self.now.group }
+    {
+        self.kind.group(self.held.value())
+    }
+
+    /// The identifier, or nothing where the stamp is for all of a cell.
+    pub(crate) fn id(&self) -> &str
+        ensures { result.now ≡ self.now.id }
+    {
+        match self.kind {
+            StampKind::Cell => "",
+            StampKind::Identifier | StampKind::AnyPeriod | StampKind::OnePeriod => self.held.name(),
+        }
+    }
+
+    /// How its identifier stands to one that is looked for.
+    pub(crate) fn order_sought(&self, id: &SoughtName<'_>) -> Ordering
+        ensures { result ≡ text_cmp self.now.id id.now }
+    {
+        match self.kind {
+            StampKind::Cell => self.id().cmp(id.name()),
+            StampKind::Identifier | StampKind::AnyPeriod | StampKind::OnePeriod => {
+                self.held.order_sought(id)
+            }
+        }
+    }
+
+    /// How its identifier stands to that of another stamp.
+    fn order_ids(&self, other: &Stamp) -> Ordering
+        ensures { result ≡ text_cmp self.now.id other.now.id }
+    {
+        match (self.kind, other.kind) {
+            (StampKind::Cell, _) | (_, StampKind::Cell) => self.id().cmp(other.id()),
+            _ => self.held.order(&other.held),
+        }
+    }
+
+    /// How it stands to another stamp with the same rank and code.
+    fn order_alike(&self, other: &Stamp) -> Ordering
+        ensures { result ≡ ordering_then (group_cmp self.now.group other.now.group)
+            (text_cmp self.now.id other.now.id) }
+    {
+        match self.group().order(&other.group()) {
+            Ordering::Equal => self.order_ids(other),
+            order => order,
+        }
+    }
+}
+
+impl PartialEq for Stamp {
+    ghost eq = { eq_by_cmp stamp_cmp };
+
+    ghost laws = { partial_equiv_from_equiv (eq_by_cmp_equiv stamp_cmp-total) };
+
+    fn eq(&self, other: &Stamp) -> bool {
+        self.cmp(other).is_eq()
+    }
+}
+
+impl Eq for Stamp {
+    ghost laws = { eq_by_cmp_equiv stamp_cmp-total };
+}
+
+impl PartialOrd for Stamp {
+    ghost partial_cmp = { λ x y. Some (stamp_cmp x y) };
+
+    ghost laws = { partial_order_from_agreeing_total stamp_cmp stamp_cmp-total (λ x y. refl) (λ x y. refl) };
+
+    fn partial_cmp(&self, other: &Stamp) -> Option<Ordering> {
+        Some(self.cmp(other))
+    }
+}
+
+impl Ord for Stamp {
+    ghost cmp = { stamp_cmp };
+
+    ghost total = { stamp_cmp-total };
+
+    ghost matches_partial_cmp = { λ x y. refl };
+
+    ghost matches_eq = { λ x y. refl };
+
+    fn cmp(&self, other: &Stamp) -> Ordering {
+        match (self.rank(), self.code()).cmp(&(other.rank(), other.code())) {
+            Ordering::Equal => self.order_alike(other),
+            order => order,
+        }
+    }
+}
+
+impl Numbered for Stamp {
+    ghost max_number = { λ s. s.number };
+
+    fn max_number(&self) -> u64 {
+        self.number
+    }
+}
+
+impl PageEntry for Stamp {
+    ghost order = { stamp_cmp };
+
+    ghost is_total = { stamp_cmp-total };
+
+    ghost key = { λ s. stamp_key s.rank s.code };
+
+    ghost key_rises = { stamp_keys_rise };
+
+    /// As of facts under their identifiers.
+    fn most_in_page() -> usize {
+        16
+    }
+
+    fn key(&self) -> u64 {
+        self.kind.key(self.code)
+    }
+
+    fn order(&self, other: &Stamp) -> Ordering {
+        self.cmp(other)
+    }
+
+    fn owners(&self) -> usize {
+        self.held.owners()
+    }
+
+    fn share(&self) -> Result<Stamp, AllocError> {
+        let held = self.held.share()?;
+        Ok(Stamp {
+            kind: self.kind,
+            code: self.code,
+            number: self.number,
+            held,
+        })
+    }
+}

@@ -1,0 +1,7 @@
+use Rattle.std.specs.Arc.{arc_value}
+use Rattle.filing_threads.specs.Batches.{AreBatch}
+use Rattle.filing_threads.proofs.batch.Batch.read.Given as goal
+
+-- the lines before the rest are classified
+abbrev pub invariant-loop : goal.invariant-loop
+invariant-loop l = AreBatch (arc_value l.table) l.text l.rest l.batch

@@ -1,0 +1,26 @@
+//! Scripts in threads: each script has a desk and a reviewer of an office, and a thread of its own.
+//!
+//! - `batch`: takes a script's lines some at a time, and has each classified.
+//! - `script_task`: a script at its desk, in a thread: it has a batch classified, takes its steps in one locked batch, and appends the replies.
+//! - `office`: opens an office with a desk and a reviewer for each script, and hands the tasks to `run_tasks`.
+//! - `replies`: what the lines are told.
+//! - `written`: writes that, one script after the other, once all have ended.
+//! - `watch`: is told of each step, for whoever waits, and is given what is left at the end.
+//! - `threads`: the whole.
+//! - `fault`: why scripts did not run to their ends.
+//!
+//! Classifying, reviews and putting replies together need no lock: under that of the office are steps, and what a desk notes between two of them. It knows nothing of how a step is answered, of files, or of a history.
+#![tactic(auto)]
+
+mod batch;
+mod fault;
+mod office;
+mod replies;
+mod script_task;
+mod threads;
+mod watch;
+mod written;
+
+pub use fault::ThreadsFault;
+pub use threads::{run_threads, run_threads_watched};
+pub use watch::{Unwatched, Watch};

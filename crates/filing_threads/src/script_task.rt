@@ -1,0 +1,136 @@
+//! `ScriptTask`: a script that is run at a desk, some lines at a time.
+
+ghost use Rattle.std.specs.Prelude.{◌≡◌, List, IfOk, OnOk, string_bytes};
+ghost use Rattle.std.specs.Arc.{arc_value};
+ghost use Rattle.filing_office.specs.declared.outcome.Outcome.{Outcome as Told};
+ghost use Rattle.filing_office.specs.Runs.{IsLearnt};
+ghost use Rattle.filing_threads.specs.ScriptRuns.{IsScriptRun};
+ghost use Rattle.filing_threads.specs.UnderWay.{LetsGo, TakesBatch};
+
+use crate::batch::Batch;
+use crate::replies::{Ending, Replies, push_replies};
+use filing_office::{Access, DeskTask, Gate, NamedDesk, Naming, Outcome, take_steps};
+use oim_fact::NumericTable;
+use std::alloc::{AllocError, Global};
+use std::sync::Arc;
+use std::sync::ledger::Ledger;
+
+/// A script that is to be run at a desk.
+#[derive(Drop)]
+pub(crate) struct ScriptTask<'a> {
+    pub(crate) script: &'a [u8],
+    pub(crate) table: &'a Arc<NumericTable>,
+}
+
+/// Lets what became of steps go once the reviewer has learnt the receipts, each of which keeps a version. Where it cannot learn them, all is kept.
+fn let_go<L: Ledger + Naming, M: Ledger>(
+    named_desk: &mut NamedDesk<L, M>,
+    outcomes: &mut Vec<Outcome<L>>,
+)
+    requires { IsLearnt named_desk.old outcomes.old.items }
+    ensures learnt { IsLearnt named_desk.new outcomes.new.items }
+    ensures lets_go { LetsGo named_desk.old.state named_desk.new.state outcomes.old.items outcomes.new.items }
+{
+    match named_desk.learn(outcomes) {
+        Ok(()) => outcomes.clear(),
+        Err(AllocError) => {}
+    }
+}
+
+/// Takes the steps of some lines, and appends the replies to them. Whether each line has its reply.
+fn take_batch<L: Ledger + Naming, M: Ledger, A: Access<L, M>, G: Gate>(
+    access: &mut A,
+    gate: &G,
+    place: usize,
+    batch: Batch,
+    named_desk: &mut NamedDesk<L, M>,
+    outcomes: &mut Vec<Outcome<L>>,
+    text: &mut String,
+) -> Result<bool, AllocError>
+    requires { IsLearnt named_desk.old outcomes.old.items }
+    ensures learnt { OnOk result (IsLearnt named_desk.new outcomes.new.items) }
+    ensures taken { IfOk result (TakesBatch batch.told.items batch.steps.items named_desk.old.state named_desk.new.state
+        outcomes.old.items outcomes.new.items (string_bytes text.old) (string_bytes text.new)) }
+{
+    let before = outcomes.len();
+    if let Err(error) = outcomes.reserve(batch.steps.len()) {
+        drop(batch);
+        return Err(error);
+    }
+    let Batch { told, steps } = batch;
+    take_steps(access, gate, place, named_desk, steps, outcomes);
+    access.leave();
+    let whole = push_replies(text, &told, &outcomes[before..]);
+    drop(told);
+    let whole = whole?;
+    let_go(named_desk, outcomes);
+    Ok(whole)
+}
+
+/// Classifies the lines of a script and takes their steps, some at a time: while the steps of other scripts are taken, lines are classified and replies are put together.
+fn take_lines<L: Ledger + Naming, M: Ledger, A: Access<L, M>, G: Gate>(
+    alloc: Global,
+    table: &Arc<NumericTable>,
+    script: &[u8],
+    access: &mut A,
+    gate: &G,
+    place: usize,
+    named_desk: &mut NamedDesk<L, M>,
+) -> Result<Replies, AllocError>
+    requires { (told : List (Told L)) → IsLearnt named_desk.old told }
+    ensures { IfOk result (IsScriptRun L (arc_value table.now) script.now named_desk.old.state) }
+{
+    let mut outcomes = Vec::new(alloc);
+    let mut text = String::new(alloc);
+    let mut rest = script;
+    let ending = loop {
+        let Ok(read) = Batch::read(alloc, rest, table) else {
+            break Ending::LineStarved;
+        };
+        let Some((batch, others)) = read else {
+            break Ending::Whole;
+        };
+        rest = others;
+        if !take_batch(
+            access,
+            gate,
+            place,
+            batch,
+            named_desk,
+            &mut outcomes,
+            &mut text,
+        )? {
+            break Ending::StepStarved;
+        }
+    };
+    Ok(Replies { text, ending })
+}
+
+impl<'a, L: Ledger + Naming, M: Ledger> DeskTask<L, M, Result<Replies, AllocError>>
+    for ScriptTask<'a> {
+    ghost use Rattle.std.specs.Prelude.{IfOk};
+    ghost use Rattle.std.specs.Arc.{arc_value};
+    ghost use Rattle.filing_threads.specs.ScriptRuns.{IsScriptRun};
+
+    ghost leaves = { λ task s t replies.
+        IfOk replies (IsScriptRun L (arc_value task.table.now) task.script.now s) };
+
+    fn run<A: Access<L, M>, G: Gate>(
+        self,
+        alloc: Global,
+        access: &mut A,
+        gate: &G,
+        place: usize,
+        named_desk: &mut NamedDesk<L, M>,
+    ) -> Result<Replies, AllocError> {
+        take_lines(
+            alloc,
+            self.table,
+            self.script,
+            access,
+            gate,
+            place,
+            named_desk,
+        )
+    }
+}

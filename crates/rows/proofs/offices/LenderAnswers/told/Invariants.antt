@@ -1,5 +1,0 @@
-use Rattle.rows.proofs.offices.LenderAnswers.told.Given as goal
-
--- the book that was just opened
-abbrev pub ghosts-play_lent : goal.ghosts-play_lent
-ghosts-play_lent g a = record { book = a.press.seen.book }

@@ -1,0 +1,73 @@
+-- Where the report of a load stands in its line.
+use Rattle.std.proofs.Common.{◌≡◌, ◌∙◌, ap, sym, subst, refl, Bool, true, false, cond, codes, Option, Some, None}
+use Rattle.std.proofs.Common.{is_some, unwrap_or, option_and_then, ◌||◌, Result, Ok, Err, IfOk, String}
+use Rattle.std.proofs.Common.{string_bytes}
+use Rattle.std.specs.declared.alloc.Global.{Global}
+use Rattle.std.specs.declared.alloc.AllocError.{AllocError}
+use Rattle.serde_json.specs.Data.{Data}
+use Rattle.serde_json.specs.Find.{at, as_str, as_object}
+use Rattle.filing_model.specs.Common.Text.{text_eq}
+use Rattle.std.specs.Option.{option_map_or}
+use Rattle.filing_model.specs.Common.Text.{Text}
+use Rattle.script_format.specs.ReplyText.{bad_line_text}
+use Rattle.script_format.specs.Script.{State, ReplyNow, report_in, judged_load, judged_line, answered, value_answer}
+use Rattle.script_format.specs.ScriptLines.{◌>>=◌, Asking, Line, Load, Open, Ask, Commit, Close, Export}
+use Rattle.script_format.proofs.LinesByWord.{HoldsOfOthers, of_word, then}
+use Rattle.script_format.specs.ScriptLines.{kind_of_word, text_at, ends_at, load_of, open_of, commit_of, close_of}
+use Rattle.script_format.specs.ScriptLines.{export_of, asking_at, asking_of_word, line_of_word, line_of}
+
+-- a load has its report as the third part of the value
+abbrev pub HasReport : Data → Option Line → Type 0
+HasReport d None = Unit {0}
+HasReport d (Some (Load name r)) = at 2 d ≡ Some r
+HasReport d (Some (Open session kind)) = Unit {0}
+HasReport d (Some (Ask session asking)) = Unit {0}
+HasReport d (Some (Commit session)) = Unit {0}
+HasReport d (Some (Close session)) = Unit {0}
+HasReport d (Some (Export name)) = Unit {0}
+
+others : (d : Data) → HoldsOfOthers (HasReport d)
+others d = record { none = tt; opens = λ session kind. tt; commit = λ session. tt; close = λ session. tt; export = λ name. tt }
+
+of_load : (d : Data) → HasReport d (load_of d)
+of_load d =
+    then (HasReport d) (others d) (text_at 1 d) _ (λ name.
+    elim (at 2 d) as (λ o. at 2 d ≡ o → HasReport d
+    ((o >>= λ part. cond (is_some (as_object part) || is_some (as_str part)) (Some part) None)
+    >>= λ report. ends_at 3 d >>= λ ended. Some (Load name report))) [
+      | None ↦ λ _. tt
+      | Some part ↦ λ there. elim (is_some (as_object part) || is_some (as_str part)) as
+          (λ b. HasReport d (cond b (Some part) None >>= λ report. ends_at 3 d >>= λ ended. Some (Load name report))) [
+            | true ↦ then (HasReport d) (others d) (ends_at 3 d) _ (λ ended. there)
+            | false ↦ tt
+          ]
+    ] refl)
+
+of_asking_word : (d : Data) (word : Text) → HasReport d (asking_of_word word d)
+of_asking_word d word = then (HasReport d) (others d) (text_at 1 d) _ (λ session. thus d session (asking_at word 2 d))
+  where
+    thus : (d : Data) (session : Text) (o : Option Asking) → HasReport d (o >>= λ asking. Some (Ask session asking))
+    thus d session None = tt
+    thus d session (Some asking) = tt
+
+pub loaded_part : (d : Data) (name : Text) (r : Data) → Some (Load name r) ≡ line_of d → at 2 d ≡ Some r
+unfolding line_of
+loaded_part d name r is =
+    subst (HasReport d) (sym is) (then (HasReport d) (others d) (text_at 0 d) _
+    (λ word. of_word (HasReport d) (others d) d word (of_load d) (of_asking_word d word)))
+
+load_told : (state after : State) (d r report : Data) (key name text : Text) → Some (Load key r) ≡ line_of d → name ≡ key → Some report ≡ at 2 d
+    → answered state (judged_load state name (report_in state.table report)) ≡ (text, after) → value_answer state (Some d) ≡ (text, after)
+load_told state after d r report key name text is named part told =
+    let same : r ≡ report = ap (λ o. unwrap_or o r) (sym (part ∙ loaded_part d key r is)) in
+    ap (λ o. answered state (option_map_or (judged_line state) o (ReplyNow bad_line_text))) (sym is)
+    ∙ (λ i. answered state (judged_load state (sym named i) (report_in state.table (same i))))
+    ∙ told
+
+-- the answer to a load of the third part is that to the line
+pub load_answered : (result : Result (String Global) AllocError) (state after : State) (d r report : Data) (key name : Text)
+    → Some (Load key r) ≡ line_of d → name ≡ key → Some report ≡ at 2 d
+    → IfOk result (λ text. answered state (judged_load state name (report_in state.table report)) ≡ (string_bytes text, after))
+    → IfOk result (λ text. value_answer state (Some d) ≡ (string_bytes text, after))
+load_answered (Ok text) state after d r report key name is named part told = load_told state after d r report key name (string_bytes text) is named part told
+load_answered (Err e) state after d r report key name is named part told = told

@@ -1,0 +1,215 @@
+//! The step that a line asks of a session.
+
+ghost use Rattle.std.specs.Prelude.{◌≡◌, ◌+◌, ◌<◌, ◌^◌, Ok, Some, option_map, IfOk, string_bytes};
+ghost use Rattle.serde_json.specs.View.{view};
+ghost use Rattle.oim_fact.specs.Texts.{text_view};
+ghost use Rattle.filing_model.specs.Sessions.Calls as call;
+ghost use Rattle.filing_model.specs.Histories.History.{Ask};
+ghost use Rattle.filing_step.specs.PeriodFilter.{period_filter_of};
+ghost use Rattle.filing_step.specs.Steps.{step_of};
+ghost use Rattle.script_format.specs.ScriptLines as model;
+ghost use Rattle.script_format.specs.ReplyText.{told_fault};
+ghost use Rattle.script_format.specs.LineView.{asking_view, period_view};
+ghost use Rattle.script_format.specs.Script.{bad_dims_text, call_read};
+ghost use Rattle.script_format.specs.AskedStep.{AreAsked, IsAsked, asking_in};
+
+use crate::line::{Asking, Period, asking_at, taken_at, text_at};
+use crate::texts::{bad_fact_reply, bad_line_reply};
+use filing_model::Trouble;
+use filing_step::{Limit, PeriodFilter, Step};
+use oim_fact::own_text;
+use oim_report::{dimensions, dimensions_from, raw_fact, raw_fact_from};
+use serde_json::Value;
+use std::alloc::{AllocError, Global};
+
+/// The reply to dimensions that are refused. A line whose dimensions are not texts and nulls is a bad one. Want of memory is no reply.
+fn bad_dims_reply(alloc: Global, fault: Trouble) -> Result<String, AllocError>
+    ensures { IfOk result (λ text. Some (string_bytes text) ≡ option_map bad_dims_text (told_fault fault)) }
+{
+    match fault {
+        Trouble::WrongShape => String::from_str(alloc, bad_line_reply()),
+        fault => bad_fact_reply(alloc, fault),
+    }
+}
+
+/// The period that is asked for, with a text of its own.
+pub fn own_period(alloc: Global, period: &Period<'_>) -> Result<PeriodFilter, AllocError>
+    ensures { IfOk result (λ asked. period_filter_of asked ≡ period_view period.now) }
+{
+    match period {
+        Period::Any => Ok(PeriodFilter::Any),
+        Period::Without => Ok(PeriodFilter::Without),
+        Period::Text(text) => Ok(PeriodFilter::Text(String::from_str(alloc, text)?)),
+    }
+}
+
+/// The step that reads a page.
+fn page_step(
+    alloc: Global,
+    report: &str,
+    concept: &str,
+    period: &Period<'_>,
+    after: Option<&str>,
+    limit: Limit,
+) -> Result<Step, AllocError>
+    ensures { IfOk result (λ s. step_of s ≡ Ask (call.Page report.now (record {
+      concept = concept.now;
+      period = period_view period.now;
+      after = option_map (λ t. t.now) after.entry;
+    }) limit)) }
+{
+    Ok(Step::Page {
+        report: String::from_str(alloc, report)?,
+        concept: String::from_str(alloc, concept)?,
+        period: own_period(alloc, period)?,
+        after: own_text(alloc, after)?,
+        limit,
+    })
+}
+
+/// The step that reads a cell, or the reply to its dimensions.
+#[tactic(auto, using(crate::proofs::ToldFaults::cell_is_refused))]
+fn cell_asked(alloc: Global, report: &str, dims: &Value) -> Result<Result<Step, String>, AllocError>
+    ensures { IfOk result (λ asked. IsAsked asked (call_read (model.Cell report.now (view dims.now)))) }
+{
+    match dimensions(alloc, dims) {
+        Ok(dims) => Ok(Ok(Step::Cell {
+            report: String::from_str(alloc, report)?,
+            dims: dims.shared(alloc)?,
+        })),
+        Err(fault) => Ok(Err(bad_dims_reply(alloc, fault)?)),
+    }
+}
+
+/// The step that adds a fact, or the reply to it.
+#[tactic(auto, using(crate::proofs::ToldFaults::addition_is_refused))]
+fn add_asked(
+    alloc: Global,
+    report: &str,
+    id: &str,
+    fact: &Value,
+) -> Result<Result<Step, String>, AllocError>
+    ensures { IfOk result (λ asked. IsAsked asked (call_read (model.Add report.now id.now (view fact.now)))) }
+{
+    match raw_fact(alloc, fact) {
+        Ok(fact) => Ok(Ok(Step::Add {
+            report: String::from_str(alloc, report)?,
+            id: String::from_str(alloc, id)?,
+            fact: fact.shared(alloc)?,
+        })),
+        Err(fault) => Ok(Err(bad_fact_reply(alloc, fault)?)),
+    }
+}
+
+/// The step that a line asks of a session, or the reply that refuses its parts in reading.
+pub fn step_asked(alloc: Global, asking: &Asking<'_>) -> Result<Result<Step, String>, AllocError>
+    ensures { IfOk result (λ asked. IsAsked asked (call_read (asking_view asking.now))) }
+{
+    match asking {
+        Asking::Get { report, id } => Ok(Ok(Step::Get {
+            report: String::from_str(alloc, report)?,
+            id: String::from_str(alloc, id)?,
+        })),
+        Asking::Cell { report, dims } => cell_asked(alloc, report, dims),
+        Asking::Page {
+            report,
+            concept,
+            period,
+            after,
+            limit,
+        } => Ok(Ok(page_step(alloc, report, concept, period, *after, *limit)?)),
+        Asking::Add { report, id, fact } => add_asked(alloc, report, id, fact),
+        Asking::Remove { report, id } => Ok(Ok(Step::Remove {
+            report: String::from_str(alloc, report)?,
+            id: String::from_str(alloc, id)?,
+        })),
+        Asking::Declared { report } => Ok(Ok(Step::Declared {
+            report: String::from_str(alloc, report)?,
+        })),
+        Asking::Declare { report, allowed } => Ok(Ok(Step::Declare {
+            report: String::from_str(alloc, report)?,
+            allowed: *allowed,
+        })),
+    }
+}
+
+/// As `cell_asked`, of dimensions that are given up.
+#[tactic(auto, using(crate::proofs::ToldFaults::cell_is_refused))]
+fn cell_from(alloc: Global, report: String, dims: Value) -> Result<Result<Step, String>, AllocError>
+    ensures { IfOk result (λ asked. IsAsked asked (call_read (model.Cell (string_bytes report) (view dims)))) }
+{
+    match dimensions_from(alloc, dims) {
+        Ok(dims) => Ok(Ok(Step::Cell {
+            report,
+            dims: dims.shared(alloc)?,
+        })),
+        Err(fault) => Ok(Err(bad_dims_reply(alloc, fault)?)),
+    }
+}
+
+/// As `add_asked`, of a fact that is given up.
+#[tactic(auto, using(crate::proofs::ToldFaults::addition_is_refused))]
+fn add_from(
+    alloc: Global,
+    report: String,
+    id: String,
+    fact: Value,
+) -> Result<Result<Step, String>, AllocError>
+    ensures { IfOk result (λ asked. IsAsked asked
+        (call_read (model.Add (string_bytes report) (string_bytes id) (view fact)))) }
+{
+    match raw_fact_from(alloc, fact) {
+        Ok(fact) => Ok(Ok(Step::Add {
+            report,
+            id,
+            fact: fact.shared(alloc)?,
+        })),
+        Err(fault) => Ok(Err(bad_fact_reply(alloc, fault)?)),
+    }
+}
+
+/// The step that an array asks of a session, by its first text. Dimensions and a fact move out of it.
+fn step_in(
+    alloc: Global,
+    value: &mut Value,
+    place: usize,
+) -> Result<Option<Result<Step, String>>, AllocError>
+    requires { place + 6 < 2 ^ 64 }
+    ensures { IfOk result (λ asked. AreAsked asked (asking_in place (view value.old))) }
+{
+    let Some(word) = text_at(value, 0) else {
+        return Ok(None);
+    };
+    let Some(asking) = asking_at(word, value, place) else {
+        return Ok(None);
+    };
+    match asking {
+        Asking::Cell { report, .. } => {
+            let report = String::from_str(alloc, report)?;
+            let dims = taken_at(value, place + 1);
+            Ok(Some(cell_from(alloc, report, dims)?))
+        }
+        Asking::Add { report, id, .. } => {
+            let report = String::from_str(alloc, report)?;
+            let id = String::from_str(alloc, id)?;
+            let fact = taken_at(value, place + 2);
+            Ok(Some(add_from(alloc, report, id, fact)?))
+        }
+        asking => Ok(Some(step_asked(alloc, &asking)?)),
+    }
+}
+
+/// As `step_asked` of what `asking_at` reads, by the first text of an array, which is given up: dimensions and a fact move out of it.
+pub fn step_from(
+    alloc: Global,
+    value: Value,
+    place: usize,
+) -> Result<Option<Result<Step, String>>, AllocError>
+    requires { place + 6 < 2 ^ 64 }
+    ensures { IfOk result (λ asked. AreAsked asked (asking_in place (view value))) }
+{
+    let mut value = value;
+    let step = step_in(alloc, &mut value, place);
+    drop(value);
+    step
+}

@@ -1,0 +1,29 @@
+//! The lines of a script and of its output, as texts.
+//!
+//! - `line`: the kind of a line, with its parts.
+//! - `asked_step`: the step that a line asks of a session.
+//! - `load`: the report of a load.
+//! - `line_outcome`: what a line comes to before its step is taken.
+//! - `texts`: the text of each reply.
+//!
+//! `specs/` says what a script has as its output. The crate knows nothing of how a step is answered, nor of devices: nothing of a core or of versions.
+#![tactic(auto)]
+
+mod asked_step;
+mod line;
+mod line_outcome;
+mod load;
+mod texts;
+
+pub use asked_step::{own_period, step_asked, step_from};
+pub use line::{
+    Asking, Line, Period, allowed_at, asked_at, asking_at, kind_of_word, line_of, nullable_at,
+    taken_at, text_at,
+};
+pub use line_outcome::{LineOutcome, classify_line};
+pub use load::{Loaded, load_of_line, report_in};
+pub use texts::{
+    bad_fact_reply, bad_line_reply, bad_report_reply, exported_reply, exported_reply_of,
+    name_in_use_reply, no_session_reply, push_asked, push_later, push_number, push_reply,
+    push_word, reply_text,
+};

@@ -1,0 +1,140 @@
+//! `LineOutcome`: what a line comes to before its step is taken. `classify_line` says it of each line.
+
+ghost use Rattle.std.specs.Prelude.{◌≡◌, IfOk, IsSome, Ok, Some, string_bytes};
+ghost use Rattle.std.specs.Arc.{arc_value};
+ghost use Rattle.serde_json.specs.View.{view};
+ghost use Rattle.filing_step.specs.Steps.{step_of};
+ghost use Rattle.script_format.specs.AskedStep.{asking_in};
+ghost use Rattle.script_format.specs.ScriptLines.{Asking};
+ghost use Rattle.script_format.specs.Script.{ReplyNow, call_read, judged, judged_asking, judged_export, judged_load, report_in};
+ghost use Rattle.script_format.specs.LineOutcomes.{ComesTo, ComesToBy, IsLineOutcome, judged_under};
+
+use crate::asked_step::step_from;
+use crate::line::{Line, line_of, taken_at};
+use crate::load::{Loaded, load_of_line, report_in};
+use crate::texts::{bad_line_reply, bad_report_reply};
+use filing_step::Step;
+use oim_fact::NumericTable;
+use oim_report::{Report, json_value};
+use serde_json::Value;
+use std::alloc::{AllocError, Global};
+use std::sync::Arc;
+
+/// What a line comes to before its step is taken. Whether the name of a session is in use is not looked at yet.
+#[derive(Drop)]
+pub enum LineOutcome {
+    /// It takes no step, and this is its reply.
+    ReplyNow(String),
+    /// It takes no step; the report of this name is to be written as the current version has it.
+    Export(String),
+    /// It takes this step under the name of a session. A load has no session, and its name is not looked at.
+    StepDue { name: String, step: Step },
+}
+
+impl LineOutcome {
+    fn reply_now(alloc: Global, reply: &str) -> Result<LineOutcome, AllocError>
+        ensures { IfOk result (ComesTo (λ state. ReplyNow reply.now)) }
+    {
+        Ok(LineOutcome::ReplyNow(String::from_str(alloc, reply)?))
+    }
+
+    fn export(alloc: Global, report: &str) -> Result<LineOutcome, AllocError>
+        ensures { IfOk result (ComesTo (λ state. judged_export state report.now)) }
+    {
+        Ok(LineOutcome::Export(String::from_str(alloc, report)?))
+    }
+
+    fn step_due(alloc: Global, session: &str, step: Step) -> Result<LineOutcome, AllocError>
+        ensures { IfOk result (ComesTo (λ state. judged_under state session.now (step_of step))) }
+    {
+        let name = String::from_str(alloc, session)?;
+        Ok(LineOutcome::StepDue { name, step })
+    }
+}
+
+/// The step of a load of a report that was read.
+fn load_due(alloc: Global, name: String, report: Report) -> Result<LineOutcome, AllocError>
+    ensures { IfOk result (ComesTo (λ state. judged_load state (string_bytes name) (Ok report))) }
+{
+    let report = Arc::new(alloc, report)?;
+    LineOutcome::step_due(alloc, "", Step::Load(name, report))
+}
+
+/// Classifies a load: its report is read.
+fn load_judged(
+    alloc: Global,
+    name: String,
+    report: Value,
+    table: &Arc<NumericTable>,
+) -> Result<LineOutcome, AllocError>
+    ensures { IfOk result (ComesToBy (arc_value table.now)
+        (λ state. judged_load state (string_bytes name) (report_in (arc_value table.now) (view report)))) }
+{
+    match report_in(alloc, report, table) {
+        Ok(report) => load_due(alloc, name, report),
+        Err(fault) => Ok(LineOutcome::ReplyNow(bad_report_reply(alloc, &fault)?)),
+    }
+}
+
+/// Classifies what a value asks of a session: its fact or its dimensions move out of it, and are read.
+fn asking_judged(alloc: Global, session: &str, value: Value) -> Result<LineOutcome, AllocError>
+    requires { IsSome (asking_in 2 (view value)) }
+    ensures { (asking : Asking) → asking_in 2 (view value) ≡ Some asking
+        → IfOk result (ComesTo (λ state. judged_asking state session.now (call_read asking))) }
+{
+    match step_from(alloc, value, 2)? {
+        Some(Ok(step)) => LineOutcome::step_due(alloc, session, step),
+        Some(Err(text)) => Ok(LineOutcome::ReplyNow(text)),
+        None => unreachable!(),
+    }
+}
+
+/// Classifies a line that is JSON. The report of a load, a fact and dimensions move out of it.
+#[tactic(auto, using(crate::proofs::ReportOfLoad::loaded_part))]
+fn value_judged(
+    alloc: Global,
+    value: Value,
+    table: &Arc<NumericTable>,
+) -> Result<LineOutcome, AllocError>
+    ensures { IfOk result (ComesToBy (arc_value table.now) (λ state. judged state (Some (view value)))) }
+{
+    let mut value = value;
+    let Some(line) = line_of(&value) else {
+        return LineOutcome::reply_now(alloc, bad_line_reply());
+    };
+    match line {
+        Line::Load { name, .. } => {
+            let name = String::from_str(alloc, name)?;
+            load_judged(alloc, name, taken_at(&mut value, 2), table)
+        }
+        Line::Open { session, kind } => LineOutcome::step_due(alloc, session, Step::Open(kind)),
+        Line::Ask { session, .. } => {
+            let session = String::from_str(alloc, session)?;
+            asking_judged(alloc, &session, value)
+        }
+        Line::Commit { session } => LineOutcome::step_due(alloc, session, Step::Commit),
+        Line::Close { session } => LineOutcome::step_due(alloc, session, Step::Close),
+        Line::Export { name } => LineOutcome::export(alloc, name),
+    }
+}
+
+/// Classifies a line by a numeric table: what is refused in reading is replied to at once. Want of memory is an error, and no reply.
+pub fn classify_line(
+    alloc: Global,
+    line: &[u8],
+    table: &Arc<NumericTable>,
+) -> Result<LineOutcome, AllocError>
+    ensures { IfOk result (IsLineOutcome (arc_value table.now) line.now) }
+{
+    if let Some(loaded) = load_of_line(alloc, line, table)? {
+        let Loaded { name, report } = loaded;
+        return match report {
+            Ok(report) => load_due(alloc, name, report),
+            Err(fault) => Ok(LineOutcome::ReplyNow(bad_report_reply(alloc, &fault)?)),
+        };
+    }
+    match json_value(alloc, line)? {
+        Some(value) => value_judged(alloc, value, table),
+        None => LineOutcome::reply_now(alloc, bad_line_reply()),
+    }
+}

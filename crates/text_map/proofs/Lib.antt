@@ -1,0 +1,5 @@
+pub mod NamedLists
+pub mod MapsOfChanges
+pub mod ComparedHeads
+pub mod TakenEntries
+pub mod ComparedKeys

@@ -1,0 +1,4 @@
+pub mod MapChanges
+pub mod Spans
+pub mod Heads
+pub mod NameKeys

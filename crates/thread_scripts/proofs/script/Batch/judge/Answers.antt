@@ -1,9 +1,0 @@
-use Rattle.std.specs.Arc.{arc_value}
-use Rattle.filing_office.proofs.Learning.{on_ok}
-use Rattle.thread_scripts.proofs.JudgedScripts.{adds_line}
-use Rattle.thread_scripts.proofs.script.Batch.judge.Goals as goal
-
-pub returns : goal.returns
-returns c =
-    on_ok c.push.result c.push.ensures
-    (adds_line (arc_value c.args.table.now) c.args.line.now c.in_ok-judged.judged c.args.self.now c.push.new.self c.in_ok-judged.ensures)

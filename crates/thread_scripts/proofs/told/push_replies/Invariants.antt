@@ -1,9 +1,0 @@
-use Rattle.std.proofs.Common.{drop, string_bytes}
-use Rattle.std.specs.Slice.Iter.{iter_rest}
-use Rattle.thread_scripts.proofs.ToldReplies.{IsToldTo}
-use Rattle.thread_scripts.proofs.told.push_replies.Given as goal
-
--- the replies so far are those of the lines before
-abbrev pub invariant-loop-at_once : goal.invariant-loop-at_once
-invariant-loop-at_once g l =
-    IsToldTo (string_bytes l.initial.text) l.told (drop l.at_once-index l.told) l.outcomes (iter_rest l.outcomes_left) (string_bytes l.text)
