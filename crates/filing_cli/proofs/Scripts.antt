@@ -27,14 +27,15 @@ script_ended table before after source source' sink sink' history p partial is =
       history_is = is ∙ ap (λ s. s.history) (told.1 ∙ ap (λ s. state_after line_answer s (spoken (lines_of p.given))) partial);
     }
 
-pub script_stopped : (reads : ℕ) (table : Table) (before after : State) (source source' : SourceState) (sink sink' : SinkState)
-    (fault : ScriptFault) → Runs {X = Unit {0}} IsReply reads (Err fault) before after source source' sink sink' → before ≡ start table
-    → IsScriptStopped reads table source source' sink sink' fault
-script_stopped reads table before after source source' sink sink' fault p partial = record {
+pub script_stopped : {S : Type 0} (state : S → SourceState) (reads : ℕ) (table : Table) (before after : State) (source source' : S)
+    (sink sink' : SinkState) (fault : ScriptFault)
+    → Runs {X = Unit {0}} IsReply state reads (Err fault) before after source source' sink sink' → before ≡ start table
+    → IsScriptStopped state reads table source source' sink sink' fault
+script_stopped state reads table before after source source' sink sink' fault p begun = record {
   after = after;
-  runs = subst (λ s. Runs {X = Unit {0}} IsReply reads (Err fault) s after source source' sink sink') partial p;
+  runs = subst (λ s. Runs {X = Unit {0}} IsReply state reads (Err fault) s after source source' sink sink') begun p;
 }
 
-pub stopped_at_once : (reads : ℕ) (table : Table) (source : SourceState) (sink : SinkState)
-    → IsScriptStopped reads table source source sink sink (NoMemory 1)
-stopped_at_once reads table source sink = record { after = start table; runs = starved_at_once IsReply (start table) source sink }
+pub stopped_at_once : {S : Type 0} (state : S → SourceState) (reads : ℕ) (table : Table) (source : S) (sink : SinkState)
+    → IsScriptStopped state reads table source source sink sink (NoMemory 1)
+stopped_at_once state reads table source sink = record { after = start table; runs = starved_at_once IsReply state (start table) source sink }

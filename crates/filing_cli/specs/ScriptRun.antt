@@ -35,20 +35,19 @@ pub record IsScriptEnded (table : Table) (source source' : SourceState) (sink si
   pub history_is : history ≡ script_history table given
 
 -- a run of so many reads at most ended before the end of the source, and left what any such run leaves after this fault
-pub record IsScriptStopped (reads : ℕ) (table : Table) (source source' : SourceState) (sink sink' : SinkState)
-    (fault : ScriptFault) : Type 0 where
+pub record IsScriptStopped {S : Type 0} (state : S → SourceState) (reads : ℕ) (table : Table) (source source' : S)
+    (sink sink' : SinkState) (fault : ScriptFault) : Type 0 where
   pub after : State
-  pub runs : Runs {X = Unit {0}} IsReply reads (Err fault) (start table) after source source' sink sink'
+  pub runs : Runs {X = Unit {0}} IsReply state reads (Err fault) (start table) after source source' sink sink'
 
 -- a run of so many reads at most
-abbrev pub ScriptRunsWithin : ℕ → Table → Result CoreState ScriptFault → SourceState → SourceState → SinkState
-    → SinkState
-    → Type 0
-ScriptRunsWithin reads table (Ok core) source source' sink sink' =
-    IsScriptEnded table source source' sink sink' core.history
-ScriptRunsWithin reads table (Err fault) source source' sink sink' =
-    IsScriptStopped reads table source source' sink sink' fault
+abbrev pub ScriptRunsWithin : {S : Type 0} → (S → SourceState) → ℕ → Table → Result CoreState ScriptFault → S → S
+    → SinkState → SinkState → Type 0
+ScriptRunsWithin state reads table (Ok core) source source' sink sink' =
+    IsScriptEnded table (state source) (state source') sink sink' core.history
+ScriptRunsWithin state reads table (Err fault) source source' sink sink' =
+    IsScriptStopped state reads table source source' sink sink' fault
 
-abbrev pub ScriptRuns : Table → Result CoreState ScriptFault → SourceState → SourceState → SinkState → SinkState
-    → Type 0
-ScriptRuns = ScriptRunsWithin most_reads
+abbrev pub ScriptRuns : {S : Type 0} → (S → SourceState) → Table → Result CoreState ScriptFault → S → S → SinkState
+    → SinkState → Type 0
+ScriptRuns state = ScriptRunsWithin state most_reads

@@ -21,7 +21,7 @@ pub fn run_script<R: Source, W: Sink>(
     output: &mut W,
     table: &Arc<NumericTable>,
 ) -> Result<Core, ScriptFault>
-    ensures script { ScriptRuns (arc_value table.now) result (R.state input.old) (R.state input.new)
+    ensures script { ScriptRuns R.state (arc_value table.now) result input.old input.new
         (W.state output.old) (W.state output.new) }
     ensures bounded { (R.state input.new).reads ≤ (R.state input.old).reads + most_reads }
 {
@@ -36,7 +36,7 @@ pub fn run_script_within<R: Source, W: Sink>(
     table: &Arc<NumericTable>,
     reads: u64,
 ) -> Result<Core, ScriptFault>
-    ensures script { ScriptRunsWithin reads (arc_value table.now) result (R.state input.old) (R.state input.new)
+    ensures script { ScriptRunsWithin R.state reads (arc_value table.now) result input.old input.new
         (W.state output.old) (W.state output.new) }
     ensures bounded { (R.state input.new).reads ≤ (R.state input.old).reads + reads }
 {

@@ -5,6 +5,7 @@ pub mod LinesInTurn
 pub mod SentReplies
 pub mod TakenLines
 pub mod RunByReads
+pub mod ReadsOfBytes
 -- ---- machines whose replies are a function
 pub mod AnsweringMachines
 -- ---- lines of small texts

@@ -1,5 +1,5 @@
 -- The lines of a text, one after the other.
-use Rattle.std.proofs.Common.{◌≡◌, ◌∙◌, ℕ, ◌<◌, ap, sym, refl, true, false, not, cond, [], ◌∷◌, ◌++◌, ◌==◌, true≢false, length, take, drop, arith}
+use Rattle.std.proofs.Common.{◌≡◌, ◌∙◌, ap, sym, refl, true, false, not, cond, [], ◌∷◌, ◌++◌, ◌==◌, true≢false, length, take, drop, arith}
 use Rattle.std.proofs.lemmas.List.{take_all, drop_all}
 use Rattle.std.proofs.lemmas.Bool.{eqb-true}
 use Rattle.std.specs.List.{position_or_len, before_first, after_first}

@@ -7,7 +7,7 @@ use Rattle.line_io.specs.declared.fault.ScriptFault.{ScriptFault}
 use Rattle.line_io.specs.declared.fault.ScriptFault.TheVariants.{Read, Write, Endless, NoMemory}
 use Rattle.line_io.specs.declared.runs.TheConstants.{PIECE}
 use Rattle.line_io.specs.Text.{Text}
-use Rattle.line_io.specs.Devices.{SourceState, SinkState, Gave, Took}
+use Rattle.line_io.specs.Devices.{SourceState, SinkState, Gave, LastRead, Took}
 use Rattle.line_io.specs.Lines.{whole_lines, lines_of, lines_read, line_begun, spoken, lines_text, is_line_feed}
 use Rattle.line_io.specs.Run.{Answers, IsUnread, IsEndless, IsStarved, Runs}
 use Rattle.line_io.specs.Pieces.{whole_from, rest_from, count_from, Standing, standing, HasAnswered, Takes}
@@ -25,7 +25,7 @@ few_lines begun (byte ∷ bytes) =
       | false ↦ let rest = few_lines (begun ++ byte ∷ []) bytes in omega arith
     ]
 
-length_lines_of : (text : Text) → length (lines_of text) ≡ count_from [] text
+pub length_lines_of : (text : Text) → length (lines_of text) ≡ count_from [] text
 length_lines_of text = ap length (lines_of_lem text) ∙ length-append (whole_from [] text) (line_begun (rest_from [] text))
 
 module _ {M : Type 0} (R : M → Text → Text → M → Type 0) where
@@ -42,12 +42,15 @@ module _ {M : Type 0} (R : M → Text → Text → M → Type 0) where
   takes_more a more less count first (Err Read) p q start size = absurd q
   takes_more a more less count first (Err Endless) p q start size = absurd q
 
-  -- the result of a run that ends at a fault
-  fault_runs : {source source' : SourceState} {given : Text} (m a : M) (s s2 : SinkState) (ended : Bool) (reads : ℕ) (fault : ScriptFault)
-      → Gave source source' given (cond ended 1 0) 0
+  -- the result of a run that ends at a fault, which came with the lines after those of the earlier reads
+  fault_runs : {S : Type 0} (state : S → SourceState) {source source' : S} {earlier last : Text} (n b : Standing M) (more : List Text) (less : ℕ)
+      (m a : M) (s s2 : SinkState) (ended : Bool) (reads : ℕ) (given : Text) (fault : ScriptFault)
+      → Gave (state source) (state source') given (cond ended 1 0) 0 → given ≡ earlier ++ last
+      → LastRead state source source' earlier last ended
+      → Takes {X = Unit {0}} R (Err fault) n b more less (length (whole_lines earlier) + 1)
       → Takes {X = Unit {0}} R (Err fault) (standing m s []) (standing a s2 []) (lines_read ended given) (length (lines_of given)) 1
-      → Runs {X = Unit {0}} R reads (Err fault) m a source source' s s2
-  fault_runs {given = given} m a s s2 ended reads Write gave p = record {
+      → Runs {X = Unit {0}} R state reads (Err fault) m a source source' s s2
+  fault_runs state n b more less m a s s2 ended reads given Write gave pieces read q p = record {
     given = given;
     ended = ended;
     gave = gave;
@@ -59,35 +62,43 @@ module _ {M : Type 0} (R : M → Text → Text → M → Type 0) where
     answers = p.answers;
     took = p.took;
   }
-  fault_runs {given = given} m a s s2 ended reads (NoMemory number) gave p = record {
+  fault_runs state {earlier = earlier} {last = last} n b more less m a s s2 ended reads given (NoMemory number) gave pieces read q p = record {
     given = given;
     ended = ended;
     gave = gave;
+    earlier = earlier;
+    last = last;
+    pieces = pieces;
     lines = p.done;
     later = p.later;
     front = p.front;
     counted = omega (arith, p.counted);
-    begun = inr (omega (arith, p.counted, p.begun));
+    begun = inr (omega (arith, p.counted, p.begun), read);
+    answered_before = omega (arith, p.counted, q.counted);
     texts = p.texts;
     reached = p.reached;
     answers = p.answers;
     took = subst (λ text. Took s s2 text 0) (sym (append-nil p.sent.written) ∙ p.sent.parts) p.sent.took;
   }
-  fault_runs m a s s2 ended reads Read gave p = absurd p
-  fault_runs m a s s2 ended reads Endless gave p = absurd p
+  fault_runs state n b more less m a s s2 ended reads given Read gave pieces read q p = absurd p
+  fault_runs state n b more less m a s s2 ended reads given Endless gave pieces read q p = absurd p
 
   -- memory is refused before the first read
-  pub starved_at_once : (m : M) (source : SourceState) (s : SinkState) → IsStarved R m m source source s s 1
+  pub starved_at_once : {S : Type 0} (state : S → SourceState) (m : M) (source : S) (s : SinkState) → IsStarved R state m m source source s s 1
   unfolding whole_lines spoken lines_text
-  starved_at_once m source s = record {
+  starved_at_once state m source s = record {
     given = [];
     ended = false;
-    gave = record { bytes = consumes_none source.rest; ended = omega arith; failures = omega arith };
+    gave = record { bytes = consumes_none (state source).rest; ended = omega arith; failures = omega arith };
+    earlier = [];
+    last = [];
+    pieces = refl;
     lines = [];
     later = [];
     front = refl;
     counted = refl;
-    begun = inl refl;
+    begun = inl (refl, refl);
+    answered_before = omega arith;
     texts = [];
     reached = m;
     answers = refl;
@@ -138,6 +149,11 @@ module _ {M : Type 0} (R : M → Text → Text → M → Type 0) where
       → Took s s' (lines_text p.texts) 0
   took_all {s = s} {s' = s'} p = subst (λ text. Took s s' text 0) (sym (append-nil p.sent.written) ∙ p.sent.parts) p.sent.took
 
+  -- so many lines of what is read are answered
+  answered_so_far : {m m' : M} {source source' : SourceState} {s s' : SinkState} {turn : ℕ} {begun waiting : Text} {lines : ℕ}
+      (p : IsRead m m' source source' s s' turn begun waiting lines) → lines ≡ length (whole_lines p.given)
+  answered_so_far p = p.lines_are ∙ ap length (sym (whole_lines_lem p.given))
+
   pub read_failed : {m m' : M} {source source1 source2 : SourceState} {s s' : SinkState} {turn : ℕ} {begun waiting : Text} {lines : ℕ}
       → IsRead m m' source source1 s s' turn begun waiting lines → Keeps source1.rest source2.rest → source2.ends ≡ source1.ends
       → source2.failed ≡ source1.failed + 1
@@ -166,15 +182,17 @@ module _ {M : Type 0} (R : M → Text → Text → M → Type 0) where
   }
 
   -- the end was met, and the line begun was taken
-  pub read_ended : {m m' : M} {source source1 : SourceState} {s s' : SinkState} {turn : ℕ} {begun waiting : Text} {lines : ℕ}
-      (source2 : SourceState) (a : M) (s2 : SinkState) (reads : ℕ) (result : Result (Unit {0}) ScriptFault)
-      → IsRead m m' source source1 s s' turn begun waiting lines → Consumes source1.rest source2.rest [] → IsAtEnd source2.rest
-      → source2.ends ≡ source1.ends + 1 → source2.failed ≡ source1.failed
+  pub read_ended : {S : Type 0} (state : S → SourceState) {m m' : M} {source source1 : S} {s s' : SinkState} {turn : ℕ} {begun waiting : Text} {lines : ℕ}
+      (source2 : S) (a : M) (s2 : SinkState) (reads : ℕ) (result : Result (Unit {0}) ScriptFault)
+      → IsRead m m' (state source) (state source1) s s' turn begun waiting lines → Consumes (state source1).rest (state source2).rest []
+      → IsAtEnd (state source2).rest → (state source2).reads ≡ (state source1).reads + 1
+      → (state source2).ends ≡ (state source1).ends + 1 → (state source2).failed ≡ (state source1).failed
       → Takes R result (standing m' s' waiting) (standing a s2 []) (line_begun begun) (length (line_begun begun)) (lines + 1)
-      → Runs R reads result m a source source2 s s2
-  read_ended {m} {m'} {source} {source1} {s} {s'} {begun = begun} {waiting = waiting} {lines = lines} source2 a s2 reads result p none end ended failed q =
-      let gave : Gave source source2 p.given 1 0 =
-      subst (λ given. Gave source source2 given 1 0) (append-nil p.given) (gave_more [] 1 0 p.gave none ended (omega arith)) in
+      → Runs R state reads result m a source source2 s s2
+  read_ended state {m} {m'} {source} {source1} {s} {s'} {begun = begun} {waiting = waiting} {lines = lines}
+      source2 a s2 reads result p none end one ended failed q =
+      let gave : Gave (state source) (state source2) p.given 1 0 =
+      subst (λ given. Gave (state source) (state source2) given 1 0) (append-nil p.given) (gave_more [] 1 0 p.gave none ended (omega arith)) in
       let after : Standing M = standing a s2 [] in
       let here : Takes R result (standing m' s' []) after (line_begun begun) (length (line_begun begun)) (lines + 1) =
       subst (λ w. Takes R result (standing m' s' w) after (line_begun begun) (length (line_begun begun)) (lines + 1)) p.none_wait q in
@@ -187,26 +205,37 @@ module _ {M : Type 0} (R : M → Text → Text → M → Type 0) where
       (omega (arith, p.lines_are)) size in
       let whole : Takes R result (standing m s []) after (lines_of p.given) (length (lines_of p.given)) 1 =
       subst (λ ls. Takes R result (standing m s []) after ls (length (lines_of p.given)) 1) all taken in
-      elim result as (λ r. Takes R r (standing m s []) after (lines_of p.given) (length (lines_of p.given)) 1
-      → Runs R reads r m a source source2 s s2) [
-        | Ok x ↦ λ t. record { given = p.given; texts = t.texts; gave = gave; at_end = end; answers = t.answers; took = took_all t }
-        | Err fault ↦ λ t. fault_runs m a s s2 true reads fault gave t
-      ] whole
+      let read : LastRead state source source2 p.given [] true = record {
+        between = source1;
+        before = p.gave;
+        gave = record { bytes = none; ended = ended; failures = omega arith };
+        one = one;
+        end_is_empty = λ e. refl;
+      } in
+      elim result as (λ r. Takes R r (standing m' s' []) after (line_begun begun) (length (line_begun begun)) (lines + 1)
+      → Takes R r (standing m s []) after (lines_of p.given) (length (lines_of p.given)) 1
+      → Runs R state reads r m a source source2 s s2) [
+        | Ok x ↦ λ h t. record { given = p.given; texts = t.texts; gave = gave; at_end = end; answers = t.answers; took = took_all t }
+        | Err fault ↦ λ h t. fault_runs state (standing m' s' []) after (line_begun begun) (length (line_begun begun)) m a s s2 true reads p.given fault gave (sym (append-nil p.given)) read
+            (subst (λ n. Takes {X = Unit {0}} R (Err fault) (standing m' s' []) after (line_begun begun) (length (line_begun begun)) (n + 1))
+            (answered_so_far p) h) t
+      ] here whole
 
   -- memory or a write was refused in a piece
-  pub read_refused : {m m' : M} {source source1 : SourceState} {s s' : SinkState} {turn : ℕ} {begun waiting : Text} {lines : ℕ}
-      (source2 : SourceState) (a : M) (s2 : SinkState) (piece : Text) (reads : ℕ) (fault : ScriptFault)
+  pub read_refused : {S : Type 0} (state : S → SourceState) {m m' : M} {source source1 : S} {s s' : SinkState} {turn : ℕ} {begun waiting : Text} {lines : ℕ}
+      (source2 : S) (a : M) (s2 : SinkState) (piece : Text) (reads : ℕ) (fault : ScriptFault)
       (result : Result (Unit {0}) ScriptFault)
-      → IsRead m m' source source1 s s' turn begun waiting lines → Consumes source1.rest source2.rest piece → source2.ends ≡ source1.ends
-      → source2.failed ≡ source1.failed
+      → IsRead m m' (state source) (state source1) s s' turn begun waiting lines → Consumes (state source1).rest (state source2).rest piece
+      → (state source2).reads ≡ (state source1).reads + 1 → (state source2).ends ≡ (state source1).ends
+      → (state source2).failed ≡ (state source1).failed
       → result ≡ Err fault → Takes {X = Unit {0}} R (Err fault) (standing m' s' waiting) (standing a s2 []) (whole_from begun piece)
       (count_from begun piece)
       (lines + 1)
-      → Runs R reads result m a source source2 s s2
-  read_refused {m} {m'} {source} {source1} {s} {s'} {begun = begun} {waiting = waiting} {lines = lines}
-      source2 a s2 piece reads fault result p bytes ended failed is q =
+      → Runs R state reads result m a source source2 s s2
+  read_refused state {m} {m'} {source} {source1} {s} {s'} {begun = begun} {waiting = waiting} {lines = lines}
+      source2 a s2 piece reads fault result p bytes one ended failed is q =
       let given : Text = p.given ++ piece in
-      let gave : Gave source source2 given 0 0 = gave_more piece 0 0 p.gave bytes (omega arith) (omega arith) in
+      let gave : Gave (state source) (state source2) given 0 0 = gave_more piece 0 0 p.gave bytes (omega arith) (omega arith) in
       let begins : rest_from [] p.given ≡ begun = sym p.begun_is in
       let after : Standing M = standing a s2 [] in
       let count : ℕ = count_from begun piece in
@@ -227,7 +256,17 @@ module _ {M : Type 0} (R : M → Text → Text → M → Type 0) where
       (omega (arith, p.lines_are)) long in
       let whole : Takes {X = Unit {0}} R (Err fault) (standing m s []) after (whole_lines given) (length (lines_of given)) 1 =
       subst (λ ls. Takes {X = Unit {0}} R (Err fault) (standing m s []) after ls (length (lines_of given)) 1) all taken in
-      subst (λ r. Runs R reads r m a source source2 s s2) (sym is) (fault_runs m a s s2 false reads fault gave whole)
+      let read : LastRead state source source2 p.given piece false = record {
+        between = source1;
+        before = p.gave;
+        gave = record { bytes = bytes; ended = omega arith; failures = omega arith };
+        one = one;
+        end_is_empty = λ e. cc;
+      } in
+      subst (λ r. Runs R state reads r m a source source2 s s2) (sym is)
+      (fault_runs state (standing m' s' []) after (whole_from begun piece) count m a s s2 false reads given fault gave refl read
+      (subst (λ n. Takes {X = Unit {0}} R (Err fault) (standing m' s' []) after (whole_from begun piece) count (n + 1))
+      (answered_so_far p) here) whole)
 
   -- a piece was read and answered
   pub read_more : {m m' a : M} {source source1 source2 : SourceState} {s s' s2 : SinkState} {turn : ℕ} {begun waiting begun2 waiting2 : Text} {lines lines2 : ℕ}

@@ -1,5 +1,5 @@
 -- What sources and sinks of bytes tell of themselves, and what a call of one does to it. All of it is the project's own.
-use Rattle.std.specs.Prelude.{◌≡◌, ℕ, ◌+◌, ◌<◌, ◌++◌, length}
+use Rattle.std.specs.Prelude.{◌≡◌, ℕ, ◌+◌, ◌<◌, Bool, true, [], ◌++◌, length, if◌then◌else◌}
 use Rattle.std.specs.declared.option.Option.{Option}
 use Rattle.std.specs.Io.KnownBytes.{Consumes, Appends}
 use Rattle.line_io.specs.Text.{Text}
@@ -27,6 +27,15 @@ pub record Gave (old new : SourceState) (given : Text) (ends failed : ℕ) : Typ
   pub bytes : Consumes old.rest new.rest given
   pub ended : new.ends ≡ old.ends + ends
   pub failures : new.failed ≡ old.failed + failed
+
+module _ {S : Type 0} (state : S → SourceState) (old new : S) (earlier last : Text) (ended : Bool) where
+  -- the reads up to the last one gave `earlier`, and the source was then `between`; one more gave `last`, or met the end and gave nothing
+  pub record LastRead : Type 0 where
+    pub between : S
+    pub before : Gave (state old) (state between) earlier 0 0
+    pub gave : Gave (state between) (state new) last (if ended then 1 else 0) 0
+    pub one : (state new).reads ≡ (state between).reads + 1
+    pub end_is_empty : ended ≡ true → last ≡ []
 
 -- over some calls the sink took these bytes, and so many of the calls failed
 pub record Took (old new : SinkState) (text : Text) (failed : ℕ) : Type 0 where

@@ -4,7 +4,7 @@ use Rattle.std.specs.declared.result.Result.{Result}
 use Rattle.std.specs.declared.result.Result.TheVariants.{Ok, Err}
 use Rattle.std.specs.Io.KnownBytes.{IsAtEnd}
 use Rattle.line_io.specs.Text.{Text}
-use Rattle.line_io.specs.Devices.{SourceState, SinkState, Gave, Took, TookPart}
+use Rattle.line_io.specs.Devices.{SourceState, SinkState, Gave, LastRead, Took, TookPart}
 use Rattle.line_io.specs.Lines.{whole_lines, lines_of, lines_read, spoken, lines_text}
 use Rattle.line_io.specs.declared.fault.ScriptFault.{ScriptFault}
 use Rattle.line_io.specs.declared.fault.ScriptFault.TheVariants.{Read, Write, Endless, NoMemory}
@@ -68,32 +68,41 @@ module _ {M : Type 0} (replies : M → Text → Text → M → Type 0) (before a
     pub answers : Answers replies before (spoken lines) texts reached
     pub took : TookPart sink sink' (lines_text texts)
 
+module _ {M S : Type 0} (replies : M → Text → Text → M → Type 0) (state : S → SourceState) (before after : M)
+    (source source' : S) (sink sink' : SinkState) where
   -- memory was refused at a line: every line before it has its reply, and nothing else is written. The machine may have gone on from what it had reached
   pub record IsStarved (number : ℕ) : Type 0 where
     pub given : Text
     pub ended : Bool
-    pub gave : Gave source source' given (if ended then 1 else 0) 0
+    pub gave : Gave (state source) (state source') given (if ended then 1 else 0) 0
+    -- what the last read gave, and what the reads before it had given
+    pub earlier : Text
+    pub last : Text
+    pub pieces : given ≡ earlier ++ last
     pub lines : List Text
     pub later : List Text
     pub front : lines ++ later ≡ lines_read ended given
     pub counted : number ≡ length lines + 1
-    -- the line was begun, unless nothing was read yet
-    pub begun : (given ≡ []) ⊎ (number ≤ length (lines_of given))
+    -- nothing was read yet, or the line was begun
+    pub begun : ((source' ≡ source) × (given ≡ []))
+        ⊎ ((number ≤ length (lines_of given)) × LastRead state source source' earlier last ended)
+    -- it is none of the lines that had ended before the last read: all of those are answered
+    pub answered_before : length (whole_lines earlier) ≤ length lines
     pub texts : List Text
     pub reached : M
     pub answers : Answers replies before (spoken lines) texts reached
     pub took : Took sink sink' (lines_text texts) 0
 
--- what holds of each result of a run
-abbrev pub Runs : {X M : Type 0} → (M → Text → Text → M → Type 0) → ℕ → Result X ScriptFault → M → M
-    → SourceState → SourceState → SinkState → SinkState → Type 0
-Runs replies reads (Ok x) before after source source' sink sink' =
-    IsAnswered replies before after source source' sink sink'
-Runs replies reads (Err Read) before after source source' sink sink' =
-    IsUnread replies before after source source' sink sink'
-Runs replies reads (Err Endless) before after source source' sink sink' =
-    IsEndless replies before after source source' sink sink' reads
-Runs replies reads (Err Write) before after source source' sink sink' =
-    IsUnwritten replies before after source source' sink sink'
-Runs replies reads (Err (NoMemory number)) before after source source' sink sink' =
-    IsStarved replies before after source source' sink sink' number
+-- what holds of each result of a run over a source that tells this state
+abbrev pub Runs : {X M S : Type 0} → (M → Text → Text → M → Type 0) → (S → SourceState) → ℕ → Result X ScriptFault
+    → M → M → S → S → SinkState → SinkState → Type 0
+Runs replies state reads (Ok x) before after source source' sink sink' =
+    IsAnswered replies before after (state source) (state source') sink sink'
+Runs replies state reads (Err Read) before after source source' sink sink' =
+    IsUnread replies before after (state source) (state source') sink sink'
+Runs replies state reads (Err Endless) before after source source' sink sink' =
+    IsEndless replies before after (state source) (state source') sink sink' reads
+Runs replies state reads (Err Write) before after source source' sink sink' =
+    IsUnwritten replies before after (state source) (state source') sink sink'
+Runs replies state reads (Err (NoMemory number)) before after source source' sink sink' =
+    IsStarved replies state before after source source' sink sink' number

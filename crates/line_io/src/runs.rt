@@ -31,8 +31,8 @@ fn run_with<M: Machine, R: Source, W: Sink>(
 ) -> Result<(), ScriptFault>
     requires some { 0 < length buffer.old }
     requires few { length buffer.old ≤ PIECE }
-    ensures runs { Runs M.replies reads result machine.old machine.new
-        (R.state source.old) (R.state source.new) (W.state sink.old) (W.state sink.new) }
+    ensures runs { Runs M.replies R.state reads result machine.old machine.new
+        source.old source.new (W.state sink.old) (W.state sink.new) }
     ensures bounded { (R.state source.new).reads ≤ (R.state source.old).reads + reads }
 {
     let mut progress = Progress::new(alloc);
@@ -56,8 +56,8 @@ pub fn run<M: Machine, R: Source, W: Sink>(
     sink: &mut W,
     reads: u64,
 ) -> Result<(), ScriptFault>
-    ensures runs { Runs M.replies reads result machine.old machine.new
-        (R.state source.old) (R.state source.new) (W.state sink.old) (W.state sink.new) }
+    ensures runs { Runs M.replies R.state reads result machine.old machine.new
+        source.old source.new (W.state sink.old) (W.state sink.new) }
     ensures bounded { (R.state source.new).reads ≤ (R.state source.old).reads + reads }
 {
     let Ok(mut buffer) = new_buffer(alloc) else {

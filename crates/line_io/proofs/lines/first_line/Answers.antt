@@ -1,4 +1,3 @@
-use Rattle.std.proofs.Common.{arith, length}
 use Rattle.line_io.proofs.LinesInTurn.{cut_lines, no_line, whole_line}
 use Rattle.line_io.proofs.lines.first_line.Goals as goal
 

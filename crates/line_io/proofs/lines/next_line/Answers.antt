@@ -1,5 +1,5 @@
-use Rattle.std.proofs.Common.{◌≡◌, ◌∙◌, ◌≤◌, [], ap, sym, arith, length}
-use Rattle.line_io.specs.Lines.{lines_of, spoken}
+use Rattle.std.proofs.Common.{◌∙◌, ap, sym, arith}
+use Rattle.line_io.specs.Lines.{spoken}
 use Rattle.line_io.proofs.LinesInTurn.{blank_first, spoken_first, none_spoken}
 use Rattle.line_io.proofs.lines.next_line.Goals as goal
 

@@ -26,17 +26,17 @@ returns-in_default-clause-runs g c =
 pub returns-then-count-eq0-clause-runs : goal.returns-then-count-eq0-clause-runs
 returns-then-count-eq0-clause-runs g c =
     let some : 0 < length c.read.new.buffer = omega (arith, c.requires.some) in
-    read_ended g.M.Machine.replies _ _ _ c.args.reads c.finish.result c.loop-turn.invariant
-    (rw c.if-count-eq0.true at c.in-Ok.ensures.bytes.0) (c.in-Ok.ensures.bytes.1 c.if-count-eq0.true some)
+    read_ended g.M.Machine.replies g.R.Source.state _ _ _ c.args.reads c.finish.result c.loop-turn.invariant
+    (rw c.if-count-eq0.true at c.in-Ok.ensures.bytes.0) (c.in-Ok.ensures.bytes.1 c.if-count-eq0.true some) c.in-Ok.ensures.reads
     (c.in-Ok.ensures.ends.nothing c.if-count-eq0.true some) (omega (arith, c.in-Ok.ensures.failed)) c.finish.ensures
 
 pub returns-in_err-take_piece-clause-runs : goal.returns-in_err-take_piece-clause-runs
 returns-in_err-take_piece-clause-runs g c =
     let p = err_from_is_err_and c.from_residual.result c.from_residual.ensures.1 in
     let more : 0 < c.in-Ok.count = omega arith in
-    read_refused g.M.Machine.replies _ _ _
+    read_refused g.M.Machine.replies g.R.Source.state _ _ _
     (take c.in-Ok.count c.read.new.buffer) c.args.reads c.in_err-take_piece.field-0.0 c.from_residual.result c.loop-turn.invariant c.in-Ok.ensures.bytes.0
-    (c.in-Ok.ensures.ends.something more) (omega (arith, c.in-Ok.ensures.failed)) (p.1 ∙ ap Err p.2) c.in_err-take_piece.ensures.takes
+    c.in-Ok.ensures.reads (c.in-Ok.ensures.ends.something more) (omega (arith, c.in-Ok.ensures.failed)) (p.1 ∙ ap Err p.2) c.in_err-take_piece.ensures.takes
 
 pub loop-turn-preserved : goal.loop-turn-preserved
 loop-turn-preserved g c =
