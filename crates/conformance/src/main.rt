@@ -1,7 +1,7 @@
 //! `conformance`: compares what the layers answer with what is written of them, and fast answers with slow ones.
 //!
 //! - `sheets`: worked rows of scripts, steps, reports and facts.
-//! - `pages`: worked rows of lists and maps in pages.
+//! - `pages`: worked rows of lists in pages and of the pages of reports, and both beside plain lists.
 //! - `versions`: worked rows of versions.
 //! - `examples`: stored scripts, worked histories and failing devices.
 //! - `offices`: takes steps at desks, and opens reviews beside them.
@@ -15,7 +15,7 @@
 //! - `seen`: counts what differs.
 //! - `memory`: runs scripts and judges histories over memory.
 //!
-//! A word names the part that is wanted: `sheets`, `pages`, `versions`, `model`, `scripts`, `histories`, `devices`, `offices`, `threads` or `drawn`; without a word it is all of them. `model` is of sheets, versions and histories, with answers that `tools/draw_rows` computed. A seed of what is drawn may follow `threads` and `drawn`, and then a number of sets or of scripts.
+//! A word names the part that is wanted: `sheets`, `pages`, `rounds`, `versions`, `model`, `scripts`, `histories`, `devices`, `offices`, `threads` or `drawn`; without a word it is all of them. `rounds` is of the pages of reports beside plain lists, and `model` is of sheets, versions and histories, with answers that `tools/draw_rows` computed. A seed of what is drawn may follow `threads` and `drawn`, and then a number of sets or of scripts.
 #![tactic(auto)]
 
 mod draft;
@@ -37,7 +37,7 @@ use anyhow::{Result, anyhow};
 use drawn::compare_drawn;
 use examples::{compare_devices, compare_drawn_histories, compare_histories, compare_scripts};
 use offices::show_offices;
-use pages::compare_pages;
+use pages::{compare_pages, compare_rounds};
 use sheets::{compare_drawn_sheets, compare_sheets};
 use std::env;
 use std::marker::Sync;
@@ -75,6 +75,7 @@ fn compare_alone<R: Print + Files + AllocGlobal>(rt: &R, part: &str) -> Result<(
     match part {
         "sheets" => compare_sheets(rt),
         "pages" => compare_pages(rt),
+        "rounds" => compare_rounds(rt),
         "versions" => compare_versions(rt),
         "model" => compare_model(rt),
         "scripts" => compare_scripts(rt),
@@ -107,6 +108,7 @@ fn compare_all<T: Threads + Wait + Sync + Print + Files + AllocGlobal>(
 ) -> Result<()> {
     compare_sheets(rt)?;
     compare_pages(rt)?;
+    compare_rounds(rt)?;
     compare_versions(rt)?;
     compare_model(rt)?;
     compare_scripts(rt)?;

@@ -1,6 +1,6 @@
 //! Offices: what their desks and reviewers are answered, in turn and in threads of their own.
 //!
-//! `stage` plays the acts of `data/offices.rows`, each sheet in an office of two desks and two reviewers: `acts` has their parts, `readers` what reviewers do, and `ends` how offices end. `lent` plays those of `data/lent.rows` on what a lock lends, without an office. `crowd` lets four desks take the steps of `rounds` in threads, and compares what `entered` says they were told with the history; at a `meeting` they wait for one another. `places` makes something of each value at its place.
+//! `stage` plays the acts of `data/offices.rows`, each sheet in an office of two desks and two reviewers: `acts` has their parts, `readers` what reviewers do, and `ends` how offices end. `lent` plays those of `data/lent.rows` on what a lock lends, without an office. `crowd` lets four desks take the steps of `rounds` in threads, and compares what `entered` says they were told with the history; `pair` lets two desks commit, and a reviewer reads what one of them did; at a `meeting` desks wait for one another. `places` makes something of each value at its place.
 
 mod acts;
 mod crowd;
@@ -8,6 +8,7 @@ mod ends;
 mod entered;
 mod lent;
 mod meeting;
+mod pair;
 mod places;
 mod readers;
 mod rounds;
@@ -19,6 +20,7 @@ use crowd::{Way, take_rounds};
 use ends::core_text;
 use filing_office::{Blanks, UnopenedLog, opened_and_finished};
 use lent::play_lent;
+use pair::meet_in_pair;
 use stage::play;
 use std::alloc::Global;
 use std::marker::{Brand, Sync};
@@ -63,13 +65,19 @@ fn run_crowd<R: Threads + Wait + Sync + Print + AllocGlobal>(rt: &R, way: Way) -
     take_rounds::<Brand, Brand, _>(rt, Blanks::of(4), way)
 }
 
-/// Plays the acts of offices and of what a lock lends, and lets desks take rounds in threads, in both ways.
+/// Lets two desks commit in threads, and a reviewer read.
+fn run_two<R: Threads + Wait + Sync + Print + AllocGlobal>(rt: &R) -> Result<()> {
+    meet_in_pair::<Brand, Brand, _>(rt, Blanks::of(2))
+}
+
+/// Plays the acts of offices and of what a lock lends, and lets two desks meet, and four take rounds in threads, in both ways.
 pub(crate) fn show_offices<R: Threads + Wait + Sync + Print + Files + AllocGlobal>(
     rt: &R,
 ) -> Result<()> {
     compare_rows(rt, "offices", &Player { rt })?;
     compare_rows(rt, "lent", &Lender { rt })?;
     end_at_once(rt)?;
+    run_two(rt)?;
     run_crowd(rt, Way::Steps)?;
     run_crowd(rt, Way::Lists)
 }

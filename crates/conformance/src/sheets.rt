@@ -2,13 +2,14 @@
 //!
 //! A file NAME.rows has scripts. A line that begins with `# ` begins one and is its title; a line that begins with `=> ` is the reply that is expected to the line before it; one that begins with `= ` is the number of steps that the script takes; every other line is a line of the script. `answers` has what the lines are answered.
 //!
-//! `scripts` runs scripts over memory. The lines of other files are questions: `steps` takes the steps of a core that `asked_steps` makes, loads and commits in two parts too, `tables` and `reports` read texts and write them again, `infos` sets what a report declares, `facts` reads and writes with one fact, and `dimensions` has dimension sets and prefixes. `drawn_numbers` and `drawn_scripts` are of another part, since they are many: what is written there was computed by `tools/draw_rows`, by all pairs of facts and by lists of all that was touched.
+//! `scripts` runs scripts over memory. The lines of other files are questions: `steps` takes the steps of a core that `asked_steps` makes, loads and commits in two parts too, `tables` and `reports` read texts and write them again, `infos` sets what a report declares, `numbers` has numerals, accuracies and intervals, `facts` reads and writes with one fact, and `dimensions` has dimension sets and prefixes. `drawn_numbers` and `drawn_scripts` are of another part, since they are many: what is written there was computed by `tools/draw_rows`, by all pairs of facts and by lists of all that was touched.
 
 mod answers;
 mod asked_steps;
 mod dimensions;
 mod facts;
 mod infos;
+mod numbers;
 mod reports;
 mod scripts;
 mod steps;
@@ -42,6 +43,7 @@ pub(crate) enum Asked {
     Written,
     Parts,
     Info,
+    Number,
     RawFact,
     Fact,
     Dims,
@@ -53,7 +55,7 @@ pub(crate) enum Asked {
 const PIECE: usize = 65536;
 
 /// Each is the file NAME.rows.
-const FILES: [(&str, Kind); 22] = [
+const FILES: [(&str, Kind); 23] = [
     ("sessions", Kind::Script(PIECE)),
     ("sessions", Kind::Script(1)),
     ("conflicts", Kind::Script(PIECE)),
@@ -71,6 +73,7 @@ const FILES: [(&str, Kind); 22] = [
     ("written", Kind::Each(Asked::Written)),
     ("parts", Kind::Each(Asked::Parts)),
     ("infos", Kind::Each(Asked::Info)),
+    ("numbers", Kind::Each(Asked::Number)),
     ("raw_facts", Kind::Each(Asked::RawFact)),
     ("facts", Kind::Each(Asked::Fact)),
     ("dimensions", Kind::Each(Asked::Dims)),

@@ -3,7 +3,7 @@
 //! `session` takes the lines of `data/versions.rows` in turn, and `facts` says of which facts they speak. `edits` makes changes, which `draft` keeps to the reports that are there, `answers` has the answers of versions, and `telling` puts them into words.
 
 mod answers;
-mod draft;
+pub(crate) mod draft;
 mod edits;
 mod facts;
 mod session;

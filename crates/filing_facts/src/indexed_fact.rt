@@ -10,6 +10,7 @@ use oim_fact::{DimSet, Fact};
 use std::alloc::{AllocError, Global};
 use std::marker::Model;
 use std::sync::Arc;
+use text_map::PagedValue;
 
 /// A shared fact, beside what it is compared by, so that most comparisons do not follow it. Contracts see the fact.
 #[derive(Drop)]
@@ -29,6 +30,13 @@ impl Model for IndexedFact {
     ghost view = { λ h. arc_value h.fact };
 
     ghost invariant = { λ h. IsKeyed (arc_value h.fact) h.cell (arc_value h.keys) };
+}
+
+impl PagedValue for IndexedFact {
+    /// A report's facts by identifier stand in pages as long as pages may be.
+    fn most_in_page() -> usize {
+        64
+    }
 }
 
 impl IndexedFact {

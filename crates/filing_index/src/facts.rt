@@ -1,6 +1,7 @@
 //! The facts of one report, by their identifiers and in indexes.
-ghost use Rattle.std.specs.Prelude.{◌≡◌, ◌++◌, [], ◌∷◌, Option, option_map, T as Holds, IfOk, OnOk};
+ghost use Rattle.std.specs.Prelude.{◌≡◌, ◌++◌, [], ◌∷◌, Option, length, option_map, T as Holds, IfOk, OnOk};
 ghost use Rattle.std.specs.FinMap.Entries.{is_sorted};
+ghost use Rattle.sorted_pages.specs.Pages.{AreSizes};
 ghost use Rattle.filing_model.specs.Common.Text.{text_cmp};
 ghost use Rattle.filing_model.specs.Common.TextMap.{TextMap, empty, get};
 ghost use Rattle.filing_model.specs.Oim.Facts.{Fact as PlainFact};
@@ -106,6 +107,13 @@ impl Facts {
         ensures { result ≡ self.now.entries }
     {
         self.by_id.iter()
+    }
+
+    /// The lengths of the pages of the facts by identifier, for tests.
+    pub fn page_sizes(&self, alloc: Global) -> Result<Vec<usize>, AllocError>
+        ensures { IfOk result (λ sizes. AreSizes sizes.items (length self.now.entries)) }
+    {
+        self.by_id.page_sizes(alloc)
     }
 
     /// The index of a kind.

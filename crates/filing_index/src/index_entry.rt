@@ -74,7 +74,7 @@ impl PageEntry for IndexEntry {
 
     ghost key_rises = { hashes_rise };
 
-    /// As of facts under their identifiers.
+    /// Fewer than of facts by identifier: a changed fact changes a page of each of three indexes, and the entries of a page that is copied are counted up where they lie.
     fn most_in_page() -> usize {
         16
     }

@@ -10,7 +10,7 @@ use oim_fact::{Allowed, Fact};
 use std::alloc::{AllocError, Global};
 use std::marker::Model;
 use std::sync::Arc;
-use text_map::{NamedValue, TextPages};
+use text_map::{NamedValue, PagedValue, TextPages};
 
 /// The value that a report is to declare, if any, and by identifier the fact that is put there, or none where it is removed.
 #[derive(Drop)]
@@ -26,6 +26,8 @@ impl Model for ChangedReport {
 
     ghost view = { λ r. record { declared = r.declared; facts = r.facts } };
 }
+
+impl PagedValue for ChangedReport {}
 
 /// The fact that is put, or none where it is removed.
 pub(crate) fn fact_of(put: &Option<IndexedFact>) -> Option<&Arc<Fact>>

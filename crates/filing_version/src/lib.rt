@@ -8,6 +8,7 @@
 //! - `puts`: the puts of a change, one by one.
 //! - `fact_entries`: the facts of a report, one by one.
 //! - `got`: what stands at an identifier.
+//! - `laws`: how long the pages of a report are, which no other call tells.
 //!
 //! It knows nothing of sessions, of the history or of devices.
 #![tactic(auto)]
@@ -16,6 +17,7 @@ mod change;
 mod changed_report;
 mod fact_entries;
 mod got;
+pub mod laws;
 mod put_record;
 mod puts;
 mod stamped_report;

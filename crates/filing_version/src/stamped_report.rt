@@ -19,7 +19,7 @@ use oim_report::{Report, ReportParts};
 use std::alloc::{AllocError, Global};
 use std::marker::Model;
 use std::sync::Arc;
-use text_map::{NamedValue, TextPages};
+use text_map::{NamedValue, PagedValue, TextPages};
 
 /// A report whose facts stand in indexes, with the number of its load, that of the last commit that declared its value, and those of its parts. Contracts see these.
 #[derive(Drop)]
@@ -45,6 +45,8 @@ impl Model for StampedReport {
       stamps = f.stamps;
     } };
 }
+
+impl PagedValue for StampedReport {}
 
 /// The facts of a report as an index holds them. Facts are shared, identifiers are copied.
 fn held_facts(alloc: Global, report: &Report) -> Result<Vec<NamedValue<IndexedFact>>, AllocError>

@@ -22,7 +22,7 @@ use crate::fact_entries::FactEntries;
 use crate::got::Got;
 use crate::stamped_report::StampedReport;
 use filing_facts::PeriodFilterRef;
-use filing_index::Ids;
+use filing_index::{Facts, Ids};
 use oim_fact::{Allowed, Class, DimSet, Fact, Names};
 use oim_report::Report;
 use std::alloc::{AllocError, Global};
@@ -154,6 +154,14 @@ impl RepoVersion {
             Some(fact) => Got::Found(fact),
             None => Got::Absent,
         }
+    }
+
+    /// The facts of a report, or none where it is not there.
+    pub(crate) fn facts(&self, report: &str) -> Option<&Facts>
+        ensures { option_map (λ f. f.now) result
+            ≡ option_map (λ r. r.facts) (report_at (repository_in self.now) report.now) }
+    {
+        Some(self.reports.get(report)?.facts())
     }
 
     /// The class of a cell, and the identifiers of its facts in byte order, or none where the report is not there.

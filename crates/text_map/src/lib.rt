@@ -1,6 +1,6 @@
 //! Unchanging maps from texts, in shared pages.
 //!
-//! - `named_value`: a value under a name, and a name that is looked for.
+//! - `named_value`: a value under a name, how many of a kind of value a page holds, and a name that is looked for.
 //! - `text_pages`: the map of such values.
 //!
 //! It knows nothing of reports, of versions or of orders by anything but a name.
@@ -9,5 +9,5 @@
 mod named_value;
 mod text_pages;
 
-pub use named_value::{NamedValue, SoughtName};
+pub use named_value::{NamedValue, PagedValue, SoughtName};
 pub use text_pages::TextPages;

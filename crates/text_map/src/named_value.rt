@@ -1,5 +1,5 @@
 //! A value under a name.
-ghost use Rattle.std.specs.Prelude.{◌≡◌, get_or, string_bytes, IfOk, MatchResult};
+ghost use Rattle.std.specs.Prelude.{◌≡◌, ◌≤◌, get_or, string_bytes, IfOk, MatchResult};
 ghost use Rattle.filing_model.specs.Common.Text.{text_cmp};
 ghost use Rattle.text_map.specs.Heads.{head_of, name_key, IsHeadOf, IsKeyOfHead};
 
@@ -8,6 +8,19 @@ use std::alloc::{AllocError, Global};
 use std::cmp::Ordering;
 use std::marker::Model;
 use std::sync::Arc;
+
+/// What maps from texts hold, which says how long their pages are.
+pub trait PagedValue: Drop {
+    /// The most of these that a page holds. Entries of a copied page are counted up where they lie, so small pages cost less to change, and take less memory where many versions are kept.
+    fn most_in_page() -> usize
+        ensures some { 2 ≤ result }
+        ensures few { result ≤ 64 }
+    {
+        16
+    }
+}
+
+impl<V: Drop> PagedValue for Option<V> {}
 
 /// The byte at a place, or 0 behind the last.
 fn byte_at(bytes: &[u8], place: usize) -> u8
@@ -247,7 +260,7 @@ impl<V: Drop> Numbered for NamedValue<V> {
     }
 }
 
-impl<V: Drop> PageEntry for NamedValue<V> {
+impl<V: PagedValue> PageEntry for NamedValue<V> {
     ghost use Rattle.std.specs.Ordering.{on};
     ghost use Rattle.std.specs.Cmp.{on_total};
     ghost use Rattle.std.specs.Cmp.Lexicographic.{nat_list_cmp_total};
@@ -263,9 +276,8 @@ impl<V: Drop> PageEntry for NamedValue<V> {
 
     ghost key_rises = { λ x y. name_keys_rise x.0 y.0 };
 
-    /// Entries of a copied page are counted up where they lie, so small pages cost less to change, and take less memory where many versions are kept.
     fn most_in_page() -> usize {
-        16
+        V::most_in_page()
     }
 
     fn key(&self) -> u64 {

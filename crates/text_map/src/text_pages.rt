@@ -1,12 +1,13 @@
 //! A map from texts in shared pages.
-ghost use Rattle.std.specs.Prelude.{◌≡◌, T as Holds, map, option_copied, option_map, string_bytes, IfOk, IfSome, Some, None};
+ghost use Rattle.std.specs.Prelude.{◌≡◌, T as Holds, length, map, option_copied, option_map, string_bytes, IfOk, IfSome, Some, None};
 ghost use Rattle.std.specs.FinMap.Entries.{is_sorted};
 ghost use Rattle.sorted_pages.specs.Changes.{entry_of};
+ghost use Rattle.sorted_pages.specs.Pages.{AreSizes};
 ghost use Rattle.filing_model.specs.Common.Text.{text_cmp};
 ghost use Rattle.filing_model.specs.Common.TextMap.{empty, get, insert, remove};
 ghost use Rattle.text_map.specs.MapChanges.{map_with_changes};
 
-use crate::named_value::{NamedValue, SoughtName};
+use crate::named_value::{NamedValue, PagedValue, SoughtName};
 use sorted_pages::{Edit, Paged, Range, Span, order_of_keys};
 use std::alloc::{AllocError, Global};
 use std::cmp::Ordering;
@@ -16,11 +17,11 @@ use std::marker::Model;
 ///
 /// Contracts see the finite map.
 #[derive(Drop)]
-pub struct TextPages<V: Drop> {
+pub struct TextPages<V: PagedValue> {
     pages: Paged<NamedValue<V>>,
 }
 
-impl<V: Drop> Model for TextPages<V> {
+impl<V: PagedValue> Model for TextPages<V> {
     ghost use Rattle.std.specs.Prelude.{T as Holds};
     ghost use Rattle.std.specs.FinMap.Entries.{is_sorted};
     ghost use Rattle.filing_model.specs.Common.Text.{text_cmp};
@@ -37,7 +38,7 @@ impl<V: Drop> Model for TextPages<V> {
 #[derive(Drop)]
 struct At<'a>(SoughtName<'a>);
 
-impl<'a, V: Drop> Span<NamedValue<V>> for At<'a> {
+impl<'a, V: PagedValue> Span<NamedValue<V>> for At<'a> {
     ghost use Rattle.filing_model.specs.Common.Text.{text_cmp};
     ghost use Rattle.text_map.specs.Spans.{name_is_monotone};
 
@@ -58,7 +59,7 @@ impl<'a, V: Drop> Span<NamedValue<V>> for At<'a> {
 #[derive(Drop)]
 struct All;
 
-impl<V: Drop> Span<NamedValue<V>> for All {
+impl<V: PagedValue> Span<NamedValue<V>> for All {
     ghost use Rattle.std.specs.declared.cmp.Ordering.TheVariants.{Equal};
     ghost use Rattle.text_map.specs.Spans.{all_is_monotone};
 
@@ -75,7 +76,7 @@ impl<V: Drop> Span<NamedValue<V>> for All {
     }
 }
 
-impl<V: Drop> TextPages<V> {
+impl<V: PagedValue> TextPages<V> {
     /// The map of nothing. It takes no memory.
     pub fn new(alloc: Global) -> TextPages<V>
         ensures { result ≡ empty }
@@ -178,5 +179,11 @@ impl<V: Drop> TextPages<V> {
         ensures { result ≡ self.now.entries }
     {
         self.pages.range(&All)
+    }
+    /// The lengths of the pages, for tests. Entries that stand in place are one page.
+    pub fn page_sizes(&self, alloc: Global) -> Result<Vec<usize>, AllocError>
+        ensures { IfOk result (λ sizes. AreSizes sizes.items (length self.now.entries)) }
+    {
+        self.pages.page_sizes(alloc)
     }
 }

@@ -69,13 +69,13 @@ fn worked<L: Ledger + Naming, M: Ledger, R: Wait + AllocGlobal>(
     (desk, reviewer, outcomes)
 }
 
-/// Lets each desk take its rounds in a thread of its own, and tells whether one waited for the others in vain.
-fn run_lists<
+/// Lets each desk take its steps in a thread of its own, and tells whether one waited for the others in vain.
+pub(crate) fn run_lists<
     L: Ledger + Naming + Send + Sync,
     M: Ledger + Send + Sync,
     R: Threads + Wait + Sync + Print + AllocGlobal,
 >(rt: &R, office: &Office<L, M>, works: Vec<Work<L, M>>) -> Result<Vec<Ran<L, M>>> {
-    let meeting = Meeting::new();
+    let meeting = Meeting::of(works.len());
     let ran = run_desks(rt, rt.alloc(), office, works, &meeting)?;
     match meeting.tell(rt) {
         Ok(()) => Ok(ran),
@@ -86,14 +86,14 @@ fn run_lists<
     }
 }
 
-/// Loads the report.
-fn load<L: Ledger + Naming, M: Ledger, R: Wait + AllocGlobal>(
+/// The first desk loads the report.
+pub(crate) fn load<L: Ledger + Naming, M: Ledger, R: Wait + AllocGlobal>(
     rt: &R,
     office: &Office<L, M>,
     desks: &mut Vec<Desk<L, M>>,
 ) -> Result<()> {
     let step = line_step(rt.alloc(), LOAD)?;
-    match desks.last_mut() {
+    match desks.first_mut() {
         Some(desk) => {
             drop(desk.step(rt, rt.alloc(), office, None, step)?);
             Ok(())
@@ -127,7 +127,7 @@ fn run_rounds<
 }
 
 /// The desk that comes back.
-fn desk_of<L: Ledger + Naming, M: Ledger>(
+pub(crate) fn desk_of<L: Ledger + Naming, M: Ledger>(
     _alloc: Global,
     _place: usize,
     ran: Ran<L, M>,

@@ -6,22 +6,22 @@ use std::sync::atomic::Ordering::SeqCst;
 use std::sync::atomic::{AtomicBool, AtomicU64};
 use std::thread;
 
-/// So many desks meet.
-const DESKS: u64 = 4;
-
 /// So often a desk looks whether the others have come.
 const TURNS: usize = 1_000_000;
 
-/// A gate at which each of four desks waits before its second step until the others are there too.
+/// A gate at which each of some desks waits before its second step until the others are there too.
 #[derive(Drop)]
 pub(crate) struct Meeting {
+    desks: u64,
     came: AtomicU64,
     missed: AtomicBool,
 }
 
 impl Meeting {
-    pub(crate) fn new() -> Meeting {
+    /// One for so many desks.
+    pub(crate) fn of(desks: usize) -> Meeting {
         Meeting {
+            desks: desks as u64,
             came: AtomicU64::new(0),
             missed: AtomicBool::new(false),
         }
@@ -42,7 +42,7 @@ impl Gate for Meeting {
         }
         self.came.fetch_add(1, SeqCst);
         for _ in 0..TURNS {
-            if self.came.load(SeqCst) >= DESKS {
+            if self.came.load(SeqCst) >= self.desks {
                 return;
             }
             thread::yield_now();

@@ -5,6 +5,7 @@ use crate::sheet::{Answers, Sheet};
 use crate::sheets::dimensions::{dims_answer, names_answer, order_answer};
 use crate::sheets::facts::{fact_answer, raw_answer};
 use crate::sheets::infos::info_answer;
+use crate::sheets::numbers::number_answer;
 use crate::sheets::reports::{fronts_answer, parts_answer, report_answer, written_answer};
 use crate::sheets::scripts::run_lines;
 use crate::sheets::steps::steps_answers;
@@ -32,6 +33,7 @@ fn value_answer(alloc: Global, table: &Table, kind: Asked, value: &Value) -> Res
         Asked::Written => written_answer(alloc, value, &table.numeric),
         Asked::Parts => parts_answer(alloc, value, &table.numeric),
         Asked::Info => info_answer(alloc, value, &table.numeric),
+        Asked::Number => Ok(number_answer(alloc, value)?),
         Asked::RawFact => raw_answer(alloc, value),
         Asked::Fact => fact_answer(alloc, value, table.report.names()),
         Asked::Dims => dims_answer(alloc, value),

@@ -7,7 +7,7 @@ use crate::versions::telling::{
     push_word,
 };
 use anyhow::{Result, anyhow};
-use filing_version::{Change, Got, Ids, PeriodFilterRef, RepoVersion};
+use filing_version::{Change, Got, Ids, PeriodFilterRef, RepoVersion, laws};
 use oim_fact::{Allowed, Class, Fact};
 use oim_report::{Report, allowed_word};
 use std::alloc::{AllocError, Global};
@@ -60,6 +60,12 @@ fn push_query(told: &mut String, ids: Option<Ids<'_>>) -> Result<(), AllocError>
         }
         None => told.push_str(NO_REPORT),
     }
+}
+
+/// Appends the lengths of the pages of a report.
+fn push_pages(alloc: Global, told: &mut String, version: &RepoVersion, report: &str) -> Result<()> {
+    let sizes = laws::page_sizes(alloc, version, report)?;
+    Ok(write!(told, "{sizes:?}")?)
 }
 
 fn push_allowed(told: &mut String, allowed: Option<Allowed>) -> Result<(), AllocError> {
@@ -125,7 +131,7 @@ fn push_found(told: &mut String, version: &RepoVersion, pool: &Pool, line: &str)
     }
 }
 
-/// Appends the answer of a version to a line: `allowed REPORT`, `report REPORT`, `disallowed REPORT`, or facts or a stamp.
+/// Appends the answer of a version to a line: `number`, `allowed REPORT`, `report REPORT`, `pages REPORT`, `disallowed REPORT`, or facts or a stamp.
 pub(crate) fn push_answer(
     alloc: Global,
     told: &mut String,
@@ -135,7 +141,9 @@ pub(crate) fn push_answer(
 ) -> Result<()> {
     let report = word(line, 1);
     match word(line, 0) {
+        "number" => Ok(write!(told, "{}", version.number())?),
         "allowed" => Ok(push_allowed(told, version.allowed(report))?),
+        "pages" => push_pages(alloc, told, version, report),
         "report" => Ok(push_report(told, version.report(alloc, report)?)?),
         "disallowed" => Ok(push_dims_or_none(told, version.disallowed_in(report))?),
         _ => push_found(told, version, pool, line),

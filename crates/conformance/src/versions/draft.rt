@@ -1,13 +1,35 @@
-//! Changes that name no report but those of a version.
+//! Loads under names that a version does not have, and changes that name no report but its own.
 ghost use Rattle.std.specs.Prelude.{◌≡◌, IfOk};
 ghost use Rattle.filing_model.specs.Histories.Stamps.{version_after};
 ghost use Rattle.filing_version.specs.Filed.{version_in};
 
+use anyhow::{Result, anyhow};
 use filing_version::{Change, RepoVersion};
 use oim_fact::{Allowed, Fact};
+use oim_report::Report;
 use std::alloc::{AllocError, Global};
 use std::marker::Model;
 use std::sync::Arc;
+
+/// The version with a report more, whose name is not taken.
+pub(crate) fn with_report(
+    alloc: Global,
+    base: &RepoVersion,
+    name: &str,
+    report: Report,
+) -> Result<RepoVersion> {
+    if base.allowed(name).is_some() || base.number() == u64::MAX {
+        drop(report);
+        return Err(anyhow!("the name {name} is taken"));
+    }
+    match String::from_str(alloc, name) {
+        Ok(name) => Ok(base.with_report(alloc, name, report)?),
+        Err(error) => {
+            drop(report);
+            Err(error.into())
+        }
+    }
+}
 
 /// A change of a version. What is put or declared in a report that is not there is passed over.
 #[derive(Drop)]

@@ -3,7 +3,7 @@
 //! An edit waits for the next load or commit. `load REPORT WORD` loads the facts that wait for a report, which declares the word; `commit` makes the version after the edits, and `try` takes it back where a cell of it is not allowed; both answer with the first such cell. `at NUMBER` goes to an older version. `puts`, `staged REPORT ID` and `declares REPORT` ask for what waits, as a change has it. All others are questions to the version.
 
 use crate::versions::answers::{push_answer, push_waiting};
-use crate::versions::draft::Draft;
+use crate::versions::draft::{Draft, with_report};
 use crate::versions::edits::{make_all, report_text, word};
 use crate::versions::facts::Pool;
 use crate::versions::telling::{NONE, push_cell_or_none};
@@ -18,26 +18,6 @@ struct Session {
     versions: Vec<RepoVersion>,
     waiting: String,
     at: usize,
-}
-
-/// The version with a report more.
-fn with_report(
-    alloc: Global,
-    base: &RepoVersion,
-    name: &str,
-    report: Report,
-) -> Result<RepoVersion> {
-    if base.allowed(name).is_some() || base.number() == u64::MAX {
-        drop(report);
-        return Err(anyhow!("the name {name} is taken"));
-    }
-    match String::from_str(alloc, name) {
-        Ok(name) => Ok(base.with_report(alloc, name, report)?),
-        Err(error) => {
-            drop(report);
-            Err(error.into())
-        }
-    }
 }
 
 /// The version after a draft. The first cell of it that is not allowed is told.
