@@ -1,9 +1,12 @@
+-- ---- runs
+pub mod CarriedRuns
 -- ---- lines of scripts
 pub mod JudgedReplies
 -- ---- whole scripts
 pub mod Scripts
 -- ---- histories
 pub mod PlainEntries
+pub mod JudgedByEngine
 pub mod JudgedLines
 pub mod HistoryRuns
 pub mod WrittenEntries

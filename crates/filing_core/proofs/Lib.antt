@@ -8,8 +8,9 @@ pub mod RefusedReports
 pub mod CommitsByVersion
 -- ---- what is kept
 pub mod KeptAfter
-pub mod NewestEntry
-pub mod Asking
 pub mod Preparing
+pub mod EngineSteps
+pub mod CoreSteps
 -- ---- entries of others
 pub mod Following
+pub mod TakenOver

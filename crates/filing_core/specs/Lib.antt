@@ -4,6 +4,8 @@ pub mod Standing
 pub mod OpenSessions
 pub mod Outcomes
 pub mod Prepared
-pub mod Answers
 pub mod Kept
+pub mod Engines
+pub mod EngineAnswers
+pub mod Answers
 pub mod Verdicts

@@ -1,13 +1,15 @@
 //! The core of the repository: many sessions at once, each validated at its commit (serial validation: Kung and Robinson 1981), and the history of every step with its reply.
 //!
-//! - `engine`: the core, which takes a step.
+//! - `engine`: what takes a step and keeps none.
+//! - `engine_fault`: why an engine did not take a step.
+//! - `kept_core`: the core, an engine with its history.
 //! - `fault`: why a step was not taken.
 //! - `prepared`: a load or a commit that is ready to be entered.
 //! - `sessions`: the open sessions by their numbers.
 //! - `outcome`: what a load or a commit is told, and the version that it makes.
 //! - `conflict`: what was touched of the things that a session read.
 //! - `disallowed`: how a cell that its report does not allow is told.
-//! - `check`: histories of others, compared with a run of the core.
+//! - `check`: histories of others, compared with a run of an engine.
 //! - `compared_replies`: whether two replies are the same.
 //! - `verdict`: whether entries are a lawful history.
 //!
@@ -21,15 +23,19 @@ mod compared_replies;
 mod conflict;
 mod disallowed;
 mod engine;
+mod engine_fault;
 mod fault;
+mod kept_core;
 mod outcome;
 mod prepared;
 mod sessions;
 mod verdict;
 
 pub use check::check_run;
-pub use engine::Core;
+pub use engine::Engine;
+pub use engine_fault::EngineFault;
 pub use fault::CoreFault;
 pub use filing_step::{Entry, Kind, Reply, Step};
+pub use kept_core::Core;
 pub use prepared::Prepared;
 pub use verdict::Verdict;
