@@ -7,6 +7,7 @@ use Rattle.filing_model.specs.Histories.History.{History}
 use Rattle.line_io.specs.Lines.{lines_of, spoken}
 use Rattle.script_format.specs.Script.{script_output, script_history}
 use Rattle.history_format.specs.LinesRead.{LinesDepart}
+use Rattle.filing_core.specs.Engines.{EngineState, IsEngineOf}
 use Rattle.filing_core.specs.Verdicts.{departure}
 use Rattle.filing_core.specs.declared.verdict.Verdict.{Verdict}
 use Rattle.filing_cli.specs.HistoryRun.{verdict_text, verdict_status}
@@ -19,6 +20,12 @@ pub record WritesScript (table : Table) (rest rest' written written' : Option (L
   pub at_end : IsAtEnd rest'
   pub took : Appends written written' (script_output table given)
   pub history_is : history ≡ script_history table given
+
+-- so of an engine, which is that of the script's history
+abbrev pub WritesScriptOn : Table → Option (List ℕ) → Option (List ℕ) → Option (List ℕ) → Option (List ℕ)
+    → EngineState → Type 0
+WritesScriptOn table rest rest' written written' engine =
+    (h : History) × (WritesScript table rest rest' written written' h × IsEngineOf h engine)
 
 -- the reader was read to its end, and the line of the verdict on its lines is what was written and nothing else, as far as the bytes of either are known; the status is that of the verdict
 pub record WritesVerdict (table : Table) (rest rest' written written' : Option (List ℕ)) (status : ℕ) : Type 0 where

@@ -1,7 +1,7 @@
 -- ---- runs
 pub mod CarriedRuns
 -- ---- lines of scripts
-pub mod JudgedReplies
+pub mod MachineAnswers
 -- ---- whole scripts
 pub mod Scripts
 -- ---- histories

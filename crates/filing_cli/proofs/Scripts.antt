@@ -1,41 +1,76 @@
 -- A run over a script, in terms of the script's output.
-use Rattle.std.proofs.Common.{◌≡◌, ◌∙◌, ℕ, ap, subst}
-use Rattle.std.specs.declared.result.Result.TheVariants.{Err}
+use Rattle.std.proofs.Common.{◌≡◌, ◌∙◌, ℕ, ap, sym, refl, subst, []}
+use Rattle.std.specs.declared.result.Result.{Result}
+use Rattle.std.specs.declared.result.Result.TheVariants.{Ok, Err}
+use Rattle.filing_model.specs.Common.Text.{Text}
 use Rattle.filing_model.specs.Oim.Facts.{Table}
 use Rattle.filing_model.specs.Histories.History.{History}
 use Rattle.line_io.specs.Devices.{SourceState, SinkState, Took}
 use Rattle.line_io.specs.Lines.{lines_of, spoken, lines_text}
 use Rattle.line_io.specs.Run.{IsAnswered, Runs, replies_by, state_after}
 use Rattle.script_format.specs.Script.{State, start, line_answer, script_output, script_history}
-use Rattle.filing_cli.specs.ScriptRun.{IsReply, IsScriptEnded, IsScriptStopped}
+use Rattle.filing_core.specs.States.{CoreState}
+use Rattle.filing_cli.specs.ScriptRun.{IsReply, IsScriptEnded, IsScriptStopped, ScriptRunsWithin, TakerRuns}
+use Rattle.filing_cli.specs.StepsTaken.{AnswersLine, carried}
+use Rattle.filing_cli.specs.declared.script_machine.ScriptMachine.{ScriptMachine}
+use Rattle.filing_cli.proofs.CarriedRuns.{answers_carried, stops_carried}
 use Rattle.line_io.specs.declared.fault.ScriptFault.{ScriptFault}
 use Rattle.line_io.specs.declared.fault.ScriptFault.TheVariants.{NoMemory}
 use Rattle.line_io.proofs.AnsweringMachines.{answers_of_function}
 use Rattle.line_io.proofs.RunByReads.{starved_at_once}
 
-pub script_ended : (table : Table) (before after : State) (source source' : SourceState) (sink sink' : SinkState) (history : History)
-    → IsAnswered IsReply before after source source' sink sink' → before ≡ start table → history ≡ after.history
-    → IsScriptEnded table source source' sink sink' history
-unfolding script_output script_history
-script_ended table before after source source' sink sink' history p partial is =
-    let told = answers_of_function IsReply (λ (s : State). s) line_answer (λ m n line text h. h) before after
-    (spoken (lines_of p.given)) p.texts p.answers in record {
-      given = p.given;
-      gave = p.gave;
-      at_end = p.at_end;
-      took = subst (λ text. Took sink sink' text 0) (ap lines_text (told.0 ∙ ap (λ s. replies_by line_answer s (spoken (lines_of p.given))) partial)) p.took;
-      history_is = is ∙ ap (λ s. s.history) (told.1 ∙ ap (λ s. state_after line_answer s (spoken (lines_of p.given))) partial);
-    }
+module _ {T : Type 0} (has_taken : T → History → Type 0) where
+  -- a machine carries the state of a script, by steps that were taken
+  abbrev Carries : ScriptMachine T → State → Type 0
+  Carries m s = (h : History) × ((s ≡ carried m h) × has_taken m.taker h)
 
-pub script_stopped : {S : Type 0} (state : S → SourceState) (reads : ℕ) (table : Table) (before after : State) (source source' : S)
-    (sink sink' : SinkState) (fault : ScriptFault)
-    → Runs {X = Unit {0}} IsReply state reads (Err fault) before after source source' sink sink' → before ≡ start table
-    → IsScriptStopped state reads table source source' sink sink' fault
-script_stopped state reads table before after source source' sink sink' fault p begun = record {
-  after = after;
-  runs = subst (λ s. Runs {X = Unit {0}} IsReply state reads (Err fault) s after source source' sink sink') begun p;
-}
+  answers_on : (m n : ScriptMachine T) (line text : Text) (s : State) → AnswersLine has_taken m line text n → Carries m s
+      → (t : State) × (IsReply s line text t × Carries n t)
+  answers_on m n line text s answers (h, (is, taken)) =
+      let a = answers h taken in
+      (carried n a.history, ((ap (λ s. line_answer s line) is ∙ a.is), (a.history, (refl, a.taken))))
+
+  module _ (table : Table) (before after : ScriptMachine T) (begun : carried before [] ≡ start table) (none : has_taken before.taker []) where
+    begins : Carries before (start table)
+    begins = ([], (sym begun, none))
+
+    pub script_ended : (source source' : SourceState) (sink sink' : SinkState) → IsAnswered (AnswersLine has_taken) before after source source' sink sink'
+        → (h : History) × (IsScriptEnded table source source' sink sink' h × has_taken after.taker h)
+    unfolding script_output script_history
+    script_ended source source' sink sink' p =
+        let lines = spoken (lines_of p.given) in
+        let carries = answers_carried (AnswersLine has_taken) IsReply Carries answers_on lines p.texts before after (start table) p.answers begins in
+        let told = answers_of_function IsReply (λ (s : State). s) line_answer (λ m n line text h. h) (start table) carries.0 lines p.texts carries.1.0 in
+        let at_last = carries.1.1 in (
+          at_last.0,
+          (
+            record {
+              given = p.given;
+              gave = p.gave;
+              at_end = p.at_end;
+              took = subst (λ text. Took sink sink' text 0) (ap lines_text told.0) p.took;
+              history_is = ap (λ s. s.history) (sym at_last.1.0 ∙ told.1);
+            },
+            at_last.1.1,
+          ),
+        )
+
+    pub script_stopped : {S : Type 0} (state : S → SourceState) (reads : ℕ) (source source' : S) (sink sink' : SinkState) (fault : ScriptFault)
+        → Runs {X = Unit {0}} (AnswersLine has_taken) state reads (Err fault) before after source source' sink sink'
+        → IsScriptStopped state reads table source source' sink sink' fault
+    script_stopped state reads source source' sink sink' fault p =
+        let stopped = stops_carried (AnswersLine has_taken) IsReply Carries answers_on state reads before after source source' sink sink' (start table)
+        begins fault p in
+        record { after = stopped.0; runs = stopped.1 }
 
 pub stopped_at_once : {S : Type 0} (state : S → SourceState) (reads : ℕ) (table : Table) (source : S) (sink : SinkState)
     → IsScriptStopped state reads table source source sink sink (NoMemory 1)
 stopped_at_once state reads table source sink = record { after = start table; runs = starved_at_once IsReply state (start table) source sink }
+
+-- a core has taken its history
+pub core_runs : {S : Type 0} (state : S → SourceState) (reads : ℕ) (table : Table) (result : Result CoreState ScriptFault) (source source' : S) (sink sink' : SinkState)
+    → TakerRuns (λ core h. core.history ≡ h) state reads table result source source' sink sink'
+    → ScriptRunsWithin state reads table result source source' sink sink'
+core_runs state reads table (Ok core) source source' sink sink' (h, (ended, is)) =
+    subst (λ h. IsScriptEnded table (state source) (state source') sink sink' h) (sym is) ended
+core_runs state reads table (Err fault) source source' sink sink' p = p

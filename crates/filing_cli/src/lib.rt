@@ -2,6 +2,7 @@
 //!
 //! - `script`: runs a script.
 //! - `script_machine`: answers its lines, each by the step that it takes.
+//! - `takes_steps`: what takes its steps: a core, or an engine.
 //! - `history`: writes a history, and has those of others judged.
 //! - `judge`: follows the lines of a history, and tells where they depart.
 //!
@@ -12,6 +13,7 @@ mod history;
 mod judge;
 mod script;
 mod script_machine;
+mod takes_steps;
 
 // The names of `filing_threads`, `line_io` and `script_format` are handed on only so that callers find the whole command-line interface in one crate.
 pub use filing_threads::{ThreadsFault, Unwatched, Watch, run_threads, run_threads_watched};
@@ -20,7 +22,7 @@ pub use line_io::{
     Failed, FromReader, Machine, MemoryIn, MemoryOut, ScriptFault, Sink, Source, ToWriter,
     is_blank, run, write_all,
 };
-pub use script::{run_script, run_script_within};
+pub use script::{run_script, run_script_on_engine, run_script_within};
 pub use script_format::{
     bad_fact_reply, bad_line_reply, bad_report_reply, exported_reply, name_in_use_reply,
     no_session_reply, reply_text,

@@ -1,11 +1,12 @@
 //! A run over a script, from its source to its sink.
 
-ghost use Rattle.std.specs.Prelude.{◌+◌, ◌≤◌};
+ghost use Rattle.std.specs.Prelude.{◌+◌, ◌≤◌, []};
 ghost use Rattle.std.specs.Arc.{arc_value};
-ghost use Rattle.filing_cli.specs.ScriptRun.{most_reads, ScriptRuns, ScriptRunsWithin};
+ghost use Rattle.filing_cli.specs.ScriptRun.{most_reads, EngineRuns, ScriptRuns, ScriptRunsWithin, TakerRuns};
 
 use crate::script_machine::ScriptMachine;
-use filing_core::Core;
+use crate::takes_steps::TakesSteps;
+use filing_core::{Core, Engine};
 use line_io::{ScriptFault, Sink, Source, run};
 use oim_fact::NumericTable;
 use std::alloc::Global;
@@ -13,6 +14,29 @@ use std::sync::Arc;
 
 /// So many reads are made at most.
 pub(crate) const READS: u64 = 1 << 32;
+
+/// Runs a script, whose steps are taken by what has taken none yet, and gives that back.
+fn run_with<T: TakesSteps + Drop, R: Source, W: Sink>(
+    alloc: Global,
+    taker: T,
+    input: &mut R,
+    output: &mut W,
+    table: &Arc<NumericTable>,
+    reads: u64,
+) -> Result<T, ScriptFault>
+    requires { T.has_taken taker [] }
+    ensures script { TakerRuns T.has_taken R.state reads (arc_value table.now) result input.old input.new
+        (W.state output.old) (W.state output.new) }
+    ensures bounded { (R.state input.new).reads ≤ (R.state input.old).reads + reads }
+{
+    let Ok(mut machine) = ScriptMachine::new(alloc, table, taker) else {
+        return Err(ScriptFault::NoMemory(1));
+    };
+    match run(alloc, &mut machine, input, output, reads) {
+        Ok(()) => Ok(machine.into_taker()),
+        Err(fault) => Err(fault),
+    }
+}
 
 /// Runs a script: reads reports by the numeric table, takes the step of each line that has one, in their order, and writes a reply to each line that is not blank. It gives back the core with the steps that were taken. At most 2^32 reads are made.
 pub fn run_script<R: Source, W: Sink>(
@@ -40,11 +64,25 @@ pub fn run_script_within<R: Source, W: Sink>(
         (W.state output.old) (W.state output.new) }
     ensures bounded { (R.state input.new).reads ≤ (R.state input.old).reads + reads }
 {
-    let Ok(mut machine) = ScriptMachine::new(alloc, table) else {
-        return Err(ScriptFault::NoMemory(1));
-    };
-    match run(alloc, &mut machine, input, output, reads) {
-        Ok(()) => Ok(machine.into_core()),
-        Err(fault) => Err(fault),
+    match Core::new(alloc) {
+        Ok(core) => run_with(alloc, core, input, output, table, reads),
+        Err(_) => Err(ScriptFault::NoMemory(1)),
+    }
+}
+
+/// Runs a script as `run_script` does, and keeps none of its steps: it gives back the engine that took them.
+pub fn run_script_on_engine<R: Source, W: Sink>(
+    alloc: Global,
+    input: &mut R,
+    output: &mut W,
+    table: &Arc<NumericTable>,
+) -> Result<Engine, ScriptFault>
+    ensures script { EngineRuns R.state (arc_value table.now) result input.old input.new
+        (W.state output.old) (W.state output.new) }
+    ensures bounded { (R.state input.new).reads ≤ (R.state input.old).reads + most_reads }
+{
+    match Engine::new(alloc) {
+        Ok(engine) => run_with(alloc, engine, input, output, table, READS),
+        Err(_) => Err(ScriptFault::NoMemory(1)),
     }
 }

@@ -1,14 +1,15 @@
-//! `ScriptMachine`: a core that is asked by lines of a script.
+//! `ScriptMachine`: what takes steps, asked by lines of a script.
 
-ghost use Rattle.std.specs.Prelude.{◌≡◌, IfOk, IsSome, OnOk, Some, string_bytes};
+ghost use Rattle.std.specs.Prelude.{◌≡◌, [], IfOk, string_bytes};
 ghost use Rattle.std.specs.Arc.{arc_value};
-ghost use Rattle.filing_model.specs.Common.TextMap.{get, insert, remove};
+ghost use Rattle.filing_model.specs.Common.TextMap.{get};
 ghost use Rattle.filing_step.specs.Steps.{step_of};
 ghost use Rattle.script_format.specs.LineOutcomes.{judged_under};
-ghost use Rattle.script_format.specs.Script.{StepDue, start, answered, judged_open, judged_step, judged_end, judged_export};
-ghost use Rattle.filing_cli.specs.ScriptRun.{IsReply, newest_session};
+ghost use Rattle.script_format.specs.Script.{StepDue, start, judged_open, judged_step, judged_end, judged_export};
+ghost use Rattle.filing_cli.specs.StepsTaken.{Answers, AnswersLine, carried};
 
-use filing_core::{Core, CoreFault};
+use crate::takes_steps::TakesSteps;
+use filing_core::CoreFault;
 use filing_step::{Kind, Reply, SessionNames, Step};
 use filing_version::RepoVersion;
 use line_io::Machine;
@@ -17,42 +18,37 @@ use script_format::{
     LineOutcome, classify_line, exported_reply_of, name_in_use_reply, no_session_reply, reply_text,
 };
 use std::alloc::{AllocError, Global};
-use std::marker::Model;
 use std::sync::Arc;
 
-/// What answers the lines of a script: a core, with the names in use and the table by which reports are read. Contracts see it as what a script carries from line to line.
+/// What answers the lines of a script: what takes its steps, with the names in use and the table by which reports are read.
 #[derive(Drop)]
-pub(crate) struct ScriptMachine {
+pub(crate) struct ScriptMachine<T: TakesSteps + Drop> {
     table: Arc<NumericTable>,
-    core: Core,
+    taker: T,
     names: SessionNames<u64>,
 }
 
-impl Model for ScriptMachine {
-    ghost use Rattle.std.specs.Arc.{arc_value};
-    ghost use Rattle.script_format.specs.Script.{State};
-
-    ghost Value = { State };
-
-    ghost view = { λ r. record { table = arc_value r.table; history = r.core.history; names = r.names } };
-}
-
-impl ScriptMachine {
-    /// A machine before the first line.
-    pub(crate) fn new(alloc: Global, table: &Arc<NumericTable>) -> Result<ScriptMachine, AllocError>
-        ensures { IfOk result (λ r. r ≡ start (arc_value table.now)) }
+impl<T: TakesSteps + Drop> ScriptMachine<T> {
+    /// A machine before the first line, of what has taken no step.
+    pub(crate) fn new(
+        alloc: Global,
+        table: &Arc<NumericTable>,
+        taker: T,
+    ) -> Result<ScriptMachine<T>, AllocError>
+        ensures taker { IfOk result (λ m. m.taker ≡ taker) }
+        ensures start { IfOk result (λ m. carried m [] ≡ start (arc_value table.now)) }
     {
         Ok(ScriptMachine {
             table: table.clone()?,
-            core: Core::new(alloc)?,
+            taker,
             names: SessionNames::new(alloc),
         })
     }
 
-    pub(crate) fn into_core(self) -> Core
-        ensures { result.history ≡ self.history }
+    pub(crate) fn into_taker(self) -> T
+        ensures { result ≡ self.taker }
     {
-        self.core
+        self.taker
     }
 
     /// The number of the session that has a name.
@@ -62,32 +58,6 @@ impl ScriptMachine {
         self.names.get(session).copied()
     }
 
-    /// The session of the newest entry.
-    fn newest_session(&self) -> u64
-        requires { IsSome (newest_session self.now.history) }
-        ensures { newest_session self.now.history ≡ Some result }
-    {
-        let [.., entry] = self.core.history() else {
-            unreachable!()
-        };
-        let Some(number) = entry.session else {
-            unreachable!()
-        };
-        number
-    }
-
-    fn put_name(&mut self, alloc: Global, session: &str, number: u64) -> Result<(), AllocError>
-        ensures { OnOk result (self.new ≡ record self.old { names = insert self.old.names session.now number }) }
-    {
-        self.names.insert(String::from_str(alloc, session)?, number)
-    }
-
-    fn free_name(&mut self, session: &str)
-        ensures { self.new ≡ record self.old { names = remove self.old.names session.now } }
-    {
-        self.names.remove(session);
-    }
-
     /// Takes a step, and leaves the names as they are.
     fn take(
         &mut self,
@@ -95,10 +65,10 @@ impl ScriptMachine {
         session: Option<u64>,
         step: Step,
     ) -> Result<String, AllocError>
-        ensures { IfOk result (λ text. answered self.old (StepDue session (step_of step) self.old.names)
-            ≡ (string_bytes text, self.new)) }
+        ensures { IfOk result (λ text. Answers T.has_taken
+            (λ state. StepDue session (step_of step) state.names) self.old (string_bytes text) self.new) }
     {
-        match self.core.step(alloc, session, step) {
+        match self.taker.take_step(alloc, session, step) {
             Ok(reply) => {
                 let text = reply_text(alloc, &reply);
                 drop(reply);
@@ -111,22 +81,23 @@ impl ScriptMachine {
 
     /// Answers an opening.
     fn open(&mut self, alloc: Global, session: &str, kind: Kind) -> Result<String, AllocError>
-        ensures { IfOk result (λ text. answered self.old (judged_open self.old session.now kind)
-            ≡ (string_bytes text, self.new)) }
+        ensures { IfOk result (λ text. Answers T.has_taken
+            (λ state. judged_open state session.now kind) self.old (string_bytes text) self.new) }
     {
         if self.number_of(session).is_some() {
             return String::from_str(alloc, name_in_use_reply());
         }
         let text = self.take(alloc, None, Step::Open(kind))?;
-        let number = self.newest_session();
-        self.put_name(alloc, session, number)?;
+        let name = String::from_str(alloc, session)?;
+        let number = self.taker.as_engine().opened();
+        self.names.insert(name, number)?;
         Ok(text)
     }
 
     /// Takes a step of the session that has a name, which keeps it.
     fn take_under(&mut self, alloc: Global, session: &str, step: Step) -> Result<String, AllocError>
-        ensures { IfOk result (λ text. answered self.old
-            (judged_step self.old session.now (step_of step)) ≡ (string_bytes text, self.new)) }
+        ensures { IfOk result (λ text. Answers T.has_taken
+            (λ state. judged_step state session.now (step_of step)) self.old (string_bytes text) self.new) }
     {
         let Some(number) = self.number_of(session) else {
             drop(step);
@@ -137,24 +108,24 @@ impl ScriptMachine {
 
     /// Answers a session that ends by this step.
     fn end(&mut self, alloc: Global, session: &str, step: Step) -> Result<String, AllocError>
-        ensures { IfOk result (λ text. answered self.old
-            (judged_end self.old session.now (step_of step)) ≡ (string_bytes text, self.new)) }
+        ensures { IfOk result (λ text. Answers T.has_taken
+            (λ state. judged_end state session.now (step_of step)) self.old (string_bytes text) self.new) }
     {
         let Some(number) = self.number_of(session) else {
             drop(step);
             return String::from_str(alloc, no_session_reply());
         };
         let text = self.take(alloc, Some(number), step)?;
-        self.free_name(session);
+        self.names.remove(session);
         Ok(text)
     }
 
     /// The report as the current version has it.
     fn export(&self, alloc: Global, name: &str) -> Result<String, AllocError>
-        ensures { IfOk result (λ text. answered self.now (judged_export self.now name.now)
-            ≡ (string_bytes text, self.now)) }
+        ensures { IfOk result (λ text. Answers T.has_taken
+            (λ state. judged_export state name.now) self.now (string_bytes text) self.now) }
     {
-        let version: &RepoVersion = self.core.current();
+        let version: &RepoVersion = self.taker.as_engine().current();
         match (version.info(name), version.entries(name)) {
             (Some(info), Some(entries)) => exported_reply_of(alloc, info, entries),
             _ => reply_text(alloc, &Reply::NoReport),
@@ -163,8 +134,8 @@ impl ScriptMachine {
 
     /// Takes a step under the name of a session.
     fn take_due(&mut self, alloc: Global, name: &str, step: Step) -> Result<String, AllocError>
-        ensures { IfOk result (λ text. answered self.old (judged_under self.old name.now (step_of step))
-            ≡ (string_bytes text, self.new)) }
+        ensures { IfOk result (λ text. Answers T.has_taken
+            (λ state. judged_under state name.now (step_of step)) self.old (string_bytes text) self.new) }
     {
         match step {
             Step::Load(_, _) => self.take(alloc, None, step),
@@ -175,9 +146,8 @@ impl ScriptMachine {
     }
 }
 
-#[tactic(auto, unfolding(script_format::specs::Script::line_answer))]
-impl Machine for ScriptMachine {
-    ghost replies = { IsReply };
+impl<T: TakesSteps + Drop> Machine for ScriptMachine<T> {
+    ghost replies = { AnswersLine T.has_taken };
 
     fn answer(&mut self, alloc: Global, line: &[u8]) -> Result<String, AllocError> {
         match classify_line(alloc, line, &self.table)? {

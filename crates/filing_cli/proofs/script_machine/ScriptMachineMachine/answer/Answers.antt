@@ -1,32 +1,24 @@
 use Rattle.std.proofs.Common.{◌≡◌, rules, string_bytes}
-use Rattle.std.specs.Arc.{arc_value}
 use Rattle.std.proofs.lemmas.Result.{IfOk-weaker}
-use Rattle.filing_cli.proofs.JudgedReplies.{judged_now, told_reply, export_reply, due_reply}
+use Rattle.filing_cli.proofs.MachineAnswers.{reply_told, export_told, step_told}
 use Rattle.filing_cli.proofs.script_machine.ScriptMachineMachine.answer.Goals as goal
 
 pub returns-in-ReplyNow : goal.returns-in-ReplyNow
-returns-in-ReplyNow c =
-    told_reply c.args.self.now c.args.line.now c.in_ok-text.field-0
-    (judged_now (arc_value c.self.inside.table) c.self.inside.core.history c.self.inside.names c.args.self.now c.args.line.now
-    c.in_ok-text.field-0 c.self.view_is c.in_ok-text.ensures)
-    c.in-ReplyNow.text c.in-ReplyNow.is
+returns-in-ReplyNow g c = λ h taken.
+    reply_told g.T.TakesSteps.has_taken c.args.self.now h c.args.line.now c.in_ok-text.field-0 c.in-ReplyNow.text c.in_ok-text.ensures c.in-ReplyNow.is taken
 
 pub returns-in-Export : goal.returns-in-Export
-returns-in-Export c =
+returns-in-Export g c =
     let named : c.deref.result.now ≡ string_bytes c.in-Export.name = search rules in
     IfOk-weaker c.export.result _ _
-    (λ reply is. export_reply c.args.self.now c.args.line.now c.in_ok-text.field-0
-    (judged_now (arc_value c.self.inside.table) c.self.inside.core.history c.self.inside.names c.args.self.now c.args.line.now
-    c.in_ok-text.field-0 c.self.view_is c.in_ok-text.ensures)
-    c.in-Export.name c.deref.result.now (string_bytes reply) c.in-Export.is named is)
+    (λ reply is h taken. export_told g.T.TakesSteps.has_taken c.args.self.now h _ c.args.line.now c.in_ok-text.field-0 c.in_ok-text.ensures
+    c.in-Export.name c.deref.result.now (string_bytes reply) c.in-Export.is named (is h taken))
     c.export.ensures
 
 pub returns-in-StepDue : goal.returns-in-StepDue
-returns-in-StepDue c =
+returns-in-StepDue g c =
     let named : c.deref-in-StepDue.result.now ≡ string_bytes c.in-StepDue.name = search rules in
     IfOk-weaker c.take_due.result _ _
-    (λ reply is. due_reply c.args.self.now c.args.line.now c.in_ok-text.field-0
-    (judged_now (arc_value c.self.inside.table) c.self.inside.core.history c.self.inside.names c.args.self.now c.args.line.now
-    c.in_ok-text.field-0 c.self.view_is c.in_ok-text.ensures)
-    c.in-StepDue.name c.in-StepDue.step c.deref-in-StepDue.result.now (string_bytes reply) c.take_due.new.self c.in-StepDue.is named is)
+    (λ reply is h taken. step_told g.T.TakesSteps.has_taken c.args.self.now h _ c.args.line.now c.in_ok-text.field-0 c.in_ok-text.ensures
+    c.in-StepDue.name c.in-StepDue.step c.deref-in-StepDue.result.now (string_bytes reply) c.in-StepDue.is named (is h taken))
     c.take_due.ensures

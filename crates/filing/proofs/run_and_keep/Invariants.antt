@@ -1,5 +1,5 @@
 -- The counts of each device are shares of the ledger that its blank becomes.
-use Rattle.filing.proofs.run_input.Given as goal
+use Rattle.filing.proofs.run_and_keep.Given as goal
 
 abbrev pub ghosts-run-L-Ledger : goal.ghosts-run-L-Ledger
 ghosts-run-L-Ledger a = record { name = a.source_blank.name; parts = a.source_blank.parts }
