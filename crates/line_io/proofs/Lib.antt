@@ -3,9 +3,12 @@ pub mod DeviceSteps
 pub mod CutLines
 pub mod LinesInTurn
 pub mod SentReplies
+pub mod KeptAnswers
 pub mod TakenLines
+pub mod WrittenOut
 pub mod RunByReads
 pub mod ReadsOfBytes
+pub mod PlainRuns
 -- ---- machines whose replies are a function
 pub mod AnsweringMachines
 -- ---- lines of small texts

@@ -7,6 +7,8 @@ use Rattle.line_io.specs.Text.{Text}
 use Rattle.line_io.specs.Devices.{SinkState, Took, TookPart}
 use Rattle.line_io.specs.Lines.{is_line_feed, line_begun, spoken, lines_text}
 use Rattle.line_io.specs.Run.{Answers}
+use Rattle.line_io.specs.Conduct.{Conduct}
+use Rattle.line_io.specs.KeptRun.{AnswersKept, WentOn}
 use Rattle.line_io.specs.declared.fault.ScriptFault.{ScriptFault}
 use Rattle.line_io.specs.declared.fault.ScriptFault.TheVariants.{Read, Write, Endless, NoMemory}
 
@@ -31,6 +33,35 @@ pub record IsCut (text line others : Text) : Type 0 where
   pub line_is : line ≡ before_first is_line_feed text
   pub others_are : others ≡ after_first is_line_feed text
 
+-- keeping failed, and nothing is written
+pub record KeepsNot {M : Type 0} (C : Conduct M) (machine machine' : M) (sink sink' : SinkState) : Type 0 where
+  pub keeps : C.keeps machine machine'
+  pub has_failed : C.has_failed machine'
+  pub same_sink : sink' ≡ sink
+
+module _ {M : Type 0} (C : Conduct M) (machine machine' : M) (sink sink' : SinkState) (text : Text) where
+  -- the machine kept what it did and might tell, and the text is written
+  pub record Tells : Type 0 where
+    pub keeps : C.keeps machine machine'
+    pub tells : C.may_tell machine'
+    pub took : Took sink sink' text 0
+
+  -- the machine kept what it did and might tell, and a write of the text failed
+  pub record TellsPart : Type 0 where
+    pub keeps : C.keeps machine machine'
+    pub tells : C.may_tell machine'
+    pub took : TookPart sink sink' text
+
+  -- a write failed, or keeping did
+  abbrev pub Untold : Type 0
+  Untold = TellsPart ⊎ KeepsNot C machine machine' sink sink'
+
+-- a text waits behind what waited; or both are written
+abbrev pub HoldsOrTells : {M : Type 0} → Conduct M → M → M → SinkState → SinkState → Text → Text → Text → Type 0
+HoldsOrTells C machine machine' sink sink' waiting waiting' text =
+    ((machine' ≡ machine) × ((sink' ≡ sink) × (waiting' ≡ waiting ++ text)))
+    ⊎ ((waiting' ≡ []) × Tells C machine machine' sink sink' (waiting ++ text))
+
 -- what waited and the text are what was written and what waits now
 pub record Sent (sink sink' : SinkState) (waiting waiting' text : Text) : Type 0 where
   pub written : Text
@@ -46,51 +77,111 @@ pub record Standing (M : Type 0) : Type 0 where
 abbrev pub standing : {M : Type 0} → M → SinkState → Text → Standing M
 standing machine sink waiting = record { machine = machine; sink = sink; waiting = waiting }
 
-module _ {M : Type 0} (replies : M → Text → Text → M → Type 0) (before after : Standing M) (lines : List Text) where
-  -- the lines are answered, and their replies are sent
-  pub record HasAnswered : Type 0 where
+module _ {M : Type 0} (C : Conduct M) (before after : Standing M) (lines : List Text) where
+  -- the lines are answered, and their replies wait
+  pub record Waits : Type 0 where
     pub texts : List Text
-    pub answers : Answers replies before.machine (spoken lines) texts after.machine
+    pub answers : Answers C.replies before.machine (spoken lines) texts after.machine
+    pub same_sink : after.sink ≡ before.sink
+    pub waiting : after.waiting ≡ before.waiting ++ lines_text texts
+
+  -- the replies to the first lines are written after all that waited, when the machine might tell; the others are answered, and their replies wait
+  pub record WasTold : Type 0 where
+    pub told : List Text
+    pub since : List Text
+    pub parts : told ++ since ≡ lines
+    pub texts : List Text
+    pub kept : M
+    pub answers : AnswersKept C before.machine (spoken told) texts kept
+    pub tells : C.may_tell kept
+    pub took : Took before.sink after.sink (before.waiting ++ lines_text texts) 0
+    pub texts_since : List Text
+    pub answers_since : Answers C.replies kept (spoken since) texts_since after.machine
+    pub waiting : after.waiting ≡ lines_text texts_since
+
+  -- the lines are answered
+  abbrev pub HasAnswered : Type 0
+  HasAnswered = Waits ⊎ WasTold
+
+  -- the lines are answered, and their replies are sent
+  pub record HasSent : Type 0 where
+    pub texts : List Text
+    pub answers : AnswersKept C before.machine (spoken lines) texts after.machine
     pub sent : Sent before.sink after.sink before.waiting after.waiting (lines_text texts)
 
-  -- a write failed: the first lines are answered, and a front of what waited and their replies is written.
-  -- The machine may have gone on
+module _ {M : Type 0} (C : Conduct M) (before after : Standing M) (lines : List Text) where
+  -- a write failed: the first lines are answered, and a front of what waited and their replies is written, as the machine might tell
   pub record HasFailed : Type 0 where
     pub done : List Text
     pub later : List Text
     pub front : done ++ later ≡ lines
     pub texts : List Text
     pub reached : M
-    pub answers : Answers replies before.machine (spoken done) texts reached
+    pub answers : AnswersKept C before.machine (spoken done) texts reached
+    pub went_on : WentOn C later reached after.machine
+    pub tells : C.may_tell after.machine
     pub took : TookPart before.sink after.sink (before.waiting ++ lines_text texts)
 
-  -- memory was refused at a line, one of `count`, of which the first has the number `first`: the lines before
-  -- it are answered, and their replies are sent. The machine may have gone on
+  -- keeping failed: the first lines are answered, and nothing is written after that
+  pub record HasNotKept : Type 0 where
+    pub done : List Text
+    pub later : List Text
+    pub front : done ++ later ≡ lines
+    pub reached : M
+    pub waiting : Text
+    pub answered : HasAnswered C before (standing reached after.sink waiting) done
+    pub went_on : WentOn C later reached after.machine
+    pub has_failed : C.has_failed after.machine
+
+  -- a write failed, or keeping did
+  abbrev pub HasBroken : Type 0
+  HasBroken = HasFailed ⊎ HasNotKept
+
+  -- memory was refused at a line, one of `count`, of which the first has the number `first`: the lines before it are answered
   pub record HasStarved (count first number : ℕ) : Type 0 where
     pub done : List Text
     pub later : List Text
     pub front : done ++ later ≡ lines
     pub counted : number ≡ first + length done
     pub begun : length done < count
-    pub texts : List Text
     pub reached : M
-    pub answers : Answers replies before.machine (spoken done) texts reached
-    pub sent : Sent before.sink after.sink before.waiting after.waiting (lines_text texts)
+    pub answered : HasAnswered C before (standing reached after.sink after.waiting) done
+    pub went_on : WentOn C later reached after.machine
+
+  -- the same, once the machine kept what it did and their replies are written
+  pub record HasStopped (count first number : ℕ) : Type 0 where
+    pub done : List Text
+    pub later : List Text
+    pub front : done ++ later ≡ lines
+    pub counted : number ≡ first + length done
+    pub begun : length done < count
+    pub reached : M
+    pub sent : HasSent C before (standing reached after.sink after.waiting) done
+    pub went_on : WentOn C later reached after.machine
+    pub tells : C.may_tell after.machine
 
 -- what holds of each result of taking some lines
-abbrev pub Takes : {X M : Type 0} → (M → Text → Text → M → Type 0) → Result X ScriptFault
-    → Standing M → Standing M → List Text → ℕ → ℕ → Type 0
-Takes replies (Ok x) before after lines count first = HasAnswered replies before after lines
-Takes replies (Err Write) before after lines count first = HasFailed replies before after lines
-Takes replies (Err (NoMemory number)) before after lines count first =
-    HasStarved replies before after lines count first number
-Takes replies (Err Read) before after lines count first = ⊥
-Takes replies (Err Endless) before after lines count first = ⊥
+abbrev pub Takes : {X M : Type 0} → Conduct M → Result X ScriptFault → Standing M → Standing M → List Text → ℕ → ℕ → Type 0
+Takes C (Ok x) before after lines count first = HasAnswered C before after lines
+Takes C (Err Write) before after lines count first = HasBroken C before after lines
+Takes C (Err (NoMemory number)) before after lines count first = HasStarved C before after lines count first number
+Takes C (Err Read) before after lines count first = ⊥
+Takes C (Err Endless) before after lines count first = ⊥
 
--- the replies that wait are written after an outcome, and a write that fails then takes its place; after a failed write nothing more is written
-abbrev pub WritesOut : {X : Type 0} → Result X ScriptFault → Result X ScriptFault → SinkState
+-- what holds once their replies are written, too
+abbrev pub TakesOut : {X M : Type 0} → Conduct M → Result X ScriptFault → Standing M → Standing M → List Text → ℕ → ℕ → Type 0
+TakesOut C (Ok x) before after lines count first = HasAnswered C before after lines
+TakesOut C (Err Write) before after lines count first = HasBroken C before after lines
+TakesOut C (Err (NoMemory number)) before after lines count first = HasStopped C before after lines count first number
+TakesOut C (Err Read) before after lines count first = ⊥
+TakesOut C (Err Endless) before after lines count first = ⊥
+
+-- after an outcome the machine keeps what it did, and the replies that wait are written; what fails of this takes the place
+-- of the outcome. After a write or a keeping that failed nothing more is done
+abbrev pub WritesOut : {X M : Type 0} → Conduct M → Result X ScriptFault → Result X ScriptFault → M → M → SinkState
     → SinkState → Text → Type 0
-WritesOut (Err Write) result sink sink' waiting = (result ≡ Err Write) × (sink' ≡ sink)
-WritesOut outcome result sink sink' waiting =
-    ((result ≡ outcome) × Took sink sink' waiting 0)
-    ⊎ ((result ≡ Err Write) × TookPart sink sink' waiting)
+WritesOut C (Err Write) result machine machine' sink sink' waiting =
+    (result ≡ Err Write) × ((machine' ≡ machine) × (sink' ≡ sink))
+WritesOut C outcome result machine machine' sink sink' waiting =
+    ((result ≡ outcome) × Tells C machine machine' sink sink' waiting)
+    ⊎ ((result ≡ Err Write) × Untold C machine machine' sink sink' waiting)

@@ -7,7 +7,8 @@
 //! - `counts`: the counts of their calls.
 //! - `fault`: why a run ended early.
 //! - `lines`: how what is read, and a text that is held whole, are cut into lines.
-//! - `machine`: what answers a line.
+//! - `machine`: what answers a line, and what keeps what it did before its replies are told.
+//! - `mode`: how a run asks the one and the other.
 //! - `outbox`: replies until they are written.
 //! - `progress`: a run that takes a piece at a time.
 //! - `runs`: a run that reads, answers and writes until the end.
@@ -21,6 +22,7 @@ mod fault;
 mod lines;
 mod machine;
 mod memory;
+mod mode;
 mod outbox;
 mod progress;
 mod runs;
@@ -30,8 +32,8 @@ mod source;
 pub use adapters::{FromReader, ToWriter};
 pub use fault::{Failed, ScriptFault};
 pub use lines::{is_blank, next_line};
-pub use machine::Machine;
+pub use machine::{DurableMachine, Machine};
 pub use memory::{MemoryIn, MemoryOut};
-pub use runs::run;
+pub use runs::{run, run_kept};
 pub use sink::{Sink, write_all};
 pub use source::Source;

@@ -1,7 +1,8 @@
-//! `Machine`: what answers lines.
+//! `Machine`: what answers lines; and `DurableMachine`, whose replies wait until what they tell of is kept.
 
-ghost use Rattle.std.specs.Prelude.{ℕ, List, IfOk, string_bytes};
+ghost use Rattle.std.specs.Prelude.{ℕ, List, IfOk, OnOk, OnErr, string_bytes};
 
+use crate::fault::Failed;
 use std::alloc::{AllocError, Global};
 
 /// What answers the lines of a run.
@@ -12,4 +13,39 @@ pub trait Machine {
     /// Answers a line. Where memory is refused, nothing is said of the machine, which is asked nothing more: it may have taken a step for whose reply there is no memory.
     fn answer(&mut self, alloc: Global, line: &[u8]) -> Result<String, AllocError>
         ensures { IfOk result (λ reply. replies self.old line.now (string_bytes reply) self.new) };
+}
+
+/// What answers the lines of a run, and makes durable what it did before its replies are told.
+pub trait DurableMachine {
+    /// The machine before, a line that is not blank, its reply without a line feed, and the machine after.
+    ghost replies: { Self → List ℕ → List ℕ → Self → Type 0 };
+
+    /// The machine before, a line for which memory was refused, and what that may leave of the machine. It may have taken a step for whose reply there is no memory. By default nothing is said.
+    ghost starves: { Self → List ℕ → Self → Type 0 } = { λ _ _ _. Unit {0} };
+
+    /// What keeping may change of the machine, whether it succeeds or not.
+    ghost keeps: { Self → Self → Type 0 };
+
+    /// What has to be so when replies go out.
+    ghost may_tell: { Self → Type 0 };
+
+    /// Keeping has failed.
+    ghost has_failed: { Self → Type 0 };
+
+    /// Answers a line. Where memory is refused, the machine is asked nothing more, but to keep what it did.
+    fn answer(&mut self, alloc: Global, line: &[u8]) -> Result<String, AllocError>
+        ensures replies { IfOk result (λ reply. replies self.old line.now (string_bytes reply) self.new) }
+        ensures starves { OnErr result (starves self.old line.now self.new) };
+
+    /// Makes durable what the machine did. It is called before each write of replies, and takes no memory. After a failure the machine is asked nothing more.
+    fn keep(&mut self) -> Result<(), Failed>
+        ensures keeps { keeps self.old self.new }
+        ensures tells { OnOk result (may_tell self.new) }
+        ensures failed { OnErr result (has_failed self.new) };
+
+    /// Keeping may change nothing.
+    ghost keeps_nothing: { (m : Self) → keeps m m };
+
+    /// To keep twice is to keep.
+    ghost keeps_twice: { (a b c : Self) → keeps a b → keeps b c → keeps a c };
 }

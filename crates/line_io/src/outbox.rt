@@ -1,11 +1,12 @@
 //! `Outbox`: replies on their way to a sink.
 
-ghost use Rattle.std.specs.Prelude.{◌≡◌, ◌≤◌, [], ◌∷◌, ◌++◌, MatchResult, MatchBool, OnOk, vec_len};
+ghost use Rattle.std.specs.Prelude.{◌≡◌, ◌≤◌, ◌↔◌, [], ◌∷◌, ◌++◌, IsTrue, MatchResult, MatchBool, OnOk, vec_len};
 ghost use Rattle.line_io.specs.Devices.{Took, TookPart};
-ghost use Rattle.line_io.specs.Pieces.{Sent, WritesOut};
+ghost use Rattle.line_io.specs.Pieces.{HoldsOrTells, Tells, Untold, WritesOut};
 ghost use Rattle.line_io.specs.declared.outbox.TheConstants.{ROOM};
 
 use crate::fault::{Failed, ScriptFault};
+use crate::mode::Mode;
 use crate::sink::{Sink, write_all};
 use std::alloc::Global;
 
@@ -19,6 +20,16 @@ pub(crate) struct Outbox {
     ghost few: { vec_len waiting ≤ ROOM },
 }
 
+// Writes replies that the machine may tell. No reply is written otherwise.
+fn tell<M, D: Mode<M>, W: Sink>(machine: &M, sink: &mut W, replies: &[u8]) -> Result<(), Failed>
+    requires { D.conduct.may_tell machine.now }
+    ensures { MatchResult result
+        (λ _. Took (W.state sink.old) (W.state sink.new) replies.now 0)
+        (λ _. TookPart (W.state sink.old) (W.state sink.new) replies.now) }
+{
+    write_all(sink, replies)
+}
+
 impl Outbox {
     pub(crate) fn new(alloc: Global) -> Outbox
         ensures { result.waiting.items ≡ [] }
@@ -28,8 +39,15 @@ impl Outbox {
         }
     }
 
+    /// Whether no reply waits.
+    pub(crate) fn is_empty(&self) -> bool
+        ensures { IsTrue result ↔ (self.now.waiting.items ≡ []) }
+    {
+        self.waiting.is_empty()
+    }
+
     // Lets a reply wait, where there are room and memory for it.
-    fn keep(&mut self, reply: &[u8]) -> bool
+    fn hold(&mut self, reply: &[u8]) -> bool
         ensures { MatchBool result
             (self.new.waiting.items ≡ self.old.waiting.items ++ (reply.now ++ 10 ∷ []))
             (self.new.waiting.items ≡ self.old.waiting.items) }
@@ -48,46 +66,56 @@ impl Outbox {
         true
     }
 
-    /// Writes all that waits.
-    pub(crate) fn flush<W: Sink>(&mut self, sink: &mut W) -> Result<(), Failed>
-        ensures empty { self.new.waiting.items ≡ [] }
+    // Has the machine keep what it did, and writes all that waits.
+    fn flush<M, D: Mode<M>, W: Sink>(&mut self, machine: &mut M, sink: &mut W) -> Result<(), Failed>
         ensures written { MatchResult result
-            (λ _. Took (W.state sink.old) (W.state sink.new) self.old.waiting.items 0)
-            (λ _. TookPart (W.state sink.old) (W.state sink.new) self.old.waiting.items) }
+            (λ _. Tells D.conduct machine.old machine.new (W.state sink.old) (W.state sink.new) self.old.waiting.items)
+            (λ _. Untold D.conduct machine.old machine.new (W.state sink.old) (W.state sink.new) self.old.waiting.items) }
+        ensures empty { OnOk result (self.new.waiting.items ≡ []) }
     {
-        let written = write_all(sink, self.waiting.as_slice());
+        D::keep(machine)?;
+        tell::<M, D, W>(machine, sink, self.waiting.as_slice())?;
         self.waiting.clear();
-        written
+        Ok(())
     }
 
-    /// Sends a reply and a line feed: they wait, or are written after all that waits.
-    pub(crate) fn send<W: Sink>(&mut self, sink: &mut W, reply: &[u8]) -> Result<(), Failed>
+    /// Sends a reply and a line feed: they wait, or are written after all that waits once the machine kept what it did.
+    pub(crate) fn send<M, D: Mode<M>, W: Sink>(
+        &mut self,
+        machine: &mut M,
+        sink: &mut W,
+        reply: &[u8],
+    ) -> Result<(), Failed>
         ensures { MatchResult result
-            (λ _. Sent (W.state sink.old) (W.state sink.new) self.old.waiting.items self.new.waiting.items
-            (reply.now ++ 10 ∷ []))
-            (λ _. TookPart (W.state sink.old) (W.state sink.new) (self.old.waiting.items ++ (reply.now ++ 10 ∷ []))) }
+            (λ _. HoldsOrTells D.conduct machine.old machine.new (W.state sink.old) (W.state sink.new)
+            self.old.waiting.items self.new.waiting.items (reply.now ++ 10 ∷ []))
+            (λ _. Untold D.conduct machine.old machine.new (W.state sink.old) (W.state sink.new)
+            (self.old.waiting.items ++ (reply.now ++ 10 ∷ []))) }
     {
-        if self.keep(reply) {
+        if self.hold(reply) {
             return Ok(());
         }
-        self.flush(sink)?;
-        write_all(sink, reply)?;
-        write_all(sink, b"\n")
+        self.flush::<M, D, W>(machine, sink)?;
+        tell::<M, D, W>(machine, sink, reply)?;
+        tell::<M, D, W>(machine, sink, b"\n")
     }
 
-    /// Writes all that waits after an outcome that is no failed write.
-    pub(crate) fn write_out<W: Sink>(
+    /// Has the machine keep what it did, and writes all that waits, after an outcome that is no failed write.
+    pub(crate) fn write_out<M, D: Mode<M>, W: Sink>(
         &mut self,
+        machine: &mut M,
         sink: &mut W,
         outcome: Result<(), ScriptFault>,
     ) -> Result<(), ScriptFault>
-        ensures written { WritesOut outcome result (W.state sink.old) (W.state sink.new) self.old.waiting.items }
+        ensures written { WritesOut D.conduct outcome result machine.old machine.new
+            (W.state sink.old) (W.state sink.new) self.old.waiting.items }
+        ensures tells { OnOk result (D.conduct.may_tell machine.new) }
         ensures empty { OnOk result (self.new.waiting.items ≡ []) }
     {
         if let Err(ScriptFault::Write) = outcome {
             return outcome;
         }
-        let Ok(()) = self.flush(sink) else {
+        let Ok(()) = self.flush::<M, D, W>(machine, sink) else {
             return Err(ScriptFault::Write);
         };
         outcome

@@ -3,11 +3,11 @@
 ghost use Rattle.std.specs.Prelude.{◌≡◌, ◌+◌, ◌^◌, ◌<◌, [], ◌∷◌, ◌++◌, length, OnOk, OnErr, IfErr};
 ghost use Rattle.line_io.specs.Lines.{line_begun};
 ghost use Rattle.line_io.specs.declared.fault.ScriptFault.TheVariants.{NoMemory};
-ghost use Rattle.line_io.specs.Pieces.{standing, Takes, whole_from, rest_from, count_from};
+ghost use Rattle.line_io.specs.Pieces.{standing, Takes, TakesOut, whole_from, rest_from, count_from};
 
 use crate::fault::ScriptFault;
 use crate::lines::{is_blank, split_line};
-use crate::machine::Machine;
+use crate::mode::Mode;
 use crate::outbox::Outbox;
 use crate::sink::Sink;
 use std::alloc::Global;
@@ -21,7 +21,7 @@ pub(crate) struct Progress {
 }
 
 // Answers a line, unless it is blank.
-fn answer_line<M: Machine, W: Sink>(
+fn answer_line<M, D: Mode<M>, W: Sink>(
     alloc: Global,
     machine: &mut M,
     outbox: &mut Outbox,
@@ -29,7 +29,7 @@ fn answer_line<M: Machine, W: Sink>(
     number: u128,
     line: &[u8],
 ) -> Result<(), ScriptFault>
-    ensures { Takes M.replies result
+    ensures { Takes D.conduct result
         (standing machine.old (W.state sink.old) outbox.old.waiting.items)
         (standing machine.new (W.state sink.new) outbox.new.waiting.items)
         (line.now ∷ []) 1 number }
@@ -37,10 +37,10 @@ fn answer_line<M: Machine, W: Sink>(
     if is_blank(line) {
         return Ok(());
     }
-    let Ok(reply) = machine.answer(alloc, line) else {
+    let Ok(reply) = D::answer(machine, alloc, line) else {
         return Err(ScriptFault::NoMemory(number));
     };
-    let Ok(()) = outbox.send(sink, reply.as_bytes()) else {
+    let Ok(()) = outbox.send::<M, D, W>(machine, sink, reply.as_bytes()) else {
         return Err(ScriptFault::Write);
     };
     Ok(())
@@ -75,7 +75,7 @@ impl Progress {
     }
 
     // Ends the line begun with these bytes, and answers it.
-    fn end_line<M: Machine, W: Sink>(
+    fn end_line<M, D: Mode<M>, W: Sink>(
         &mut self,
         alloc: Global,
         machine: &mut M,
@@ -83,7 +83,7 @@ impl Progress {
         bytes: &[u8],
     ) -> Result<(), ScriptFault>
         requires { self.old.lines + 1 < 2 ^ 128 }
-        ensures takes { Takes M.replies result
+        ensures takes { Takes D.conduct result
             (standing machine.old (W.state sink.old) self.old.outbox.waiting.items)
             (standing machine.new (W.state sink.new) self.new.outbox.waiting.items)
             ((self.old.begun.items ++ bytes.now) ∷ []) 1 (self.old.lines + 1) }
@@ -92,7 +92,7 @@ impl Progress {
     {
         self.go_on(bytes)?;
         let number = self.lines + 1;
-        answer_line(
+        answer_line::<M, D, W>(
             alloc,
             machine,
             &mut self.outbox,
@@ -106,7 +106,7 @@ impl Progress {
     }
 
     // Takes the lines of a piece, and keeps what follows the last of them.
-    fn take_lines<M: Machine, W: Sink>(
+    fn take_lines<M, D: Mode<M>, W: Sink>(
         &mut self,
         alloc: Global,
         machine: &mut M,
@@ -114,7 +114,7 @@ impl Progress {
         piece: &[u8],
     ) -> Result<(), ScriptFault>
         requires { self.old.lines + length piece.now + 1 < 2 ^ 128 }
-        ensures takes { Takes M.replies result
+        ensures takes { Takes D.conduct result
             (standing machine.old (W.state sink.old) self.old.outbox.waiting.items)
             (standing machine.new (W.state sink.new) self.new.outbox.waiting.items)
             (whole_from self.old.begun.items piece.now) (count_from self.old.begun.items piece.now)
@@ -125,14 +125,14 @@ impl Progress {
     {
         let mut rest = piece;
         while let Some((line, others)) = split_line(rest) {
-            self.end_line(alloc, machine, sink, line)?;
+            self.end_line::<M, D, W>(alloc, machine, sink, line)?;
             rest = others;
         }
         self.go_on(rest)
     }
 
     /// Takes the lines of a piece, and writes their replies.
-    pub(crate) fn take_piece<M: Machine, W: Sink>(
+    pub(crate) fn take_piece<M, D: Mode<M>, W: Sink>(
         &mut self,
         alloc: Global,
         machine: &mut M,
@@ -140,7 +140,7 @@ impl Progress {
         piece: &[u8],
     ) -> Result<(), ScriptFault>
         requires { self.old.lines + length piece.now + 1 < 2 ^ 128 }
-        ensures takes { Takes M.replies result
+        ensures takes { TakesOut D.conduct result
             (standing machine.old (W.state sink.old) self.old.outbox.waiting.items)
             (standing machine.new (W.state sink.new) [])
             (whole_from self.old.begun.items piece.now) (count_from self.old.begun.items piece.now)
@@ -150,27 +150,31 @@ impl Progress {
         ensures lines { OnOk result (self.new.lines
             ≡ self.old.lines + length (whole_from self.old.begun.items piece.now)) }
     {
-        let taken = self.take_lines(alloc, machine, sink, piece);
-        self.outbox.write_out(sink, taken)
+        let taken = self.take_lines::<M, D, W>(alloc, machine, sink, piece);
+        match taken {
+            Ok(()) if self.outbox.is_empty() => Ok(()),
+            _ => self.outbox.write_out::<M, D, W>(machine, sink, taken),
+        }
     }
 
-    /// Takes the line begun, since nothing follows it, and writes its reply.
-    pub(crate) fn finish<M: Machine, W: Sink>(
+    /// Takes the line begun, since nothing follows it, and writes its reply. The machine keeps what it did in any case.
+    pub(crate) fn finish<M, D: Mode<M>, W: Sink>(
         &mut self,
         alloc: Global,
         machine: &mut M,
         sink: &mut W,
     ) -> Result<(), ScriptFault>
         requires { self.old.lines + 1 < 2 ^ 128 }
-        ensures { Takes M.replies result
+        ensures takes { TakesOut D.conduct result
             (standing machine.old (W.state sink.old) self.old.outbox.waiting.items)
             (standing machine.new (W.state sink.new) [])
             (line_begun self.old.begun.items) (length (line_begun self.old.begun.items)) (self.old.lines + 1) }
+        ensures tells { OnOk result (D.conduct.may_tell machine.new) }
     {
         if self.begun.is_empty() {
-            return self.outbox.write_out(sink, Ok(()));
+            return self.outbox.write_out::<M, D, W>(machine, sink, Ok(()));
         }
-        let taken = self.end_line(alloc, machine, sink, &[]);
-        self.outbox.write_out(sink, taken)
+        let taken = self.end_line::<M, D, W>(alloc, machine, sink, &[]);
+        self.outbox.write_out::<M, D, W>(machine, sink, taken)
     }
 }

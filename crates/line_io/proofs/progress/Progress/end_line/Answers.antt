@@ -6,4 +6,5 @@ use Rattle.line_io.proofs.progress.Progress.end_line.Goals as goal
 pub returns-in_err-go_on-clause-takes : goal.returns-in_err-go_on-clause-takes
 returns-in_err-go_on-clause-takes g c =
     let p = err_from_is_err_and c.from_residual.result c.from_residual.ensures.1 in
-    rw (p.1, p.2, c.in_err-go_on.ensures.err, c.go_on.ensures.outbox) (starved_first g.M.Machine.replies _ _ _ _ _ 1 _ (omega arith))
+    rw (p.1, p.2, c.in_err-go_on.ensures.err, c.go_on.ensures.outbox)
+    (starved_first g.D.Mode.conduct g.met.D.Mode.keeps_on _ _ 1 _ (omega arith))

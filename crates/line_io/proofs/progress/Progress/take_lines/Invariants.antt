@@ -5,7 +5,7 @@ use Rattle.line_io.proofs.progress.Progress.take_lines.Given as goal
 
 abbrev pub invariant-loop-line : goal.invariant-loop-line
 invariant-loop-line g l =
-    IsTaken g.M.Machine.replies
+    IsTaken g.D.Mode.conduct
     (standing l.initial.machine (g.W.Sink.state l.initial.sink) l.initial.self.outbox.waiting.items)
     (standing l.machine (g.W.Sink.state l.sink) l.self.outbox.waiting.items)
     l.initial.self.begun.items l.self.begun.items l.initial.self.lines l.self.lines l.piece l.rest
