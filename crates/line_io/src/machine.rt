@@ -37,7 +37,7 @@ pub trait DurableMachine {
         ensures replies { IfOk result (λ reply. replies self.old line.now (string_bytes reply) self.new) }
         ensures starves { OnErr result (starves self.old line.now self.new) };
 
-    /// Makes durable what the machine did. It is called before each write of replies, and takes no memory. After a failure the machine is asked nothing more.
+    /// Makes durable what the machine did. It is called right before replies are written, and at the end of a run in any case, also where there is nothing new. It takes no memory. After a failure the machine is asked nothing more.
     fn keep(&mut self) -> Result<(), Failed>
         ensures keeps { keeps self.old self.new }
         ensures tells { OnOk result (may_tell self.new) }

@@ -1,4 +1,4 @@
-//! `Outbox`: replies on their way to a sink.
+//! `Outbox`: replies on their way to a sink. All are written by `tell`, and so only when the machine may tell them.
 
 ghost use Rattle.std.specs.Prelude.{◌≡◌, ◌≤◌, ◌↔◌, [], ◌∷◌, ◌++◌, IsTrue, MatchResult, MatchBool, OnOk, vec_len};
 ghost use Rattle.line_io.specs.Devices.{Took, TookPart};
