@@ -39,6 +39,10 @@ class Script:
     def told(self):
         return self.rows[-1][3:]
 
+    def whole(self):
+        """The rows, with the number of steps behind them."""
+        return [*self.rows, f"= {len(self.repository.history)}"]
+
 
 def expect(script, *told):
     assert script.told() in told, (script.rows[-2:], told)

@@ -1,28 +1,29 @@
-"""Versions that are made one after another, and questions of any of them."""
+"""Versions that are made one after another, and questions of any of them, as scripts."""
+from repository import WORDS, Number, fact_text, fit, is_sought, read_fact, read_json
+from script import INFO, SCRIPT_NUMERIC, Script, load
+from sessions import CONCEPTS
 import random
 
-from repository import (
-    WORDS, cell, class_of, compact, copy_of, fact_text, fit, is_sought, is_touched, least_disallowed, read_fact, read_json,
-)  # fmt: skip
-from script import INFO, NUMERIC
-from sessions import CONCEPTS
 
-def facts_by_name(file):
-    prefixes = INFO["namespaces"]
-    read = {}
-    for line in file.read_text().splitlines():
-        name, text = line.split(" ", 1)
-        read[name] = fit(read_fact(read_json(text)[0]), prefixes, NUMERIC)
-    return read
+def facts_in(file):
+    """Facts of a file, each on a line behind its name, as JSON values."""
+    return [read_json(line.split(" ", 1)[1])[0] for line in file.read_text().splitlines()]
 
 
 class Versions:
-    """Versions that are made one after another, and questions of any of them, each with its answer."""
+    """A script that makes versions one after another, and asks any of them.
+
+    Each version is asked by a session that opened at it, the older ones as often as the newest. A stamp is asked by a
+    commit that has read a thing some versions before: it is told the last version that touched the thing, or passes.
+    """
 
     def __init__(self, known, seed, number, ids):
-        self.random, self.ids = random.Random(f"{seed} {number}"), ids
-        self.known, self.rows = known, [f"# drawn versions {number} of seed {seed}, of {ids} identifiers"]
-        self.states, self.touches, self.at = [{}], [], 0
+        self.random, self.ids, self.known = random.Random(f"{seed} {number} versions"), ids, known
+        self.script = Script(f"drawn versions {number} of seed {seed}, of {ids} identifiers")
+        self.repository, self.views, self.readers = self.script.repository, [], []
+
+    def one_of(self, *all_of_them):
+        return self.random.choice(all_of_them)
 
     def name(self):
         return f"f{self.random.randrange(self.ids):03}"
@@ -30,144 +31,107 @@ class Versions:
     def report(self):
         return self.random.choice(["r1"] * 9 + ["r2", "r3", "r4"])
 
-    def bound(self):
-        return self.name() if self.random.random() < 0.67 else "-"
+    def fact(self):
+        return self.random.choice(self.known)
+
+    def dims(self):
+        return self.fact()["dimensions"]
+
+    def range(self):
+        """A concept, a period and an identifier, of those that are there or not."""
+        period = self.one_of(True, None, "2023", "2024", "2020")
+        return [self.one_of(*CONCEPTS, "ex:None"), period, self.name() if self.random.random() < 0.67 else None]
+
+    def view(self):
+        """A session opens at the current version, by which it is asked."""
+        name = f"v{self.repository.number}"
+        self.script.say(["open", name, "review"])
+        self.views.append(name)
 
     def load(self, name, most):
-        report = {"allowed": self.random.choice(WORDS), "facts": {}}
-        for _ in range(self.random.randrange(most + 1)):
-            at, fact_name = self.name(), self.random.choice(list(self.known))
-            report["facts"][at] = self.known[fact_name]
-            self.rows.append(f"put {name} {at} {fact_name}")
-        self.rows.append(f"load {name} {report['allowed']}")
-        self.push(dict(self.states[-1], **{name: report}), (name, {}, set()))
+        """A load, of which the report may be refused, and then is loaded where it allows all."""
+        facts = {self.name(): self.fact() for _ in range(self.random.randrange(most + 1))}
+        for word in (self.random.choice(WORDS), "all"):
+            if name not in self.repository.reports:
+                self.script.say(load(name, facts, word))
+        self.view()
 
-    def push(self, state, touched):
-        self.states.append(state)
-        self.touches.append((len(self.touches) + 1, *touched))
-        self.at = len(self.touches)
-
-    def edit(self, after, changed, declared, puts):
-        name, at = self.random.choice(sorted(after)), self.name()
-        before = self.states[-1][name]["facts"]
-        kind = self.random.choices(["put", "remove", "declare"], [7, 4, 1])[0]
-        if kind == "declare":
-            word = self.random.choice(WORDS)
-            self.rows.append(f"declare {name} {word}")
-            after[name]["allowed"] = word
-            declared.add(name)
-            return
-        fact_name = self.random.choice(list(self.known)) if kind == "put" else None
-        self.rows.append(f"{kind} {name} {at}" + (f" {fact_name}" if fact_name else ""))
-        if fact_name:
-            after[name]["facts"][at] = self.known[fact_name]
-        else:
-            after[name]["facts"].pop(at, None)
-        puts[name, at] = after[name]["facts"].get(at)
-        changed[name, at] = before.get(at), after[name]["facts"].get(at)
-
-    def commit(self, verb, most):
-        after, changed, declared, puts = copy_of(self.states[-1]), {}, set(), {}
+    def edits(self, most):
+        """What is put, removed or declared in turn, of reports that are there."""
+        edits = []
         for _ in range(1 + self.random.randrange(most)):
-            self.edit(after, changed, declared, puts)
-        self.ask_waiting(after, declared, puts)
-        # What was not there before and is not there after touches nothing.
-        changed = {place: both for place, both in changed.items() if both != (None, None)}
-        found = self.first_disallowed(after, changed, declared)
-        self.rows += [verb, "=> " + (f"{found[0]} {compact(found[1])}" if found else "none")]
-        if verb == "commit" or not found:
-            self.push(after, (None, changed, declared))
-        else:
-            self.at = len(self.touches)
+            report, at = self.random.choice(sorted(self.repository.reports)), self.name()
+            kind = self.random.choices(["put", "remove", "declare"], [7, 4, 1])[0]
+            edits.append((kind, report, {"put": (at, self.fact()), "remove": (at,), "declare": (self.random.choice(WORDS),)}[kind]))
+        return edits
 
-    def ask_waiting(self, after, declared, puts):
-        """What waits, as a change has it."""
-        name, at = self.report(), self.name()
-        texts = {place: "gone" if fact is None else fact_text(fact) for place, fact in puts.items()}
-        told = " ".join(f"{place[0]}/{place[1]}={texts[place]}" for place in sorted(texts)) or "none"
-        if len(told) < 1000:
-            self.rows += ["puts", "=> " + told]
-        self.rows += [f"staged {name} {at}", "=> " + texts.get((name, at), "nothing")]
-        self.rows += [f"declares {name}", "=> " + (after[name]["allowed"] if name in declared else "nothing")]
+    def stage(self, kind, report, rest):
+        there = self.repository.sessions["s"].copy[report]["facts"]
+        if kind == "put" and rest[0] in there:
+            self.script.say(["remove", "s", report, rest[0]])
+        self.script.say(["add" if kind == "put" else kind, "s", report, *rest])
 
-    def first_disallowed(self, after, changed, declared):
-        for name in sorted(after):
-            new = [both[1] for place, both in changed.items() if place[0] == name and both[1] is not None]
-            found = least_disallowed(after[name], None if name in declared else new)
-            if found:
-                return name, found[0]
-        return None
+    def change(self, edits):
+        """A session makes edits, is asked for what waits, and is committed. The report of a cell that is not allowed, if there is one."""
+        self.script.say(["open", "s", "amend"])
+        for edit in edits:
+            self.stage(*edit)
+        report = self.report()
+        self.script.say(["get", "s", report, self.name()])
+        self.script.say(["cell", "s", report, self.dims()])
+        self.script.say(["page", "s", report, *self.range(), Number(self.one_of("1", "10", "1000"))])
+        self.script.say(["declared", "s", report])
+        self.script.say(["commit", "s"])
+        told = read_json(self.script.told())[0]
+        return told[1] if told[0] == "disallowed" else None
+
+    def commit(self, most, is_mended):
+        """The next version, where each report with a cell that is not allowed comes to allow all; or none."""
+        edits = self.edits(most)
+        refused = self.change(edits)
+        while refused and is_mended:
+            edits.append(("declare", refused, ("all",)))
+            refused = self.change(edits)
+        self.view()
+
+    def read(self, number):
+        """A session opens that reads one thing, to be asked later who touched it."""
+        name = f"t{number}"
+        self.script.say(["open", name, "amend"])
+        self.readers.append(name)
+        report = self.report()
+        kind = self.one_of("get", "get", "cell", "cell", "page", "page", "page", "declared")
+        rest = {"get": lambda: [self.name()], "cell": lambda: [self.dims()], "declared": list, "page": self.page}[kind]()
+        self.script.say([kind, name, report, *rest])
+
+    def page(self):
+        return [*self.range(), Number(self.one_of("1", "2", "5", "20", "1000"))]
 
     def ask(self):
-        verb = self.random.choice(
-            ["at", "at", "get", "cell", "query", "allowed", "report", "disallowed"]
-            + ["stamp-report", "stamp-id", "stamp-cell", "stamp-range", "stamp-policy"]
-        )
-        if verb == "at":
-            self.at = self.random.randrange(len(self.states))
-            self.rows.append(f"at {self.at}")
-            return
-        name, words, thing = self.report(), [], None
-        concept = self.random.choice([*CONCEPTS, "ex:None"])
-        period = self.random.choice(["any", "none", "2023", "2024", "2020"])
-        asked = {"any": True, "none": None}.get(period, period)
-        after, upto, at = self.bound(), self.bound(), self.name()
-        fact_name = self.random.choice(list(self.known))
-        if verb in ("get", "stamp-id"):
-            words = [at]
-        elif verb in ("cell", "stamp-cell"):
-            words = [fact_name]
-        elif verb in ("query", "stamp-range"):
-            words = [concept, period, after, upto]
-        dims = self.known[fact_name]["dims"]
-        given = [None if bound == "-" else bound for bound in (after, upto)]
-        things = {
-            "stamp-report": ["report", name],
-            "stamp-id": ["id", name, at],
-            "stamp-cell": ["cell", name, dims],
-            "stamp-range": ["range", name, concept, asked, *given],
-            "stamp-policy": ["policy", name],
-        }
-        if verb in things:
-            told = self.stamp(things[verb])
-        else:
-            told = self.told(verb, name, at, dims, (concept, asked, given[0]))
-        if len(told) < 2000:
-            self.rows += [" ".join([verb, name, *words]), "=> " + told]
+        if self.readers and self.random.random() < 0.4:
+            return self.script.say(["commit", self.readers.pop(self.random.randrange(len(self.readers)))])
+        kind, name, report = self.one_of("get", "cell", "cell", "page", "page", "declared", "export"), self.random.choice(self.views), self.report()
+        if kind == "export":
+            return self.script.say([kind, report if self.ids < 100 else self.one_of("r2", "r3", "r4")])
+        rest = {"get": lambda: [self.name()], "cell": lambda: [self.dims()], "declared": list, "page": self.page}[kind]()
+        return self.script.say([kind, name, report, *rest])
 
-    def stamp(self, thing):
-        numbers = [touch[0] for touch in self.touches[: self.at] if is_touched(thing, *touch[1:])]
-        return str(numbers[-1] if numbers else 0)
-
-    def told(self, verb, name, at, dims, sought):
-        report = self.states[self.at].get(name)
-        if report is None:
-            return "none" if verb == "disallowed" else "no report"
-        facts = report["facts"]
-        if verb == "get":
-            return fact_text(facts[at]) if at in facts else "none"
-        if verb == "cell":
-            found = cell(report, dims)
-            return " ".join([class_of([facts[name] for name in found]), *found])
-        if verb == "query":
-            concept, period, after = sought
-            found = [at for at in sorted(facts) if is_sought(facts[at], concept, period) and (after is None or at > after)]
-            return " ".join(found) or "none"
-        if verb == "allowed":
-            return report["allowed"]
-        if verb == "report":
-            return " ".join([report["allowed"], *(f"{at}={fact_text(facts[at])}" for at in sorted(facts))])
-        found = least_disallowed(report)
-        return compact(found[0]) if found else "none"
-
-    def drawn(self, verb, most, questions):
-        self.load("r1", self.ids if verb == "commit" else 3)
+    def drawn(self, most, is_mended, questions):
+        """The script: nine loads and commits, with questions after each commit."""
+        self.script.say(["open", "v0", "review"])
+        self.views.append("v0")
+        self.read(0)
+        self.load("r1", self.ids if is_mended else 3)
         if self.ids == 400:
-            self.commit("commit", 600)
+            self.commit(600, is_mended)
         for turn in range(8):
+            for number in range(9):
+                self.read(9 * turn + number + 1)
             if turn in (1, 4):
                 self.load(f"r{2 if turn == 1 else 3}", 3)
-            self.commit(verb, most)
+            self.commit(most, is_mended)
             for _ in range(questions):
                 self.ask()
-        return self.rows
+        for name in self.readers:
+            self.script.say(["commit", name])
+        return self.script
