@@ -16,8 +16,8 @@ const NAMES: [&str; 4] = [r#""s1""#, r#""s2""#, r#""s 3""#, r#""\"\u00e9\\""#];
 /// The bytes so far, the generator of what comes next, which names of sessions are in use, and how much was asked of each session.
 #[derive(Drop)]
 pub(crate) struct Draft {
+    pub(crate) text: Vec<u8>,
     rng: Pcg32,
-    text: Vec<u8>,
     used: [bool; 4],
     asked: [u32; 4],
 }
@@ -26,38 +26,15 @@ impl Draft {
     /// The draft of this number in those of a seed.
     pub(crate) fn new(alloc: Global, seed: u64, number: u64) -> Draft {
         Draft {
-            rng: Pcg32::new(seed, number),
             text: Vec::new(alloc),
+            rng: Pcg32::new(seed, number),
             used: [false; 4],
             asked: [0; 4],
         }
     }
 
-    pub(crate) fn text(&self) -> &[u8] {
-        self.text.as_slice()
-    }
-
-    /// The bytes, of which nothing more is drawn.
-    pub(crate) fn into_text(self) -> Vec<u8> {
-        self.text
-    }
-
     /// A number below a bound.
-    pub(crate) fn below(&mut self, bound: u32) -> u32
-        requires { 0 < bound }
-        ensures { result < bound }
-    {
-        self.rng.next_u32() % bound
-    }
-
-    fn one_in(&mut self, bound: u32) -> bool
-        requires { 0 < bound }
-    {
-        self.below(bound) == 0
-    }
-
-    /// A place below a bound.
-    pub(crate) fn place_below(&mut self, bound: usize) -> usize
+    pub(crate) fn below(&mut self, bound: usize) -> usize
         requires { 0 < bound }
         ensures { result < bound }
     {
@@ -69,94 +46,48 @@ impl Draft {
         ensures { result < 4 }
     {
         let start = self.below(4);
-        if self.one_in(24) {
-            return start as usize;
+        if self.below(24) == 0 {
+            return start;
         }
         for turn in 0..4 {
-            let place = ((start + turn) % 4) as usize;
+            let place = (start + turn) % 4;
             if self.used[place] == wanted {
                 return place;
             }
         }
-        start as usize
+        start
     }
 
-    /// Whether at most two names are in use.
-    fn is_calm(&self) -> bool {
-        let mut names = 0u32;
-        for place in 0..4 {
-            if self.used[place] {
-                names = names.saturating_add(1);
-            }
-        }
-        names < 3
-    }
-
-    /// The place of a session, mostly of one that is in use, of which something is asked.
-    fn asked_place(&mut self) -> usize
-        ensures { result < 4 }
-    {
-        let place = self.place_of_name(true);
-        self.asked[place] = self.asked[place].saturating_add(1);
-        place
-    }
-
-    /// The place of a session, mostly of one that is in use and of which much was asked. From here on it is not in use.
-    fn ended_place(&mut self) -> usize
-        ensures { result < 4 }
-    {
-        let mut place = self.place_of_name(true);
-        let other = self.place_of_name(true);
-        if self.asked[other] > self.asked[place] {
-            place = other;
-        }
-        self.used[place] = false;
-        self.asked[place] = 0;
-        place
-    }
-
-    /// The place of a name that is mostly not in use, and is so from here on.
-    fn opened_place(&mut self) -> usize
-        ensures { result < 4 }
-    {
-        let place = self.place_of_name(false);
-        self.used[place] = true;
-        place
-    }
-
-    /// Appends a line, in which the name at a place stands for each `%`, and its end.
-    fn put_line(&mut self, line: &[u8], place: usize) -> Result<(), AllocError>
-        requires { place < 4 }
-    {
-        for byte in line {
-            if *byte == b'%' {
-                self.text.extend_from_slice(NAMES[place].as_bytes())?;
-            } else {
-                self.text.push(*byte)?;
-            }
-        }
-        let end: &[u8] = if self.one_in(16) { b"\r\n" } else { b"\n" };
-        self.text.extend_from_slice(end)
-    }
-
-    /// Drops the last byte.
-    fn cut(&mut self) {
-        self.text.pop();
-    }
-
-    /// The place of the name that a line of this kind is about.
+    /// The place of the name that a line of this kind is about: of one that is opened mostly a name that is not in use, and else one that is; of one that ends mostly a session of which much was asked.
     fn place_for(&mut self, when: When) -> usize
         ensures { result < 4 }
     {
         match when {
-            When::Open => self.opened_place(),
-            When::End => self.ended_place(),
-            When::Ask | When::Large => self.asked_place(),
+            When::Open => {
+                let place = self.place_of_name(false);
+                self.used[place] = true;
+                place
+            }
+            When::End => {
+                let mut place = self.place_of_name(true);
+                let other = self.place_of_name(true);
+                if self.asked[other] > self.asked[place] {
+                    place = other;
+                }
+                self.used[place] = false;
+                self.asked[place] = 0;
+                place
+            }
+            When::Ask | When::Large => {
+                let place = self.place_of_name(true);
+                self.asked[place] = self.asked[place].saturating_add(1);
+                place
+            }
             When::First | When::Load | When::Apart | When::LargeLoad => 0,
         }
     }
 
-    /// One of the lines of a kind.
+    /// One of the lines of a kind, in which the name at a place stands for each `%`, and its end.
     fn put(&mut self, pool: &Pool<'_>, when: When) -> Result<(), AllocError> {
         let Some(lines) = pool.lines(when) else {
             return Ok(());
@@ -164,13 +95,21 @@ impl Draft {
         if lines.is_empty() {
             return Ok(());
         }
-        let line = lines[self.place_below(lines.len())];
-        let place = self.place_for(when);
-        self.put_line(line, place)
+        let line = lines[self.below(lines.len())];
+        let name = NAMES[self.place_for(when)];
+        for byte in line {
+            if *byte == b'%' {
+                self.text.extend_from_slice(name.as_bytes())?;
+            } else {
+                self.text.push(*byte)?;
+            }
+        }
+        let end: &[u8] = if self.below(16) == 0 { b"\r\n" } else { b"\n" };
+        self.text.extend_from_slice(end)
     }
 
     /// So many of them.
-    fn put_some(&mut self, pool: &Pool<'_>, when: When, count: u32) -> Result<(), AllocError> {
+    fn put_some(&mut self, pool: &Pool<'_>, when: When, count: usize) -> Result<(), AllocError> {
         for _ in 0..count {
             self.put(pool, when)?;
         }
@@ -179,7 +118,11 @@ impl Draft {
 
     /// Which line comes next. Where few sessions are open, more are opened.
     fn next_kind(&mut self, asking: When) -> When {
-        if self.is_calm() && self.one_in(2) {
+        let mut names = 0u32;
+        for place in 0..4 {
+            names = names.saturating_add(u32::from(self.used[place]));
+        }
+        if names < 3 && self.below(2) == 0 {
             return When::Open;
         }
         match self.below(64) {
@@ -192,7 +135,7 @@ impl Draft {
     }
 
     /// The lines behind the first load: loads, openings, so many lines, and commits of sessions that are still open.
-    fn put_all(&mut self, pool: &Pool<'_>, asking: When, count: u32) -> Result<(), AllocError> {
+    fn put_all(&mut self, pool: &Pool<'_>, asking: When, count: usize) -> Result<(), AllocError> {
         self.put_some(pool, When::First, 3)?;
         let loads = self.below(3);
         self.put_some(pool, When::Load, loads)?;
@@ -210,8 +153,8 @@ impl Draft {
     pub(crate) fn put_script(&mut self, pool: &Pool<'_>) -> Result<(), AllocError> {
         let count = 22 + self.below(33);
         self.put_all(pool, When::Ask, count)?;
-        if self.one_in(4) {
-            self.cut();
+        if self.below(4) == 0 {
+            self.text.pop();
         }
         Ok(())
     }

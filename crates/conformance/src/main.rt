@@ -1,9 +1,10 @@
 //! `conformance`: compares what the layers answer with what is written of them, and fast answers with slow ones.
 //!
-//! - `sheets`: worked rows of scripts, steps, reports and facts.
+//! - `scripts`: worked scripts, their histories, and histories of others.
+//! - `in_parts`: the steps of a history, loads and commits in two parts.
+//! - `calls`: worked rows of calls that no script makes.
 //! - `pages`: worked rows of lists in pages and of the pages of reports, and both beside plain lists.
-//! - `versions`: worked rows of versions.
-//! - `examples`: stored scripts, worked histories and failing devices.
+//! - `trials`: has each call of a device go wrong.
 //! - `offices`: takes steps at desks, and opens reviews beside them.
 //! - `threads`: runs scripts in threads.
 //! - `drawn`: draws scripts, which the oracle answers too.
@@ -12,40 +13,53 @@
 //! - `question`: the parts of a line of JSON.
 //! - `pool`: the lines of which scripts are drawn.
 //! - `draft`: a script that grows by what is drawn.
-//! - `seen`: counts what differs.
-//! - `memory`: runs scripts and judges histories over memory.
+//! - `devices`: runs scripts, and writes and judges histories, over memory.
 //!
-//! A word names the part that is wanted: `sheets`, `pages`, `rounds`, `versions`, `model`, `scripts`, `histories`, `devices`, `offices`, `threads` or `drawn`; without a word it is all of them. `rounds` is of the pages of reports beside plain lists, and `model` is of sheets, versions and histories, with answers that `tools/draw_rows` computed. A seed of what is drawn may follow `threads` and `drawn`, and then a number of sets or of scripts.
+//! A word names the part that is wanted, one of `PARTS`; without a word it is all of them. `sheets`, `model` and `histories` are the files that a file of this name lists; those of `model` have answers that `tools/draw_rows` computed. `rounds` is of the pages of reports beside plain lists. A seed of what is drawn may follow `threads` and `drawn`, and then a number of sets or of scripts.
 #![tactic(auto)]
 
+mod calls;
+mod devices;
 mod draft;
 mod drawn;
-mod examples;
+mod in_parts;
 mod lines;
-mod memory;
 mod offices;
 mod pages;
 mod pool;
 mod question;
-mod seen;
+mod scripts;
 mod sheet;
-mod sheets;
 mod threads;
-mod versions;
+mod trials;
 
 use anyhow::{Result, anyhow};
+use calls::compare_calls;
 use drawn::compare_drawn;
-use examples::{compare_devices, compare_drawn_histories, compare_histories, compare_scripts};
 use offices::show_offices;
-use pages::{compare_pages, compare_rounds};
-use sheets::{compare_drawn_sheets, compare_sheets};
+use pages::{Kind, compare_pages, compare_rounds};
+use scripts::{compare_listed, compare_stored};
 use std::env;
 use std::marker::Sync;
 use std::rt::Files;
 use std::sync::Wait;
 use std::thread::Threads;
 use threads::compare_threads;
-use versions::{compare_drawn_versions, compare_versions};
+use trials::try_devices;
+
+const PARTS: [&str; 11] = [
+    "sheets",
+    "calls",
+    "pages",
+    "rounds",
+    "model",
+    "scripts",
+    "histories",
+    "devices",
+    "offices",
+    "threads",
+    "drawn",
+];
 
 // So many sets of scripts are drawn for threads, and so many scripts for the oracle, where no number is named.
 const SETS: u64 = 12;
@@ -63,24 +77,15 @@ fn number_of(word: Option<String>) -> Result<Option<u64>> {
     }
 }
 
-/// Compares rows that are drawn, with the answers that `tools/draw_rows` computed.
-fn compare_model<R: Print + Files + AllocGlobal>(rt: &R) -> Result<()> {
-    compare_drawn_sheets(rt)?;
-    compare_drawn_versions(rt)?;
-    compare_drawn_histories(rt)
-}
-
 /// Compares the part of this name, if there is one, of those that start no threads.
 fn compare_alone<R: Print + Files + AllocGlobal>(rt: &R, part: &str) -> Result<()> {
     match part {
-        "sheets" => compare_sheets(rt),
+        "sheets" | "model" | "histories" => compare_listed(rt, part),
+        "calls" => compare_calls(rt),
         "pages" => compare_pages(rt),
-        "rounds" => compare_rounds(rt),
-        "versions" => compare_versions(rt),
-        "model" => compare_model(rt),
-        "scripts" => compare_scripts(rt),
-        "histories" => compare_histories(rt),
-        "devices" => compare_devices(rt),
+        "rounds" => compare_rounds(rt, Kind::Report),
+        "scripts" => compare_stored(rt),
+        "devices" => try_devices(rt),
         _ => Err(anyhow!("there is no part {part}")),
     }
 }
@@ -101,28 +106,13 @@ fn compare<T: Threads + Wait + Sync + Print + Files + AllocGlobal>(
     }
 }
 
-/// Compares all parts.
-fn compare_all<T: Threads + Wait + Sync + Print + Files + AllocGlobal>(
-    rt: &HostRuntime,
-    handle: &T,
-) -> Result<()> {
-    compare_sheets(rt)?;
-    compare_pages(rt)?;
-    compare_rounds(rt)?;
-    compare_versions(rt)?;
-    compare_model(rt)?;
-    compare_scripts(rt)?;
-    compare_histories(rt)?;
-    compare_devices(rt)?;
-    show_offices(handle)?;
-    compare_threads(handle, FIRST, SETS)?;
-    compare_drawn(rt, FIRST, SCRIPTS)
-}
-
 fn main(rt: HostRuntime) -> Result<()> {
     let mut words = env::args(&rt)?.skip(1);
     let Some(part) = words.next() else {
-        return compare_all(&rt, &rt);
+        for part in PARTS {
+            compare(&rt, &rt, part, FIRST, None)?;
+        }
+        return Ok(());
     };
     let seed = number_of(words.next())?.unwrap_or(FIRST);
     let count = number_of(words.next())?;

@@ -1,6 +1,6 @@
 //! Offices: what their desks and reviewers are answered, in turn and in threads of their own.
 //!
-//! `stage` plays the acts of `data/offices.rows`, each sheet in an office of two desks and two reviewers: `acts` has their parts, `readers` what reviewers do, and `ends` how offices end. `lent` plays those of `data/lent.rows` on what a lock lends, without an office. `crowd` lets four desks take the steps of `rounds` in threads, and compares what `entered` says they were told with the history; `pair` lets two desks commit, and a reviewer reads what one of them did; at a `meeting` desks wait for one another. `places` makes something of each value at its place.
+//! `stage` plays the acts of `data/offices.rows`, each sheet in an office of two desks and two reviewers: `acts` has their parts, `readers` what reviewers do, and `ends` how offices end. `lent` plays those of `data/lent.rows` on what a lock lends, without an office. `crowd` lets four desks take the steps of `rounds` in threads, and compares what `entered` says they were told with the history; at a `meeting` they wait for one another. `places` makes something of each value at its place.
 
 mod acts;
 mod crowd;
@@ -8,19 +8,18 @@ mod ends;
 mod entered;
 mod lent;
 mod meeting;
-mod pair;
 mod places;
 mod readers;
 mod rounds;
 mod stage;
 
 use crate::sheet::{Answers, Sheet, compare_rows};
+pub(crate) use acts::line_step;
 use anyhow::Result;
 use crowd::{Way, take_rounds};
 use ends::core_text;
 use filing_office::{Blanks, UnopenedLog, opened_and_finished};
 use lent::play_lent;
-use pair::meet_in_pair;
 use stage::play;
 use std::alloc::Global;
 use std::marker::{Brand, Sync};
@@ -36,7 +35,7 @@ struct Player<'a, R: Wait + AllocGlobal> {
 
 impl<R: Wait + AllocGlobal> Answers for Player<'_, R> {
     fn told(&self, _alloc: Global, sheet: &Sheet) -> Result<Vec<u8>> {
-        play::<Brand, Brand, _>(self.rt, Blanks::of(2), &sheet.lines)
+        play::<Brand, Brand, _>(self.rt, Blanks::of(2), sheet.script())
     }
 }
 
@@ -48,7 +47,7 @@ struct Lender<'a, R: Wait + AllocGlobal> {
 
 impl<R: Wait + AllocGlobal> Answers for Lender<'_, R> {
     fn told(&self, _alloc: Global, sheet: &Sheet) -> Result<Vec<u8>> {
-        play_lent::<Brand, _>(self.rt, UnopenedLog::new(), &sheet.lines)
+        play_lent::<Brand, _>(self.rt, UnopenedLog::new(), sheet.script())
     }
 }
 
@@ -65,19 +64,13 @@ fn run_crowd<R: Threads + Wait + Sync + Print + AllocGlobal>(rt: &R, way: Way) -
     take_rounds::<Brand, Brand, _>(rt, Blanks::of(4), way)
 }
 
-/// Lets two desks commit in threads, and a reviewer read.
-fn run_two<R: Threads + Wait + Sync + Print + AllocGlobal>(rt: &R) -> Result<()> {
-    meet_in_pair::<Brand, Brand, _>(rt, Blanks::of(2))
-}
-
-/// Plays the acts of offices and of what a lock lends, and lets two desks meet, and four take rounds in threads, in both ways.
+/// Plays the acts of offices and of what a lock lends, and lets four desks take rounds in threads, in both ways.
 pub(crate) fn show_offices<R: Threads + Wait + Sync + Print + Files + AllocGlobal>(
     rt: &R,
 ) -> Result<()> {
     compare_rows(rt, "offices", &Player { rt })?;
     compare_rows(rt, "lent", &Lender { rt })?;
     end_at_once(rt)?;
-    run_two(rt)?;
     run_crowd(rt, Way::Steps)?;
     run_crowd(rt, Way::Lists)
 }

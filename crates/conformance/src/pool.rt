@@ -34,50 +34,29 @@ const WORDS: [&[u8]; 8] = [
     b"large ",
 ];
 
-impl When {
-    /// The place of the kind's word.
-    fn place(self) -> usize {
-        match self {
-            When::First => 0,
-            When::Load => 1,
-            When::Open => 2,
-            When::End => 3,
-            When::Ask => 4,
-            When::Apart => 5,
-            When::LargeLoad => 6,
-            When::Large => 7,
-        }
-    }
-}
-
 /// The lines of each kind.
 #[derive(Drop)]
 pub(crate) struct Pool<'a> {
     kinds: Vec<Vec<&'a [u8]>>,
 }
 
-/// The lines of a file behind this word.
-fn behind<'a>(alloc: Global, file: &'a [u8], word: &[u8]) -> Result<Vec<&'a [u8]>, AllocError> {
-    let mut lines = Vec::new(alloc);
-    for line in file.split(is_end) {
-        if let Some(text) = line.strip_prefix(word) {
-            lines.push(text)?;
-        }
-    }
-    Ok(lines)
-}
-
 impl<'a> Pool<'a> {
     pub(crate) fn read(alloc: Global, file: &'a [u8]) -> Result<Pool<'a>, AllocError> {
         let mut kinds = Vec::new(alloc);
         for word in WORDS {
-            kinds.push(behind(alloc, file, word)?)?;
+            let mut lines = Vec::new(alloc);
+            for line in file.split(is_end) {
+                if let Some(text) = line.strip_prefix(word) {
+                    lines.push(text)?;
+                }
+            }
+            kinds.push(lines)?;
         }
         Ok(Pool { kinds })
     }
 
     /// All lines that may come then.
     pub(crate) fn lines(&self, when: When) -> Option<&Vec<&'a [u8]>> {
-        self.kinds.get(when.place())
+        self.kinds.get(when as usize)
     }
 }

@@ -1,6 +1,4 @@
-//! How often each reply came, and how many sessions with changes were refused.
-
-ghost use Rattle.std.specs.Prelude.{◌<◌};
+//! How often each reply came, and how many sessions with changes were refused; and how histories with one change were judged.
 
 use crate::draft::SESSIONS;
 use crate::drawn::words::words_of;
@@ -13,14 +11,20 @@ use serde_json::Value;
 use std::alloc::{AllocError, Global};
 use std::collections::BTreeMap;
 
-/// The words of replies, with how often each came, and the commits of sessions that had staged something.
+/// What was seen of drawn scripts.
 #[derive(Drop)]
 pub(crate) struct Tally {
-    counts: BTreeMap<String, u64>,
-    replies: u64,
+    /// The words of replies, with how often each came.
+    pub(crate) counts: BTreeMap<String, u64>,
+    pub(crate) replies: u64,
+    /// The commits of sessions that had staged something, and how many of them met a conflict or a cell that is not allowed.
+    pub(crate) commits: u64,
+    pub(crate) refused: u64,
+    /// How many histories with one change depart, how many are lawful all the same, and how many histories were judged otherwise than they are.
+    pub(crate) departing: u64,
+    pub(crate) lawful: u64,
+    pub(crate) otherwise: u64,
     changed: [bool; 4],
-    commits: u64,
-    refused: u64,
 }
 
 impl Tally {
@@ -28,33 +32,42 @@ impl Tally {
         Tally {
             counts: BTreeMap::new(alloc),
             replies: 0,
-            changed: [false; 4],
             commits: 0,
             refused: 0,
+            departing: 0,
+            lawful: 0,
+            otherwise: 0,
+            changed: [false; 4],
         }
     }
 
-    /// How often each came, in the order of the words.
-    pub(crate) fn counts(&self) -> &BTreeMap<String, u64> {
-        &self.counts
+    /// Notes a reply to a line of a session. No report is named as a session.
+    fn note(&mut self, session: &str, reply: &str) {
+        for place in 0..4 {
+            if SESSIONS[place] == session {
+                match reply {
+                    "opened" => self.changed[place] = false,
+                    "staged" => self.changed[place] = true,
+                    "committed" | "conflict" | "disallowed" if self.changed[place] => {
+                        self.commits = self.commits.saturating_add(1);
+                        let refused = u64::from(reply != "committed");
+                        self.refused = self.refused.saturating_add(refused);
+                    }
+                    _ => {}
+                }
+            }
+        }
     }
 
-    /// How many replies came.
-    pub(crate) fn replies(&self) -> u64 {
-        self.replies
-    }
-
-    /// How many commits there were of sessions that had staged something.
-    pub(crate) fn commits(&self) -> u64 {
-        self.commits
-    }
-
-    /// How many of those commits met a conflict or a cell that is not allowed.
-    pub(crate) fn refused(&self) -> u64 {
-        self.refused
-    }
-
-    fn count(&mut self, words: String) -> Result<(), AllocError> {
+    /// Counts a reply to a line.
+    fn count(&mut self, alloc: Global, line: &Value, reply: &Value) -> Result<(), AllocError> {
+        let asked = if line_of(line).is_some() {
+            text_at(line, 0)
+        } else {
+            ""
+        };
+        self.note(text_at(line, 1), text_at(reply, 0));
+        let words = words_of(alloc, asked, reply)?;
         self.replies = self.replies.saturating_add(1);
         if let Some(count) = self.counts.get_mut(&words) {
             *count = count.saturating_add(1);
@@ -64,68 +77,19 @@ impl Tally {
         Ok(())
     }
 
-    fn count_commit(&mut self, changed: bool, refused: bool) {
-        if changed {
-            self.commits = self.commits.saturating_add(1);
-            if refused {
-                self.refused = self.refused.saturating_add(1);
-            }
-        }
-    }
-
-    /// Notes what a reply says of the session whose name stands at a place.
-    fn note(&mut self, place: usize, reply: &str)
-        requires { place < 4 }
-    {
-        let changed = self.changed[place];
-        match reply {
-            "opened" => self.changed[place] = false,
-            "staged" => self.changed[place] = true,
-            "committed" => self.count_commit(changed, false),
-            "conflict" | "disallowed" => self.count_commit(changed, true),
-            _ => {}
-        }
-    }
-
-    /// Notes a reply to a line of a session. No report is named as a session.
-    fn note_reply(&mut self, session: &str, reply: &str) {
-        for place in 0..4 {
-            if SESSIONS[place] == session {
-                self.note(place, reply);
-            }
-        }
-    }
-
-    /// Counts the JSON value of a reply to that of a line.
-    fn count_reply(
-        &mut self,
-        alloc: Global,
-        line: &Value,
-        reply: &Value,
-    ) -> Result<(), AllocError> {
-        let asked = if line_of(line).is_some() {
-            text_at(line, 0)
-        } else {
-            ""
-        };
-        self.note_reply(text_at(line, 1), text_at(reply, 0));
-        let words = words_of(alloc, asked, reply)?;
-        self.count(words)
-    }
-
-    /// Counts a reply to the line of a JSON value.
-    fn count_text(&mut self, alloc: Global, line: &Value, reply: &str) -> Result<(), AllocError> {
-        let reply = json_value(alloc, reply.as_bytes())?.unwrap_or(Value::Null);
-        let counted = self.count_reply(alloc, line, &reply);
-        drop(reply);
-        counted
-    }
-
-    /// Counts a reply to a line.
+    /// Counts a reply to a line, both as they are written.
     fn count_texts(&mut self, alloc: Global, line: &[u8], reply: &str) -> Result<(), AllocError> {
-        let line = json_value(alloc, line)?.unwrap_or(Value::Null);
-        let counted = self.count_text(alloc, &line, reply);
-        drop(line);
+        let reply = json_value(alloc, reply.as_bytes())?.unwrap_or(Value::Null);
+        let counted = match json_value(alloc, line) {
+            Ok(line) => {
+                let line = line.unwrap_or(Value::Null);
+                let counted = self.count(alloc, &line, &reply);
+                drop(line);
+                counted
+            }
+            Err(error) => Err(error),
+        };
+        drop(reply);
         counted
     }
 

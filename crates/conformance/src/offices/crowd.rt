@@ -1,4 +1,4 @@
-//! Four desks that take rounds of steps in threads of their own, and whether the finished history has just these.
+//! Four desks that take rounds of steps in threads of their own, and whether the finished history has just these; and a reviewer who learns what they were given.
 
 ghost use Rattle.std.specs.Prelude.{◌≡◌, ◌<◌, ◌^◌};
 
@@ -11,10 +11,11 @@ use crate::offices::readers::Readers;
 use crate::offices::rounds::work_of;
 use anyhow::{Result, anyhow};
 use filing_office::{Blanks, Core, Desk, DeskStep, Naming, Office, Outcome, Ran, Work, run_desks};
-use filing_step::Entry;
 use std::alloc::{AllocError, Global};
 use std::marker::{Send, Sync};
 use std::sync::Wait;
+use std::sync::atomic::Ordering::SeqCst;
+use std::sync::atomic::{AtomicBool, AtomicU64};
 use std::sync::ledger::Ledger;
 use std::thread;
 use std::thread::Threads;
@@ -31,6 +32,9 @@ pub(crate) enum Way {
 // The load of a report without facts.
 const LOAD: &str =
     r#"["load","r1",{"documentInfo":{"documentType":"https://xbrl.org/2021/xbrl-json","namespaces":{"ex":"http://e.org/t"}}}]"#;
+
+// What the first desk adds first.
+const ADDED: &str = r#"["get","r1","f-0-0"]"#;
 
 /// Takes steps one after the other, each with the session that the step before it was told. Where one fails, there are fewer outcomes.
 fn take_all<L: Ledger + Naming, M: Ledger, R: Wait + AllocGlobal>(
@@ -70,24 +74,29 @@ fn worked<L: Ledger + Naming, M: Ledger, R: Wait + AllocGlobal>(
 }
 
 /// Lets each desk take its steps in a thread of its own, and tells whether one waited for the others in vain.
-pub(crate) fn run_lists<
+fn run_lists<
     L: Ledger + Naming + Send + Sync,
     M: Ledger + Send + Sync,
     R: Threads + Wait + Sync + Print + AllocGlobal,
 >(rt: &R, office: &Office<L, M>, works: Vec<Work<L, M>>) -> Result<Vec<Ran<L, M>>> {
-    let meeting = Meeting::of(works.len());
+    let meeting = Meeting {
+        desks: works.len() as u64,
+        came: AtomicU64::new(0),
+        missed: AtomicBool::new(false),
+    };
     let ran = run_desks(rt, rt.alloc(), office, works, &meeting)?;
-    match meeting.tell(rt) {
+    let missed = meeting.missed.load(SeqCst);
+    match println!(rt; "a desk waited in vain: {missed}") {
         Ok(()) => Ok(ran),
         Err(error) => {
             drop(ran);
-            Err(error)
+            Err(error.into())
         }
     }
 }
 
 /// The first desk loads the report.
-pub(crate) fn load<L: Ledger + Naming, M: Ledger, R: Wait + AllocGlobal>(
+fn load<L: Ledger + Naming, M: Ledger, R: Wait + AllocGlobal>(
     rt: &R,
     office: &Office<L, M>,
     desks: &mut Vec<Desk<L, M>>,
@@ -127,7 +136,7 @@ fn run_rounds<
 }
 
 /// The desk that comes back.
-pub(crate) fn desk_of<L: Ledger + Naming, M: Ledger>(
+fn desk_of<L: Ledger + Naming, M: Ledger>(
     _alloc: Global,
     _place: usize,
     ran: Ran<L, M>,
@@ -173,29 +182,26 @@ fn come_back<L: Ledger + Naming, M: Ledger>(
     }
 }
 
-/// Writes of each desk how many answers it got, and whether the entries of its sessions are those, in order.
-fn compare_all<R: Print + AllocGlobal>(rt: &R, history: &[Entry], all_told: &[Told]) -> Result<()> {
+/// Compares what desks were told with the history of their office, and writes what it made, which version a reviewer has learnt, and what it reads there of the first desk's.
+fn compare_end<J: Naming, R: Print + AllocGlobal>(
+    rt: &R,
+    core: &Core,
+    all_told: &[Told],
+    readers: &mut Readers<J>,
+) -> Result<()> {
     for (told, place) in all_told.iter().zip(0usize..) {
         let answers = told.lines.len();
-        let is_same = told.is_entered(rt.alloc(), history)?;
+        let is_same = told.is_entered(rt.alloc(), core.history())?;
         println!(rt;
             "desk {place}: {answers} answers, which are the entries of its sessions: {is_same}"
         )?;
     }
-    Ok(())
-}
-
-/// Compares what desks were told with the history of their office, and writes what it made, and which version a reviewer has learnt.
-fn compare_end<J: Naming, R: Print + AllocGlobal>(
-    rt: &R,
-    core: &Core,
-    told: &[Told],
-    readers: &Readers<J>,
-) -> Result<()> {
-    compare_all(rt, core.history(), told)?;
     let (entries, number) = (core.history().len(), core.current().number());
     let seen = readers.seen(rt.alloc(), 0)?;
     println!(rt; "{entries} entries, {number} versions, {seen} learnt")?;
+    drop(readers.opened(rt.alloc(), 0)?);
+    let read = readers.asked(rt.alloc(), 0, line_step(rt.alloc(), ADDED)?)?;
+    println!(rt; "a reviewer reads {read}")?;
     Ok(())
 }
 

@@ -10,27 +10,14 @@ use std::sync::ledger::Ledger;
 #[derive(Drop)]
 pub(crate) struct Desks<L: Ledger + Naming, M: Ledger> {
     pub(crate) here: Vec<Desk<L, M>>,
-    aside: Option<Desk<L, M>>,
+    pub(crate) aside: Option<Desk<L, M>>,
 }
 
 impl<L: Ledger + Naming, M: Ledger> Desks<L, M> {
-    pub(crate) fn of(desks: Vec<Desk<L, M>>) -> Desks<L, M> {
-        Desks {
-            here: desks,
-            aside: None,
-        }
-    }
-
     /// The last desk is set aside.
     pub(crate) fn leave(&mut self, alloc: Global) -> Result<String> {
         self.aside = self.here.pop();
         Ok(String::from_str(alloc, "left")?)
-    }
-
-    /// The last desk is gone.
-    pub(crate) fn lose(&mut self, alloc: Global) -> Result<String> {
-        drop(self.here.pop());
-        Ok(String::from_str(alloc, "lost")?)
     }
 }
 

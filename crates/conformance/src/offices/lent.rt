@@ -23,14 +23,6 @@ fn number_text(alloc: Global, number: Option<u64>) -> Result<String, AllocError>
     }
 }
 
-/// The session of an answer, its reply, and the number of its receipt.
-fn answer_text<J: Naming>(alloc: Global, answer: &Answer<J>) -> Result<String, AllocError> {
-    let session = number_text(alloc, answer.session)?;
-    let reply = reply_text(alloc, &answer.reply)?;
-    let receipt = number_text(alloc, answer.receipt.as_ref().map(Receipt::number))?;
-    format!(in alloc; "[{session},{reply},{receipt}]")
-}
-
 /// What is told of an act.
 fn told<J: Naming, R: Wait + AllocGlobal>(
     rt: &R,
@@ -41,9 +33,16 @@ fn told<J: Naming, R: Wait + AllocGlobal>(
     let step = step_at(rt.alloc(), act)?;
     match apply_in(rt, rt.alloc(), shared, session, step) {
         Ok(answer) => {
-            let told = answer_text(rt.alloc(), &answer);
-            drop(answer);
-            Ok(told?)
+            let Answer {
+                session,
+                reply,
+                receipt,
+            } = answer;
+            let told = reply_text(rt.alloc(), &reply);
+            drop(reply);
+            let receipt = number_text(rt.alloc(), receipt.as_ref().map(Receipt::number))?;
+            let (session, told) = (number_text(rt.alloc(), session)?, told?);
+            Ok(format!(in rt.alloc(); "[{session},{told},{receipt}]")?)
         }
         Err(CoreFault::NoSession) => Ok(String::from_str(rt.alloc(), r#"["no-session"]"#)?),
         Err(CoreFault::NoMemory) => Err(AllocError.into()),

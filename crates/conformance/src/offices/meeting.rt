@@ -1,6 +1,5 @@
 //! A gate at which desks wait for one another while each has a session open.
 
-use anyhow::Result;
 use filing_office::Gate;
 use std::sync::atomic::Ordering::SeqCst;
 use std::sync::atomic::{AtomicBool, AtomicU64};
@@ -12,27 +11,10 @@ const TURNS: usize = 1_000_000;
 /// A gate at which each of some desks waits before its second step until the others are there too.
 #[derive(Drop)]
 pub(crate) struct Meeting {
-    desks: u64,
-    came: AtomicU64,
-    missed: AtomicBool,
-}
-
-impl Meeting {
-    /// One for so many desks.
-    pub(crate) fn of(desks: usize) -> Meeting {
-        Meeting {
-            desks: desks as u64,
-            came: AtomicU64::new(0),
-            missed: AtomicBool::new(false),
-        }
-    }
-
-    /// Writes whether one waited for the others in vain.
-    pub(crate) fn tell<R: Print>(&self, rt: &R) -> Result<()> {
-        let missed = self.missed.load(SeqCst);
-        println!(rt; "a desk waited in vain: {missed}")?;
-        Ok(())
-    }
+    pub(crate) desks: u64,
+    pub(crate) came: AtomicU64,
+    /// Whether one waited for the others in vain.
+    pub(crate) missed: AtomicBool,
 }
 
 impl Gate for Meeting {

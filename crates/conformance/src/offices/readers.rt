@@ -103,16 +103,17 @@ impl<J: Naming> Readers<J> {
         Ok(())
     }
 
-    /// A reviewer opens a review.
-    fn open(&mut self, one: usize) -> Result<()> {
+    /// A reviewer opens a review. The number that it has seen then.
+    pub(crate) fn opened(&mut self, alloc: Global, one: usize) -> Result<String> {
         match self.reviewers.get_mut(one) {
-            Some(reviewer) => Ok(self.reviews.push(reviewer.open()?)?),
-            None => Err(anyhow!("there is no such reviewer")),
+            Some(reviewer) => self.reviews.push(reviewer.open()?)?,
+            None => return Err(anyhow!("there is no such reviewer")),
         }
+        self.seen(alloc, one)
     }
 
     /// What a review is answered.
-    fn ask(&self, alloc: Global, one: usize, step: Step) -> Result<String> {
+    pub(crate) fn asked(&self, alloc: Global, one: usize, step: Step) -> Result<String> {
         match self.reviews.get(one) {
             Some(review) => told(alloc, answered(alloc, review, step)?),
             None => {
@@ -126,11 +127,13 @@ impl<J: Naming> Readers<J> {
     pub(crate) fn act(&mut self, alloc: Global, act: &Value) -> Result<String> {
         let one = number_at(act, 1);
         match text_at(act, 0) {
-            "ask" => return self.ask(alloc, one, step_at(alloc, act)?),
-            "learn" => self.learn(one, number_at(act, 2))?,
-            "review" => self.open(one)?,
-            _ => (),
+            "ask" => self.asked(alloc, one, step_at(alloc, act)?),
+            "review" => self.opened(alloc, one),
+            "learn" => {
+                self.learn(one, number_at(act, 2))?;
+                self.seen(alloc, one)
+            }
+            _ => self.seen(alloc, one),
         }
-        self.seen(alloc, one)
     }
 }

@@ -27,19 +27,14 @@ pub(crate) fn round_line(alloc: Global, place: usize, turn: usize) -> Result<Str
     }
 }
 
-/// The step of rounds at a turn, under the name of a session.
-fn desk_step(alloc: Global, place: usize, turn: usize) -> Result<DeskStep> {
-    let line = round_line(alloc, place, turn)?;
-    let name = String::from_str(alloc, "s")?;
-    let step = line_step(alloc, &line)?;
-    Ok(DeskStep { name, step })
-}
-
-/// The steps of all rounds of a desk.
+/// The steps of all rounds of a desk, each under the name of a session.
 fn steps_of(alloc: Global, place: usize) -> Result<Vec<DeskStep>> {
     let mut steps = Vec::with_capacity(alloc, ROUNDS * ROUND)?;
     for turn in 0..ROUNDS * ROUND {
-        steps.push(desk_step(alloc, place, turn)?)?;
+        let line = round_line(alloc, place, turn)?;
+        let name = String::from_str(alloc, "s")?;
+        let step = line_step(alloc, &line)?;
+        steps.push(DeskStep { name, step })?;
     }
     Ok(steps)
 }

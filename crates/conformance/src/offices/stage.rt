@@ -47,7 +47,10 @@ fn told<L: Ledger + Naming, M: Ledger, R: Wait + AllocGlobal>(
             None => Err(anyhow!("there is no such desk")),
         },
         "leave" => desks.leave(rt.alloc()),
-        "lose" => desks.lose(rt.alloc()),
+        "lose" => {
+            drop(desks.here.pop());
+            Ok(String::from_str(rt.alloc(), "lost")?)
+        }
         _ => readers.act(rt.alloc(), act),
     }
 }
@@ -130,7 +133,10 @@ pub(crate) fn play<L: Ledger + Naming, M: Ledger, R: Wait + AllocGlobal>(
     let played = play_in(
         rt,
         office,
-        Desks::of(desks),
+        Desks {
+            here: desks,
+            aside: None,
+        },
         &mut readers,
         acts,
         &mut all_told,

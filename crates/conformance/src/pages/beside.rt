@@ -1,10 +1,9 @@
 //! Lists in pages beside plain ones.
 
 use crate::pages::item::Item;
-use crate::pages::lists::{Listed, spaced};
+use crate::pages::lists::{Kind, List, spaced};
 use crate::pages::plain::PlainPages;
-use crate::seen::Seen;
-use anyhow::Result;
+use anyhow::{Result, anyhow};
 use sorted_pages::Edit;
 use std::alloc::{AllocError, Global};
 
@@ -23,13 +22,6 @@ const KEYS: u64 = 14_000;
 /// So many keys are gone over in a round.
 const CHANGES: u64 = 200;
 
-/// A list in pages, and plain pages.
-#[derive(Drop)]
-struct Both<L: Listed> {
-    list: L,
-    plain: PlainPages,
-}
-
 /// The next number of a fixed sequence.
 fn next_number(state: u64) -> u64 {
     state
@@ -37,26 +29,7 @@ fn next_number(state: u64) -> u64 {
         .wrapping_add(1_442_695_040_888_963_407)
 }
 
-/// Pushes what becomes of a key by a drawn number: in one round of four all are put, in another all removed, and in the others a third each.
-fn push_change(
-    changes: &mut Vec<Edit<Item>>,
-    round: u64,
-    key: u64,
-    drawn: u64,
-) -> Result<(), AllocError> {
-    let entry = Item {
-        key,
-        weight: drawn >> 40,
-    };
-    match (round % 4, (drawn >> 35) % 3) {
-        (0, _) | (2 | 3, 0) => changes.push(Edit::Put(entry))?,
-        (1, _) | (2 | 3, 1) => changes.push(Edit::Remove(entry))?,
-        _ => (),
-    }
-    Ok(())
-}
-
-/// Up to 200 puts and removals, with rising keys. In some rounds they lie close together.
+/// Up to 200 puts and removals, with rising keys. In some rounds they lie close together; in one of four all are put, in another all removed, and in the others a third each.
 fn some_changes(alloc: Global, round: u64) -> Result<Vec<Edit<Item>>, AllocError> {
     let mut changes = Vec::new(alloc);
     let mut state = next_number(next_number(round));
@@ -65,56 +38,52 @@ fn some_changes(alloc: Global, round: u64) -> Result<Vec<Edit<Item>>, AllocError
     for place in 0..CHANGES {
         state = next_number(state);
         let key = from.wrapping_add(place.wrapping_mul(step));
+        let weight = state >> 40;
         if key < KEYS {
-            push_change(&mut changes, round, key, state)?;
+            match (round % 4, (state >> 35) % 3) {
+                (0, _) | (2 | 3, 0) => changes.push(Edit::Put(Item { key, weight }))?,
+                (1, _) | (2 | 3, 1) => changes.push(Edit::Remove(Item { key, weight }))?,
+                _ => (),
+            }
         }
     }
     Ok(changes)
 }
 
-impl<L: Listed> Both<L> {
-    /// Both of so many keys.
-    fn filled(alloc: Global) -> Result<Both<L>> {
-        let items = spaced(alloc, 0, GAP, FIRST)?;
-        let plain = PlainPages::filled(alloc, &items)?;
-        let list = L::built(alloc, items)?;
-        Ok(Both { list, plain })
-    }
-
-    /// Whether both have the same entries, in pages of the same lengths.
-    fn is_same(&self, alloc: Global) -> Result<bool> {
-        let (sizes, plain_sizes) = (self.list.sizes(alloc)?, self.plain.sizes(alloc)?);
-        let items = self.plain.items(alloc)?;
-        Ok(sizes == plain_sizes && self.list.has_all(&items))
-    }
-
-    /// Makes the changes of a round in both, and compares them.
-    fn take_round(&mut self, alloc: Global, round: u64) -> Result<bool> {
-        let changes = some_changes(alloc, round)?;
-        self.plain.change(alloc, &changes)?;
-        self.list.change(alloc, &changes)?;
-        self.is_same(alloc)
-    }
+/// Makes the changes of a round in both lists. Whether they have the same entries then, in pages of the same lengths.
+fn take_round(alloc: Global, list: &mut List, plain: &mut PlainPages, round: u64) -> Result<bool> {
+    let changes = some_changes(alloc, round)?;
+    plain.change(alloc, &changes)?;
+    list.change(alloc, &changes)?;
+    let (sizes, items) = plain.told(alloc)?;
+    Ok(list.sizes(alloc)? == sizes && list.has_all(alloc, &items)?)
 }
 
-/// Makes rounds of changes in both, and compares them after each.
-fn compare_each<L: Listed, R: Print + AllocGlobal>(
-    rt: &R,
-    both: &mut Both<L>,
-    kind: &str,
-) -> Result<u64> {
-    let mut seen = Seen::new();
+/// Makes rounds of changes in both, and compares them after each. How many differ.
+fn take_rounds(alloc: Global, list: &mut List, plain: &mut PlainPages) -> Result<u64> {
+    let mut differing = 0u64;
     for round in 0..ROUNDS {
-        let is_same = both.take_round(rt.alloc(), round)?;
-        seen.note(rt, "a round", is_same)?;
+        let is_same = take_round(alloc, list, plain, round)?;
+        differing = differing.saturating_add(u64::from(!is_same));
     }
-    seen.tell(rt, kind)
+    Ok(differing)
 }
 
-/// How many rounds of changes differ of a list of a kind and a plain one.
-pub(crate) fn take_rounds<L: Listed, R: Print + AllocGlobal>(rt: &R, kind: &str) -> Result<u64> {
-    let mut both = Both::<L>::filled(rt.alloc())?;
-    let differing = compare_each(rt, &mut both, kind);
-    drop(both);
-    differing
+/// Compares a list of a kind with a plain one, round by round, which is a fault where they differ.
+pub(crate) fn compare_rounds<R: Print + AllocGlobal>(rt: &R, kind: Kind) -> Result<()> {
+    let what = match kind {
+        Kind::Alone => "a list",
+        Kind::Report => "a report",
+    };
+    let items = spaced(rt.alloc(), 0, GAP, FIRST)?;
+    let mut plain = PlainPages::filled(rt.alloc(), &items)?;
+    let mut list = List::built(rt.alloc(), kind, items)?;
+    let taken = take_rounds(rt.alloc(), &mut list, &mut plain);
+    drop(list);
+    let differing = taken?;
+    println!(rt; "rounds of changes of {what}: {ROUNDS}, {differing} differ")?;
+    if differing > 0 {
+        return Err(anyhow!("{differing} differ"));
+    }
+    Ok(())
 }

@@ -34,21 +34,13 @@ fn change_page(page: &mut Vec<Item>, change: &Edit<Item>) -> Result<(), AllocErr
     Ok(())
 }
 
-/// Joins what is left of a page to its last piece.
-fn join_rest(rest: &[Item], pages: &mut Vec<Vec<Item>>) -> Result<(), AllocError> {
-    match pages.last_mut() {
-        Some(last) => last.extend_from_slice(rest),
-        None => Ok(()),
-    }
-}
-
 /// Appends the pieces of a page that would hold too many.
 fn push_pieces(alloc: Global, page: &[Item], pages: &mut Vec<Vec<Item>>) -> Result<(), AllocError> {
     for piece in page.chunks(PIECE) {
-        if piece.len() < PIECE {
-            join_rest(piece, pages)?;
-        } else {
+        if piece.len() == PIECE {
             pages.push(piece.to_vec(alloc)?)?;
+        } else if let Some(last) = pages.last_mut() {
+            last.extend_from_slice(piece)?;
         }
     }
     Ok(())
@@ -75,15 +67,6 @@ impl PlainPages {
         place
     }
 
-    /// The page of each change, by the pages as they are.
-    fn places(&self, alloc: Global, changes: &[Edit<Item>]) -> Result<Vec<usize>, AllocError> {
-        let mut places = Vec::new(alloc);
-        for change in changes {
-            places.push(self.place_of(change.entry().key))?;
-        }
-        Ok(places)
-    }
-
     /// Cuts the pages that hold too many, and drops those that are empty.
     fn cut(&mut self, alloc: Global) -> Result<(), AllocError> {
         let mut pages = Vec::new(alloc);
@@ -98,13 +81,16 @@ impl PlainPages {
         Ok(())
     }
 
-    /// Makes changes at once.
+    /// Makes changes at once. The page of each is told by the pages as they are.
     pub(crate) fn change(
         &mut self,
         alloc: Global,
         changes: &[Edit<Item>],
     ) -> Result<(), AllocError> {
-        let places = self.places(alloc, changes)?;
+        let mut places = Vec::new(alloc);
+        for change in changes {
+            places.push(self.place_of(change.entry().key))?;
+        }
         if self.pages.is_empty() {
             self.pages.push(Vec::new(alloc))?;
         }
@@ -116,21 +102,13 @@ impl PlainPages {
         self.cut(alloc)
     }
 
-    /// The lengths of the pages.
-    pub(crate) fn sizes(&self, alloc: Global) -> Result<Vec<usize>, AllocError> {
-        let mut sizes = Vec::new(alloc);
+    /// The lengths of the pages, and the items, one after another.
+    pub(crate) fn told(&self, alloc: Global) -> Result<(Vec<usize>, Vec<Item>), AllocError> {
+        let (mut sizes, mut items) = (Vec::new(alloc), Vec::new(alloc));
         for page in &self.pages {
             sizes.push(page.len())?;
-        }
-        Ok(sizes)
-    }
-
-    /// The items, one after another.
-    pub(crate) fn items(&self, alloc: Global) -> Result<Vec<Item>, AllocError> {
-        let mut items = Vec::new(alloc);
-        for page in &self.pages {
             items.extend_from_slice(page)?;
         }
-        Ok(items)
+        Ok((sizes, items))
     }
 }

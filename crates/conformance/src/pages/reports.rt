@@ -1,30 +1,28 @@
-//! The facts of a report of a version as a list of items: each stands under an identifier that its key makes, and its value is its weight.
+//! The facts of a report as a list of items: each stands under an identifier that its key makes, and its value is its weight. Changes are sessions of a core.
 
+use crate::offices::line_step;
 use crate::pages::item::Item;
-use crate::pages::lists::Listed;
-use crate::versions::draft::{Draft, with_report};
-use anyhow::{Result, anyhow};
-use filing_version::{RepoVersion, laws};
-use oim_fact::{DimSet, Fact, FactValue};
-use oim_report::{push_comma, read_report, read_table};
-use sorted_pages::{Edit, are_rising, is_rising};
+use anyhow::Result;
+use filing_core::Core;
+use oim_fact::FactValue;
+use oim_report::push_comma;
+use sorted_pages::Edit;
 use std::alloc::{AllocError, Global};
-use std::mem;
-use std::sync::Arc;
 
 // The name of the report.
-const NAME: &str = "r1";
+pub(crate) const NAME: &str = "r1";
 
-// What stands before its facts, and behind them.
+// What stands before its facts in a load, and behind them.
 const FRONT: &str =
-    r#"{"documentInfo":{"documentType":"https://xbrl.org/2021/xbrl-json","namespaces":{"ex":"http://e.org/t"}},"facts":{"#;
+    r#"["load","r1",{"documentInfo":{"documentType":"https://xbrl.org/2021/xbrl-json","namespaces":{"ex":"http://e.org/t"}},"facts":{"#;
 
-const END: &str = "}}";
+const END: &str = "}}]";
 
-/// A version of one report.
+/// A core of one report, and how many sessions were opened.
 #[derive(Drop)]
 pub(crate) struct Reported {
-    version: RepoVersion,
+    pub(crate) core: Core,
+    sessions: u64,
 }
 
 /// The identifier of a key: digits behind a letter that tells how many they are, so that identifiers stand in the order of keys.
@@ -37,124 +35,83 @@ fn id_of(alloc: Global, key: u64) -> Result<String, AllocError> {
     }
 }
 
-/// The key of an identifier.
-fn key_of(id: &str) -> Option<u64> {
-    let digits = id.trim_start_matches(|c: char| c.is_ascii_lowercase());
-    digits.parse::<u64>().ok()
-}
-
-/// The weight that a fact has.
-fn weight_of(fact: &Fact) -> Option<u64> {
-    match &fact.value {
-        FactValue::Text(text) => text.parse::<u64>().ok(),
-        _ => None,
-    }
-}
-
-/// The dimensions of all facts.
-fn dims(alloc: Global) -> Result<DimSet> {
-    let mut pairs = Vec::new(alloc);
-    let concept = String::from_str(alloc, "concept")?;
-    pairs.push((concept, Some(String::from_str(alloc, "ex:Name")?)))?;
-    Ok(DimSet::of(pairs)?)
-}
-
 /// The fact of a weight.
-fn fact_of(alloc: Global, weight: u64) -> Result<Arc<Fact>> {
-    let fact = Fact {
-        dims: dims(alloc)?,
-        value: FactValue::Text(weight.to_string(alloc)?),
-        links: None,
-    };
-    Ok(Arc::new(alloc, fact)?)
+fn fact_of(alloc: Global, weight: u64) -> Result<String, AllocError> {
+    format!(in alloc; "{{\"dimensions\":{{\"concept\":\"ex:Name\"}},\"value\":\"{weight}\"}}")
 }
 
-/// The text of the report of items.
-fn text_of(alloc: Global, items: &[Item]) -> Result<String, AllocError> {
+/// The load of the report of items.
+fn load_of(alloc: Global, items: &[Item]) -> Result<String, AllocError> {
     let mut text = String::from_str(alloc, FRONT)?;
     for (item, place) in items.iter().zip(0usize..) {
         push_comma(&mut text, place > 0)?;
-        let (id, weight) = (id_of(alloc, item.key)?, item.weight);
-        write!(
-            text,
-            "\"{id}\":{{\"dimensions\":{{\"concept\":\"ex:Name\"}},\"value\":\"{weight}\"}}"
-        )?;
+        let (id, fact) = (id_of(alloc, item.key)?, fact_of(alloc, item.weight)?);
+        write!(text, "\"{id}\":{fact}")?;
     }
     text.push_str(END)?;
     Ok(text)
 }
 
-/// The version that has the report of items alone.
-fn loaded(alloc: Global, items: &[Item]) -> Result<RepoVersion> {
-    let text = text_of(alloc, items)?;
-    let table = Arc::new(alloc, read_table(alloc, "")?)?;
-    let report = read_report(alloc, text.as_bytes(), &table)?;
-    with_report(alloc, &RepoVersion::empty(alloc), NAME, report)
-}
-
-/// Puts what a change puts, or removes it.
-fn put(alloc: Global, draft: &mut Draft<'_>, change: &Edit<Item>) -> Result<()> {
-    let id = id_of(alloc, change.entry().key)?;
-    let fact = match change {
-        Edit::Put(item) => Some(fact_of(alloc, item.weight)?),
-        Edit::Remove(_) => None,
-    };
-    Ok(draft.put(NAME, id, fact)?)
-}
-
-/// The version after changes.
-fn after(alloc: Global, draft: &mut Draft<'_>, changes: &[Edit<Item>]) -> Result<RepoVersion> {
-    for change in changes {
-        put(alloc, draft, change)?;
-    }
-    match draft.next(alloc)? {
-        Some(next) => Ok(next),
-        None => Err(anyhow!("no number is left")),
-    }
-}
-
-impl Listed for Reported {
-    fn built(alloc: Global, items: Vec<Item>) -> Result<Reported> {
-        let risen = if is_rising(&items) {
-            items.as_slice()
-        } else {
-            &[]
-        };
-        let version = loaded(alloc, risen)?;
-        Ok(Reported { version })
+impl Reported {
+    /// Takes a step, as histories write it.
+    fn take(&mut self, alloc: Global, step: &str) -> Result<()> {
+        let step = line_step(alloc, step)?;
+        drop(self.core.step(alloc, Some(self.sessions), step)?);
+        Ok(())
     }
 
-    fn change(&mut self, alloc: Global, changes: &[Edit<Item>]) -> Result<()> {
-        if are_rising(changes) {
-            let mut draft = Draft::new(alloc, &self.version);
-            let next = after(alloc, &mut draft, changes);
-            drop(draft);
-            drop(mem::replace(&mut self.version, next?));
+    /// Puts what a change puts, or removes it.
+    fn edit(&mut self, alloc: Global, change: &Edit<Item>) -> Result<()> {
+        let id = id_of(alloc, change.entry().key)?;
+        let removal = format!(in alloc; "[\"remove\",\"r1\",\"{id}\"]")?;
+        self.take(alloc, &removal)?;
+        if let Edit::Put(item) = change {
+            let fact = fact_of(alloc, item.weight)?;
+            let addition = format!(in alloc; "[\"add\",\"r1\",\"{id}\",{fact}]")?;
+            self.take(alloc, &addition)?;
         }
         Ok(())
     }
 
-    fn sizes(&self, alloc: Global) -> Result<Vec<usize>> {
-        Ok(laws::page_sizes(alloc, &self.version, NAME)?)
-    }
-
-    /// The facts of the report are these, and no others.
-    fn has_all(&self, items: &[Item]) -> bool {
-        let Some(mut entries) = self.version.entries(NAME) else {
-            return false;
-        };
-        for item in items {
-            let Some((id, fact)) = entries.next() else {
-                return false;
-            };
-            if key_of(id) != Some(item.key) || weight_of(fact) != Some(item.weight) {
-                return false;
+    /// The report of items.
+    pub(crate) fn built(alloc: Global, items: &[Item]) -> Result<Reported> {
+        let load = load_of(alloc, items)?;
+        let core = Core::new(alloc)?;
+        let mut reported = Reported { core, sessions: 0 };
+        match reported.take(alloc, &load) {
+            Ok(()) => Ok(reported),
+            Err(error) => {
+                drop(reported);
+                Err(error)
             }
         }
-        entries.next().is_none()
     }
 
-    fn range_told(&self, _alloc: Global, _from: u64, _until: u64) -> Result<String> {
-        Err(anyhow!("a report tells of no range of identifiers"))
+    /// Makes changes at once.
+    pub(crate) fn change(&mut self, alloc: Global, changes: &[Edit<Item>]) -> Result<()> {
+        self.take(alloc, r#"["open","amend"]"#)?;
+        self.sessions = self.sessions.saturating_add(1);
+        for change in changes {
+            self.edit(alloc, change)?;
+        }
+        self.take(alloc, r#"["commit"]"#)
+    }
+
+    /// Whether the facts of the report are these, and no others.
+    pub(crate) fn is_of(&self, alloc: Global, items: &[Item]) -> Result<bool, AllocError> {
+        let Some(mut entries) = self.core.current().entries(NAME) else {
+            return Ok(false);
+        };
+        for item in items {
+            let (id, weight) = (id_of(alloc, item.key)?, item.weight.to_string(alloc)?);
+            match entries.next() {
+                Some((other, fact)) if other == id.as_str() => match &fact.value {
+                    FactValue::Text(text) if *text == weight => (),
+                    _ => return Ok(false),
+                },
+                _ => return Ok(false),
+            }
+        }
+        Ok(entries.next().is_none())
     }
 }

@@ -4,23 +4,19 @@
 
 use crate::lines::is_end;
 use crate::pages::item::Item;
-use crate::pages::lists::{Listed, spaced};
-use crate::pages::reports::Reported;
+use crate::pages::lists::{Kind, List, spaced};
 use crate::question::{number_at, parts, text_at};
 use crate::sheet::{Answers, Sheet};
 use anyhow::Result;
 use oim_report::json_value;
 use serde_json::Value;
-use sorted_pages::{Edit, Paged};
+use sorted_pages::Edit;
 use std::alloc::{AllocError, Global};
 use std::mem;
 
-/// Builds a list anew.
-fn build<L: Listed>(alloc: Global, list: &mut L, line: &Value) -> Result<()> {
-    let (first, step, count) = (number_at(line, 1), number_at(line, 2), number_at(line, 3));
-    let items = spaced(alloc, first as u64, step as u64, count as u64)?;
-    drop(mem::replace(list, L::built(alloc, items)?));
-    Ok(())
+/// What answers rows by lists of a kind.
+pub(crate) struct Lists {
+    pub(crate) kind: Kind,
 }
 
 /// Pushes the changes of the keys of a range.
@@ -37,35 +33,36 @@ fn push_changes(changes: &mut Vec<Edit<Item>>, edit: &Value) -> Result<(), Alloc
     Ok(())
 }
 
-/// Puts and removes keys at once.
-fn edit<L: Listed>(alloc: Global, list: &mut L, edits: &[Value]) -> Result<()> {
-    let mut changes = Vec::new(alloc);
-    for edit in edits {
-        push_changes(&mut changes, edit)?;
-    }
-    list.change(alloc, &changes)
-}
-
 /// What is told of a line, if it asks.
-fn told<L: Listed>(alloc: Global, list: &mut L, line: &Value) -> Result<String> {
+fn told(alloc: Global, kind: Kind, list: &mut List, line: &Value) -> Result<String> {
+    let (one, two, three) = (number_at(line, 1), number_at(line, 2), number_at(line, 3));
     match text_at(line, 0) {
-        "spaced" => build(alloc, list, line)?,
-        "change" => edit(alloc, list, parts(line).get(1..).unwrap_or(&[]))?,
+        "spaced" => {
+            let items = spaced(alloc, one as u64, two as u64, three as u64)?;
+            drop(mem::replace(list, List::built(alloc, kind, items)?));
+        }
+        "change" => {
+            let mut changes = Vec::new(alloc);
+            for edit in parts(line) {
+                push_changes(&mut changes, edit)?;
+            }
+            list.change(alloc, &changes)?;
+        }
         "sizes" => {
             let sizes = list.sizes(alloc)?;
             return Ok(format!(in alloc; "{sizes:?}\n")?);
         }
-        _ => return list.range_told(alloc, number_at(line, 1) as u64, number_at(line, 2) as u64),
+        _ => return list.range_told(alloc, one as u64, two as u64),
     }
     Ok(String::new(alloc))
 }
 
 /// What is told of lines in turn.
-fn told_all<L: Listed>(alloc: Global, list: &mut L, lines: &[u8]) -> Result<String> {
+fn told_all(alloc: Global, kind: Kind, list: &mut List, lines: &[u8]) -> Result<String> {
     let mut all_told = String::new(alloc);
     for line in lines.split(is_end) {
         if let Some(line) = json_value(alloc, line)? {
-            let told = told(alloc, list, &line);
+            let told = told(alloc, kind, list, &line);
             drop(line);
             all_told.push_str(&told?)?;
         }
@@ -73,28 +70,12 @@ fn told_all<L: Listed>(alloc: Global, list: &mut L, lines: &[u8]) -> Result<Stri
     Ok(all_told)
 }
 
-/// What is told of the lines of a sheet, of a list that is empty at first.
-fn told_of<L: Listed>(alloc: Global, sheet: &Sheet) -> Result<Vec<u8>> {
-    let mut list = L::built(alloc, Vec::new(alloc))?;
-    let told = told_all(alloc, &mut list, &sheet.lines);
-    drop(list);
-    Ok(told?.into_bytes())
-}
-
-/// Lists in pages of their own.
-pub(crate) struct Lists;
-
 impl Answers for Lists {
+    /// What is told of the lines of a sheet, of a list that is empty at first.
     fn told(&self, alloc: Global, sheet: &Sheet) -> Result<Vec<u8>> {
-        told_of::<Paged<Item>>(alloc, sheet)
-    }
-}
-
-/// The facts of reports.
-pub(crate) struct Reports;
-
-impl Answers for Reports {
-    fn told(&self, alloc: Global, sheet: &Sheet) -> Result<Vec<u8>> {
-        told_of::<Reported>(alloc, sheet)
+        let mut list = List::built(alloc, self.kind, Vec::new(alloc))?;
+        let told = told_all(alloc, self.kind, &mut list, sheet.script());
+        drop(list);
+        Ok(told?.into_bytes())
     }
 }

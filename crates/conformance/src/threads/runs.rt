@@ -1,12 +1,12 @@
-//! Scripts run over memory: in threads, or one script alone.
+//! Scripts run over memory in threads.
 
 ghost use Rattle.std.specs.Prelude.{◌≡◌, ◌≤◌, ◌<◌, length};
 
-use crate::memory::replies_to;
+use crate::lines::{is_end, push_line};
 use anyhow::{Result, anyhow};
 use filing_cli::{MemoryOut, run_threads};
 use oim_fact::NumericTable;
-use std::alloc::Global;
+use std::alloc::{AllocError, Global};
 use std::marker::{Brand, Sync};
 use std::sync::ledger::{Blank, Ledger};
 use std::sync::{Arc, Wait};
@@ -15,7 +15,7 @@ use std::thread::Threads;
 // So many bytes are written without a growth.
 const ROOM: usize = 65536;
 
-// So many bytes are read or written at once.
+// So many bytes are written at once.
 const PIECE: usize = 4096;
 
 // So many scripts run at once at most.
@@ -51,11 +51,35 @@ pub(crate) fn replies_in_threads<R: AllocGlobal + Threads + Wait + Sync>(
     written_in_threads::<Brand, R>(rt, table, scripts, Blank::new(1))
 }
 
-/// What a script is told that runs alone.
-pub(crate) fn replies_alone(
-    alloc: Global,
-    table: &Arc<NumericTable>,
-    script: &[u8],
-) -> Result<Vec<u8>> {
-    replies_to(alloc, table, script, PIECE)
+/// The word of a reply that tells the number of a version alone, and that number.
+fn word_and_number(reply: &[u8]) -> Option<(&str, u64)> {
+    let text = str::from_utf8(reply).ok()?;
+    let (word, number) = text.strip_suffix("]")?.split_once(",")?;
+    match word {
+        "[\"loaded\"" | "[\"committed\"" => Some((word, number.parse::<u64>().ok()?)),
+        _ => None,
+    }
+}
+
+/// The replies with `_` for the numbers of versions. Where not each from 1 on is told once, they stand behind.
+pub(crate) fn without_numbers(alloc: Global, replies: &[u8]) -> Result<Vec<u8>, AllocError> {
+    let (mut plain, mut numbers) = (Vec::new(alloc), Vec::new(alloc));
+    for reply in replies.split(is_end) {
+        if let Some((word, number)) = word_and_number(reply) {
+            numbers.push(number)?;
+            plain.extend_from_slice(word.as_bytes())?;
+            push_line(&mut plain, b",_]")?;
+        } else if !reply.is_empty() {
+            push_line(&mut plain, reply)?;
+        }
+    }
+    numbers.sort_unstable();
+    for (number, next) in numbers.iter().zip(1u64..) {
+        if *number != next {
+            let told = format!(in alloc; "{numbers:?}")?;
+            push_line(&mut plain, told.as_bytes())?;
+            return Ok(plain);
+        }
+    }
+    Ok(plain)
 }

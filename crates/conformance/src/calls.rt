@@ -1,0 +1,126 @@
+//! Calls that no script makes.
+//!
+//! A line that is no JSON is read as a report. `["prefixes",[PREFIX,URI],..]` makes the names of prefixes, `["dims",[NAME,TEXT],..]` dimensions; `["declare",WORD,TEXT]` sets a word in a text that may be no info of a report; and `["number",N]` is told the replies with this number of a version.
+
+use crate::lines::{is_end, push_line, read_numeric};
+use crate::question::{parts, text_at};
+use crate::sheet::{Answers, Sheet, compare_rows};
+use anyhow::Result;
+use filing_cli::{bad_fact_reply, bad_report_reply, reply_text};
+use filing_step::Reply;
+use oim_fact::{Allowed, DimSet, Names, NumericTable};
+use oim_report::{Trouble, allowed_of_word, json_value, read_report, with_allowed};
+use serde_json::Value;
+use std::alloc::{AllocError, Global};
+use std::rt::Files;
+use std::sync::Arc;
+
+/// What answers lines that are calls.
+#[derive(Drop)]
+pub(crate) struct Calls<'a> {
+    pub(crate) table: &'a Arc<NumericTable>,
+}
+
+/// The text at a place of a pair, where it is one.
+fn text_in(alloc: Global, pair: &Value, place: usize) -> Result<Option<String>, AllocError> {
+    match pair.get(place).and_then(Value::as_str) {
+        Some(text) => Ok(Some(String::from_str(alloc, text)?)),
+        None => Ok(None),
+    }
+}
+
+/// What pairs are told as dimensions.
+fn dims_answer(alloc: Global, pairs: &[Value]) -> Result<String> {
+    let mut listed = Vec::new(alloc);
+    for pair in pairs {
+        let name = text_in(alloc, pair, 0)?.unwrap_or(String::new(alloc));
+        listed.push((name, text_in(alloc, pair, 1)?))?;
+    }
+    match DimSet::of(listed) {
+        Ok(dims) => {
+            drop(dims);
+            Ok(String::from_str(alloc, "read")?)
+        }
+        Err(fault) => Ok(bad_fact_reply(alloc, Trouble::Dims(fault))?),
+    }
+}
+
+/// What pairs are told as prefixes with their URIs.
+fn names_answer(alloc: Global, pairs: &[Value], table: &Arc<NumericTable>) -> Result<String> {
+    let mut listed = Vec::new(alloc);
+    for pair in pairs {
+        let prefix = String::from_str(alloc, text_at(pair, 0))?;
+        listed.push((prefix, String::from_str(alloc, text_at(pair, 1))?))?;
+    }
+    match Names::of(listed, table.clone()?) {
+        Ok(names) => {
+            drop(names);
+            Ok(String::from_str(alloc, "read")?)
+        }
+        Err(fault) => Ok(fault.to_string(alloc)?),
+    }
+}
+
+/// What a call is told.
+fn value_answer(alloc: Global, call: &Value, table: &Arc<NumericTable>) -> Result<String> {
+    let pairs = parts(call).get(1..).unwrap_or(&[]);
+    match text_at(call, 0) {
+        "prefixes" => names_answer(alloc, pairs, table),
+        "dims" => dims_answer(alloc, pairs),
+        "declare" => {
+            let allowed = allowed_of_word(text_at(call, 1)).unwrap_or(Allowed::All);
+            Ok(with_allowed(alloc, text_at(call, 2), allowed)?)
+        }
+        _ => {
+            let number = call.get(1usize).and_then(Value::as_u64).unwrap_or(0);
+            let committed = reply_text(alloc, &Reply::Committed(number))?;
+            let loaded = reply_text(alloc, &Reply::Loaded(number))?;
+            Ok(format!(in alloc; "{committed} {loaded}")?)
+        }
+    }
+}
+
+/// What bytes are told as a report.
+fn bytes_answer(alloc: Global, bytes: &[u8], table: &Arc<NumericTable>) -> Result<String> {
+    match read_report(alloc, bytes, table) {
+        Ok(report) => {
+            drop(report);
+            Ok(String::from_str(alloc, "read")?)
+        }
+        Err(fault) => {
+            let told = bad_report_reply(alloc, &fault);
+            drop(fault);
+            Ok(told?)
+        }
+    }
+}
+
+/// What a line is told.
+fn line_answer(alloc: Global, line: &[u8], table: &Arc<NumericTable>) -> Result<String> {
+    match json_value(alloc, line)? {
+        Some(call) => {
+            let told = value_answer(alloc, &call, table);
+            drop(call);
+            told
+        }
+        None => bytes_answer(alloc, line, table),
+    }
+}
+
+impl Answers for Calls<'_> {
+    fn told(&self, alloc: Global, sheet: &Sheet) -> Result<Vec<u8>> {
+        let mut told = Vec::new(alloc);
+        for line in sheet.script().split(is_end) {
+            if !line.is_empty() {
+                push_line(&mut told, line_answer(alloc, line, self.table)?.as_bytes())?;
+            }
+        }
+        Ok(told)
+    }
+}
+
+/// Compares what calls are told.
+pub(crate) fn compare_calls<R: Files + Print + AllocGlobal>(rt: &R) -> Result<()> {
+    let table = &read_numeric(rt, "worked")?;
+    compare_rows(rt, "calls", &Calls { table })
+}
