@@ -46,7 +46,7 @@ fn reply_alone(reply: Reply) -> Outcome
     Outcome { reply, next: None }
 }
 
-/// Of a load. A name that is taken comes first. A version that it makes shares the report.
+/// Of a load. A name that is taken comes first. A version that it makes shares the report's facts.
 pub(crate) fn load_outcome(
     alloc: Global,
     current: &RepoVersion,

@@ -24,7 +24,7 @@ use text_map::{NamedValue, PagedValue, TextPages};
 /// A report whose facts stand in indexes, with the number of its load, that of the last commit that declared its value, and those of its parts. Contracts see these.
 #[derive(Drop)]
 pub(crate) struct StampedReport {
-    /// The report as it was loaded, or a copy without facts that declares another value. The facts are those of the indexes.
+    /// A copy of the report without its facts, which are those of the indexes: a fact that no version has any more is let go.
     header: Arc<Report>,
     facts: Facts,
     loaded: u64,
@@ -126,7 +126,7 @@ fn facts_with(
 }
 
 impl StampedReport {
-    /// A report that is loaded as this version. All of it is shared but its identifiers.
+    /// A report that is loaded as this version. Its facts are shared, all else is copied.
     pub(crate) fn new(
         alloc: Global,
         report: &Arc<Report>,
@@ -134,7 +134,8 @@ impl StampedReport {
     ) -> Result<StampedReport, AllocError>
         ensures { IfOk result (λ f. filed_of f ≡ newly_filed number (arc_value report.now)) }
     {
-        let header = Arc::try_clone(report)?;
+        let copy = without_facts(alloc, report)?;
+        let header = Arc::new(alloc, copy)?;
         let facts = indexed(alloc, report)?;
         Ok(StampedReport {
             header,

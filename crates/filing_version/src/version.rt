@@ -229,7 +229,7 @@ impl RepoVersion {
         Ok(RepoVersion { number, reports })
     }
 
-    /// The version with one report more, which counts one more and stamps its name. It shares all of the report but its identifiers.
+    /// The version with one report more, which counts one more and stamps its name. It shares the facts of the report.
     pub fn with_shared_report(
         &self,
         alloc: Global,
