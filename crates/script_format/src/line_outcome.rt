@@ -77,13 +77,16 @@ fn load_judged(
 }
 
 /// Classifies what a value asks of a session: its fact or its dimensions move out of it, and are read.
-fn asking_judged(alloc: Global, session: &str, value: Value) -> Result<LineOutcome, AllocError>
+fn asking_judged(alloc: Global, session: String, value: Value) -> Result<LineOutcome, AllocError>
     requires { IsSome (asking_in 2 (view value)) }
     ensures { (asking : Asking) → asking_in 2 (view value) ≡ Some asking
-        → IfOk result (ComesTo (λ state. judged_asking state session.now (call_read asking))) }
+        → IfOk result (ComesTo (λ state. judged_asking state (string_bytes session) (call_read asking))) }
 {
     match step_from(alloc, value, 2)? {
-        Some(Ok(step)) => LineOutcome::step_due(alloc, session, step),
+        Some(Ok(step)) => Ok(LineOutcome::StepDue {
+            name: session,
+            step,
+        }),
         Some(Err(text)) => Ok(LineOutcome::ReplyNow(text)),
         None => unreachable!(),
     }
@@ -110,7 +113,7 @@ fn value_judged(
         Line::Open { session, kind } => LineOutcome::step_due(alloc, session, Step::Open(kind)),
         Line::Ask { session, .. } => {
             let session = String::from_str(alloc, session)?;
-            asking_judged(alloc, &session, value)
+            asking_judged(alloc, session, value)
         }
         Line::Commit { session } => LineOutcome::step_due(alloc, session, Step::Commit),
         Line::Close { session } => LineOutcome::step_due(alloc, session, Step::Close),

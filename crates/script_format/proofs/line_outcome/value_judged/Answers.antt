@@ -3,7 +3,7 @@ use Rattle.std.specs.Arc.{arc_value}
 use Rattle.std.proofs.lemmas.Result.{IfOk-weaker}
 use Rattle.serde_json.specs.View.{view}
 use Rattle.script_format.specs.LineView.{line_view, asking_view}
-use Rattle.std.proofs.Common.{◌≡◌, IsSome, refl, rules, subst}
+use Rattle.std.proofs.Common.{IsSome, refl, subst}
 use Rattle.script_format.proofs.AskedOfLine.{asked_part}
 use Rattle.script_format.proofs.JudgedLines.{ask_of_value, load_of_value}
 use Rattle.script_format.proofs.line_outcome.value_judged.Goals as goal
@@ -26,7 +26,7 @@ returns-in_ok-session-in-Ask c =
     let d = view c.args.value in
     let asking = asking_view c.in-Ask.asking in
     let is = ap (λ line. Some (line_view line)) (sym c.in-Ask.is) ∙ c.in-Some.ensures in
-    let named : c.deref.result.now ≡ c.in-Ask.session.now = search rules in
+    let name = string_bytes c.in_ok-session-in-Ask.session in
     IfOk-weaker c.asking_judged.result _ _
-    (λ j comes. ask_of_value (arc_value c.args.table.now) d c.in-Ask.session.now c.deref.result.now asking j is named comes)
+    (λ j comes. ask_of_value (arc_value c.args.table.now) d c.in-Ask.session.now name asking j is c.in_ok-session-in-Ask.ensures.ok comes)
     (c.asking_judged.ensures asking (asked_part d c.in-Ask.session.now asking is))
