@@ -2,3 +2,6 @@
 pub mod ScriptRun
 pub mod StepsTaken
 pub mod HistoryRun
+-- What a journal has, and what a run over a script leaves in one.
+pub mod Entered
+pub mod JournaledRun
