@@ -10,3 +10,9 @@ pub mod JudgedByEngine
 pub mod JudgedLines
 pub mod HistoryRuns
 pub mod WrittenEntries
+-- ---- journals
+pub mod KeptOnce
+pub mod Entering
+pub mod Guarding
+pub mod JournaledRuns
+pub mod JournaledScripts

@@ -4,4 +4,6 @@ pub mod StepsTaken
 pub mod HistoryRun
 -- What a journal has, and what a run over a script leaves in one.
 pub mod Entered
+pub mod Journaled
 pub mod JournaledRun
+pub mod Guarded

@@ -2,14 +2,22 @@
 //!
 //! - `script`: runs a script.
 //! - `script_machine`: answers its lines, each by the step that it takes.
-//! - `takes_steps`: what takes its steps: a core, or an engine.
+//! - `takes_steps`: what takes its steps: a core, an engine, or an engine with a journal.
+//! - `journaling`: an engine with a journal.
+//! - `journaled_steps`: the steps that it takes.
+//! - `journaled`: runs a script with a journal.
+//! - `durable`: keeps in the journal what was accepted before it is told.
 //! - `history`: writes a history, and has those of others judged.
 //! - `judge`: follows the lines of a history, and tells where they depart.
 //!
 //! It knows nothing of how lines are cut and devices are read (`line_io`), of how a line or a reply is written (`script_format`), of how several scripts run at once (`filing_threads`), of locks, or of files.
 #![tactic(auto)]
 
+mod durable;
 mod history;
+mod journaled;
+mod journaled_steps;
+mod journaling;
 mod judge;
 mod script;
 mod script_machine;
@@ -18,6 +26,7 @@ mod takes_steps;
 // The names of `filing_threads`, `line_io` and `script_format` are handed on only so that callers find the whole command-line interface in one crate.
 pub use filing_threads::{ThreadsFault, Unwatched, Watch, run_threads, run_threads_watched};
 pub use history::{judge_history, judge_history_keeping, write_history, write_verdict};
+pub use journaled::{JournaledRun, run_script_with_journal};
 pub use line_io::{
     Failed, FromReader, Machine, MemoryIn, MemoryOut, ScriptFault, Sink, Source, ToWriter,
     is_blank, run, write_all,

@@ -2,7 +2,7 @@
 
 ghost use Rattle.std.specs.Prelude.{◌≡◌, [], IfOk, string_bytes};
 ghost use Rattle.std.specs.Arc.{arc_value};
-ghost use Rattle.filing_model.specs.Common.TextMap.{get};
+ghost use Rattle.filing_model.specs.Common.TextMap.{empty, get};
 ghost use Rattle.filing_step.specs.Steps.{step_of};
 ghost use Rattle.script_format.specs.LineOutcomes.{judged_under};
 ghost use Rattle.script_format.specs.Script.{StepDue, start, judged_open, judged_step, judged_end, judged_export};
@@ -24,12 +24,29 @@ use std::sync::Arc;
 #[derive(Drop)]
 pub(crate) struct ScriptMachine<T: TakesSteps + Drop> {
     table: Arc<NumericTable>,
-    taker: T,
+    pub(crate) taker: T,
     names: SessionNames<u64>,
 }
 
 impl<T: TakesSteps + Drop> ScriptMachine<T> {
-    /// A machine before the first line, of what has taken no step.
+    /// A machine before the first line.
+    pub(crate) fn before_lines(
+        alloc: Global,
+        table: Arc<NumericTable>,
+        taker: T,
+    ) -> ScriptMachine<T>
+        ensures taker { result.taker ≡ taker }
+        ensures table { arc_value result.table ≡ arc_value table }
+        ensures no_names { result.names ≡ empty }
+    {
+        ScriptMachine {
+            table,
+            taker,
+            names: SessionNames::new(alloc),
+        }
+    }
+
+    /// The same of what has taken no step.
     pub(crate) fn new(
         alloc: Global,
         table: &Arc<NumericTable>,
@@ -38,11 +55,8 @@ impl<T: TakesSteps + Drop> ScriptMachine<T> {
         ensures taker { IfOk result (λ m. m.taker ≡ taker) }
         ensures start { IfOk result (λ m. carried m [] ≡ start (arc_value table.now)) }
     {
-        Ok(ScriptMachine {
-            table: table.clone()?,
-            taker,
-            names: SessionNames::new(alloc),
-        })
+        let table = table.clone()?;
+        Ok(ScriptMachine::before_lines(alloc, table, taker))
     }
 
     pub(crate) fn into_taker(self) -> T
@@ -65,8 +79,9 @@ impl<T: TakesSteps + Drop> ScriptMachine<T> {
         session: Option<u64>,
         step: Step,
     ) -> Result<String, AllocError>
-        ensures { IfOk result (λ text. Answers T.has_taken
+        ensures answers { IfOk result (λ text. Answers T.has_taken
             (λ state. StepDue session (step_of step) state.names) self.old (string_bytes text) self.new) }
+        ensures steps_on { T.steps_on self.old.taker self.new.taker }
     {
         match self.taker.take_step(alloc, session, step) {
             Ok(reply) => {
@@ -81,8 +96,9 @@ impl<T: TakesSteps + Drop> ScriptMachine<T> {
 
     /// Answers an opening.
     fn open(&mut self, alloc: Global, session: &str, kind: Kind) -> Result<String, AllocError>
-        ensures { IfOk result (λ text. Answers T.has_taken
+        ensures answers { IfOk result (λ text. Answers T.has_taken
             (λ state. judged_open state session.now kind) self.old (string_bytes text) self.new) }
+        ensures steps_on { T.steps_on self.old.taker self.new.taker }
     {
         if self.number_of(session).is_some() {
             return String::from_str(alloc, name_in_use_reply());
@@ -96,8 +112,9 @@ impl<T: TakesSteps + Drop> ScriptMachine<T> {
 
     /// Takes a step of the session that has a name, which keeps it.
     fn take_under(&mut self, alloc: Global, session: &str, step: Step) -> Result<String, AllocError>
-        ensures { IfOk result (λ text. Answers T.has_taken
+        ensures answers { IfOk result (λ text. Answers T.has_taken
             (λ state. judged_step state session.now (step_of step)) self.old (string_bytes text) self.new) }
+        ensures steps_on { T.steps_on self.old.taker self.new.taker }
     {
         let Some(number) = self.number_of(session) else {
             drop(step);
@@ -108,8 +125,9 @@ impl<T: TakesSteps + Drop> ScriptMachine<T> {
 
     /// Answers a session that ends by this step.
     fn end(&mut self, alloc: Global, session: &str, step: Step) -> Result<String, AllocError>
-        ensures { IfOk result (λ text. Answers T.has_taken
+        ensures answers { IfOk result (λ text. Answers T.has_taken
             (λ state. judged_end state session.now (step_of step)) self.old (string_bytes text) self.new) }
+        ensures steps_on { T.steps_on self.old.taker self.new.taker }
     {
         let Some(number) = self.number_of(session) else {
             drop(step);
@@ -134,8 +152,9 @@ impl<T: TakesSteps + Drop> ScriptMachine<T> {
 
     /// Takes a step under the name of a session.
     fn take_due(&mut self, alloc: Global, name: &str, step: Step) -> Result<String, AllocError>
-        ensures { IfOk result (λ text. Answers T.has_taken
+        ensures answers { IfOk result (λ text. Answers T.has_taken
             (λ state. judged_under state name.now (step_of step)) self.old (string_bytes text) self.new) }
+        ensures steps_on { T.steps_on self.old.taker self.new.taker }
     {
         match step {
             Step::Load(_, _) => self.take(alloc, None, step),
@@ -144,16 +163,24 @@ impl<T: TakesSteps + Drop> ScriptMachine<T> {
             step => self.take_under(alloc, name, step),
         }
     }
+
+    /// Answers a line.
+    pub(crate) fn answer_line(&mut self, alloc: Global, line: &[u8]) -> Result<String, AllocError>
+        ensures answers { IfOk result (λ text. AnswersLine T.has_taken self.old line.now (string_bytes text) self.new) }
+        ensures steps_on { T.steps_on self.old.taker self.new.taker }
+    {
+        match classify_line(alloc, line, &self.table)? {
+            LineOutcome::ReplyNow(text) => Ok(text),
+            LineOutcome::Export(name) => self.export(alloc, &name),
+            LineOutcome::StepDue { name, step } => self.take_due(alloc, &name, step),
+        }
+    }
 }
 
 impl<T: TakesSteps + Drop> Machine for ScriptMachine<T> {
     ghost replies = { AnswersLine T.has_taken };
 
     fn answer(&mut self, alloc: Global, line: &[u8]) -> Result<String, AllocError> {
-        match classify_line(alloc, line, &self.table)? {
-            LineOutcome::ReplyNow(text) => Ok(text),
-            LineOutcome::Export(name) => self.export(alloc, &name),
-            LineOutcome::StepDue { name, step } => self.take_due(alloc, &name, step),
-        }
+        self.answer_line(alloc, line)
     }
 }

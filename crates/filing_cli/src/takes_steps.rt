@@ -14,6 +14,9 @@ pub(crate) trait TakesSteps {
     /// Whether these are the steps that it has taken, with their replies.
     ghost has_taken: { Self → History → Type 0 };
 
+    /// What a step may change, whatever it is answered.
+    ghost steps_on: { Self → Self → Type 0 };
+
     /// Takes one step and answers it. Where the session is not open, none is taken.
     fn take_step(
         &mut self,
@@ -21,16 +24,24 @@ pub(crate) trait TakesSteps {
         session: Option<u64>,
         step: Step,
     ) -> Result<Reply, CoreFault>
-        ensures { (h : History) → has_taken self.old h
-            → Takes (has_taken self.new) h session (step_of step) result };
+        ensures answers { (h : History) → has_taken self.old h
+            → Takes (has_taken self.new) h session (step_of step) result }
+        ensures steps_on { steps_on self.old self.new };
 
     /// The engine that took them.
     fn as_engine(&self) -> &Engine
         ensures { (h : History) → has_taken self.now h → IsEngineOf h result.now };
+
+    /// A step may change nothing.
+    ghost stays: { (t : Self) → steps_on t t };
 }
 
 impl TakesSteps for Core {
     ghost has_taken = { λ c h. c.history ≡ h };
+
+    ghost steps_on = { λ _ _. Unit {0} };
+
+    ghost stays = { λ _. tt };
 
     fn take_step(
         &mut self,
@@ -48,6 +59,10 @@ impl TakesSteps for Core {
 
 impl TakesSteps for Engine {
     ghost has_taken = { λ e h. IsEngineOf h e };
+
+    ghost steps_on = { λ _ _. Unit {0} };
+
+    ghost stays = { λ _. tt };
 
     fn take_step(
         &mut self,
