@@ -16,3 +16,4 @@ pub mod Entering
 pub mod Guarding
 pub mod JournaledRuns
 pub mod JournaledScripts
+pub mod Reopenings

@@ -7,3 +7,4 @@ pub mod Entered
 pub mod Journaled
 pub mod JournaledRun
 pub mod Guarded
+pub mod Reopened

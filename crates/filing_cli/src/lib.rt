@@ -6,6 +6,7 @@
 //! - `journaling`: an engine with a journal.
 //! - `journaled_steps`: the steps that it takes.
 //! - `journaled`: runs a script with a journal.
+//! - `reopened`: the engine of the history that a journal has.
 //! - `durable`: keeps in the journal what was accepted before it is told.
 //! - `history`: writes a history, and has those of others judged.
 //! - `judge`: follows the lines of a history, and tells where they depart.
@@ -19,6 +20,7 @@ mod journaled;
 mod journaled_steps;
 mod journaling;
 mod judge;
+mod reopened;
 mod script;
 mod script_machine;
 mod takes_steps;
@@ -31,6 +33,7 @@ pub use line_io::{
     Failed, FromReader, Machine, MemoryIn, MemoryOut, ScriptFault, Sink, Source, ToWriter,
     is_blank, run, write_all,
 };
+pub use reopened::{OpenHistoryFault, engine_of_history};
 pub use script::{run_script, run_script_on_engine, run_script_within};
 pub use script_format::{
     bad_fact_reply, bad_line_reply, bad_report_reply, exported_reply, name_in_use_reply,
