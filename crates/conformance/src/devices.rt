@@ -2,12 +2,14 @@
 
 ghost use Rattle.std.specs.Prelude.{◌≡◌, ◌≤◌, ◌<◌};
 
+use crate::journals::keep_script;
 use anyhow::{Result, anyhow};
 use filing_cli::{
     MemoryIn, MemoryOut, ScriptFault, judge_history, run_script_within, write_history,
     write_verdict,
 };
 use filing_core::{Core, Verdict};
+use journal::MemoryFile;
 use oim_fact::NumericTable;
 use std::alloc::{AllocError, Global};
 use std::marker::Brand;
@@ -22,6 +24,8 @@ const ROOM: usize = 65536;
 pub(crate) enum Work<'a> {
     /// A script is run.
     Script(&'a [u8]),
+    /// A script is run that keeps a journal, for each reply or not.
+    Journal(&'a [u8], bool),
     /// The history of a core is written.
     History(&'a Core),
     /// That is judged.
@@ -58,6 +62,8 @@ impl Trial {
 pub(crate) enum Ended {
     /// A script left a core.
     Left(Core),
+    /// A script left a journal.
+    Kept(MemoryFile),
     /// A history was judged.
     Judged(Verdict),
     /// A history was written, or a verdict, with this status.
@@ -99,7 +105,7 @@ fn do_work_by<L: Ledger, K: Ledger>(
 {
     let piece = trial.piece.max(1);
     let read = match work {
-        Work::Script(bytes) | Work::Judging(bytes) => bytes,
+        Work::Script(bytes) | Work::Journal(bytes, _) | Work::Judging(bytes) => bytes,
         Work::History(_) | Work::Verdict(_) => b"",
     };
     let sink: MemoryOut<K> = MemoryOut::new(alloc, ROOM, piece, sink_blank)?;
@@ -114,6 +120,9 @@ fn do_work_by<L: Ledger, K: Ledger>(
                 Ok(core) => Ended::Left(core),
                 Err(fault) => Ended::Failed(fault),
             }
+        }
+        Work::Journal(_, every_reply) => {
+            keep_script(alloc, &mut source, &mut sink, table, every_reply)?
         }
         Work::History(core) => match write_history(alloc, &mut sink, core.history()) {
             Ok(()) => Ended::Written(0),

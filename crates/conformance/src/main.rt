@@ -2,6 +2,7 @@
 //!
 //! - `scripts`: worked scripts, their histories, and histories of others.
 //! - `in_parts`: the steps of a history, loads and commits in two parts.
+//! - `journals`: scripts that keep a journal in memory.
 //! - `calls`: worked rows of calls that no script makes.
 //! - `pages`: worked rows of lists in pages and of the pages of reports, and both beside plain lists.
 //! - `trials`: has each call of a device go wrong.
@@ -23,6 +24,7 @@ mod devices;
 mod draft;
 mod drawn;
 mod in_parts;
+mod journals;
 mod lines;
 mod offices;
 mod pages;

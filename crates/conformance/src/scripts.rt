@@ -1,9 +1,10 @@
 //! Scripts run over memory, their histories, and histories of others.
 //!
-//! A sheet's script is told its replies. Where a history is written with it, that has to be its own; then the number of its steps is told, and how its entries and the lines are judged. A sheet without a script is told how the lines of its history are judged. A marked one is also told of each history of which one reply is another. `in_parts` takes the steps of a history anew.
+//! A sheet's script is told its replies. Where a history is written with it, that has to be its own; then the number of its steps is told, and how its entries and the lines are judged. A sheet without a script is told how the lines of its history are judged. A marked one is also told of each history of which one reply is another. `in_parts` takes the steps of a history anew, and `journals` runs the script with a journal in memory.
 
 use crate::devices::{Done, Ended, Trial, Work, do_work, push_verdict, verdict_on, written_in};
 use crate::in_parts::taken_in_parts;
+use crate::journals::is_kept_both_ways;
 use crate::lines::{ends_in, is_end, push_line, read_data, read_numeric, read_text};
 use crate::question::part_text;
 use crate::sheet::{Answers, Sheet, compare_rows, compare_sheets};
@@ -59,6 +60,7 @@ fn push_core(
     alloc: Global,
     table: &Arc<NumericTable>,
     sheet: &Sheet,
+    script: &[u8],
     core: &Core,
     told: &mut Vec<u8>,
 ) -> Result<()> {
@@ -67,10 +69,14 @@ fn push_core(
         return Ok(told.extend_from_slice(steps.as_bytes())?);
     }
     let history = written_in(alloc, table, Work::History(core), 7)?;
+    let is_kept = is_kept_both_ways(alloc, table, script, told, &history)?;
     told.extend_from_slice(&history)?;
     told.extend_from_slice(steps.as_bytes())?;
     if taken_in_parts(alloc, table, &history)? != history {
         push_line(told, b"another history in parts")?;
+    }
+    if !is_kept {
+        push_line(told, b"another journal")?;
     }
     push_verdict(alloc, table, check_run(alloc, core.history())?, told)
 }
@@ -87,7 +93,7 @@ fn told_of_script(
     let mut told = written;
     match ended {
         Ended::Left(core) => {
-            let pushed = push_core(alloc, table, sheet, &core, &mut told);
+            let pushed = push_core(alloc, table, sheet, script, &core, &mut told);
             drop(core);
             pushed?;
         }
