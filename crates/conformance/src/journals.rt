@@ -30,6 +30,7 @@ pub(crate) fn keep_script<R: Source, W: Sink>(
         ended,
         engine,
         journal,
+        ..
     } = run_script_with_journal(alloc, engine, journal, source, sink, table, every_reply);
     drop(engine);
     match ended {

@@ -13,6 +13,8 @@ pub mod WrittenEntries
 -- ---- journals
 pub mod KeptOnce
 pub mod Entering
+pub mod CopiedRuns
+pub mod Recordings
 pub mod Guarding
 pub mod JournaledRuns
 pub mod JournaledScripts

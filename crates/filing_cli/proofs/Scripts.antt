@@ -1,15 +1,18 @@
 -- A run over a script, in terms of the script's output.
-use Rattle.std.proofs.Common.{◌≡◌, ◌∙◌, ℕ, ap, sym, refl, subst, []}
+use Rattle.std.proofs.Common.{◌≡◌, ◌∙◌, ℕ, ap, ap₂, sym, refl, subst, []}
 use Rattle.std.specs.declared.result.Result.{Result}
 use Rattle.std.specs.declared.result.Result.TheVariants.{Ok, Err}
+use Rattle.std.specs.Arc.{arc_value}
 use Rattle.filing_model.specs.Common.Text.{Text}
+use Rattle.filing_model.specs.Common.TextMap.{empty}
 use Rattle.filing_model.specs.Oim.Facts.{Table}
 use Rattle.filing_model.specs.Histories.History.{History}
 use Rattle.line_io.specs.Devices.{SourceState, SinkState, Took}
 use Rattle.line_io.specs.Lines.{lines_of, spoken, lines_text}
-use Rattle.line_io.specs.Run.{IsAnswered, Runs, replies_by, state_after}
-use Rattle.script_format.specs.Script.{State, start, line_answer, script_output, script_history}
+use Rattle.line_io.specs.Run.{Runs, replies_by, state_after}
+use Rattle.script_format.specs.Script.{State, line_answer, script_output, script_history}
 use Rattle.filing_core.specs.States.{CoreState}
+use Rattle.filing_cli.specs.Resumed.{GoesOn, IsStoppedOn, history_on, output_on, resumed}
 use Rattle.filing_cli.specs.ScriptRun.{IsReply, IsScriptEnded, IsScriptStopped, ScriptRunsWithin, TakerRuns}
 use Rattle.filing_cli.specs.StepsTaken.{AnswersLine, carried}
 use Rattle.filing_cli.specs.declared.script_machine.ScriptMachine.{ScriptMachine}
@@ -18,6 +21,10 @@ use Rattle.line_io.specs.declared.fault.ScriptFault.{ScriptFault}
 use Rattle.line_io.specs.declared.fault.ScriptFault.TheVariants.{NoMemory}
 use Rattle.line_io.proofs.AnsweringMachines.{answers_of_function}
 use Rattle.line_io.proofs.RunByReads.{starved_at_once}
+
+-- a machine that goes on from a history, with no name in use
+pub resumed_alike : {T : Type 0} (m : ScriptMachine T) (table : Table) (h : History) → arc_value m.table ≡ table → m.names ≡ empty → carried m h ≡ resumed table h
+resumed_alike m table h t n = ap₂ (λ t names. record { table = t; history = h; names = names }) t n
 
 module _ {T : Type 0} (has_taken : T → History → Type 0) where
   -- a machine carries the state of a script, by steps that were taken
@@ -30,17 +37,18 @@ module _ {T : Type 0} (has_taken : T → History → Type 0) where
       let a = answers h taken in
       (carried n a.history, ((ap (λ s. line_answer s line) is ∙ a.is), (a.history, (refl, a.taken))))
 
-  module _ (table : Table) (before after : ScriptMachine T) (begun : carried before [] ≡ start table) (none : has_taken before.taker []) where
-    begins : Carries before (start table)
-    begins = ([], (sym begun, none))
+  module _ (table : Table) (h : History) (before after : ScriptMachine T) (begun : carried before h ≡ resumed table h) (taken : has_taken before.taker h) where
+    begins : Carries before (resumed table h)
+    begins = (h, (sym begun, taken))
 
-    pub script_ended : (source source' : SourceState) (sink sink' : SinkState) → IsAnswered (AnswersLine has_taken) before after source source' sink sink'
-        → (h : History) × (IsScriptEnded table source source' sink sink' h × has_taken after.taker h)
-    unfolding script_output script_history
-    script_ended source source' sink sink' p =
+    pub script_goes : {S : Type 0} (state : S → SourceState) (reads : ℕ) (source source' : S) (sink sink' : SinkState) (result : Result (Unit {0}) ScriptFault)
+        → Runs (AnswersLine has_taken) state reads result before after source source' sink sink'
+        → GoesOn state reads table h has_taken after.taker result source source' sink sink'
+    unfolding history_on output_on
+    script_goes state reads source source' sink sink' (Ok x) p =
         let lines = spoken (lines_of p.given) in
-        let carries = answers_carried (AnswersLine has_taken) IsReply Carries answers_on lines p.texts before after (start table) p.answers begins in
-        let told = answers_of_function IsReply (λ (s : State). s) line_answer (λ m n line text h. h) (start table) carries.0 lines p.texts carries.1.0 in
+        let carries = answers_carried (AnswersLine has_taken) IsReply Carries answers_on lines p.texts before after (resumed table h) p.answers begins in
+        let told = answers_of_function IsReply (λ (s : State). s) line_answer (λ m n line text h. h) (resumed table h) carries.0 lines p.texts carries.1.0 in
         let at_last = carries.1.1 in (
           at_last.0,
           (
@@ -54,18 +62,32 @@ module _ {T : Type 0} (has_taken : T → History → Type 0) where
             at_last.1.1,
           ),
         )
-
-    pub script_stopped : {S : Type 0} (state : S → SourceState) (reads : ℕ) (source source' : S) (sink sink' : SinkState) (fault : ScriptFault)
-        → Runs {X = Unit {0}} (AnswersLine has_taken) state reads (Err fault) before after source source' sink sink'
-        → IsScriptStopped state reads table source source' sink sink' fault
-    script_stopped state reads source source' sink sink' fault p =
-        let stopped = stops_carried (AnswersLine has_taken) IsReply Carries answers_on state reads before after source source' sink sink' (start table)
+    script_goes state reads source source' sink sink' (Err fault) p =
+        let stopped = stops_carried (AnswersLine has_taken) IsReply Carries answers_on state reads before after source source' sink sink' (resumed table h)
         begins fault p in
         record { after = stopped.0; runs = stopped.1 }
 
-pub stopped_at_once : {S : Type 0} (state : S → SourceState) (reads : ℕ) (table : Table) (source : S) (sink : SinkState)
+-- memory was refused before the first read
+pub stopped_at_once : {S : Type 0} (state : S → SourceState) (reads : ℕ) (table : Table) (h : History) (source : S) (sink : SinkState)
+    → IsStoppedOn state reads table h source source sink sink (NoMemory 1)
+stopped_at_once state reads table h source sink = record { after = resumed table h; runs = starved_at_once IsReply state (resumed table h) source sink }
+
+pub nothing_begun : {S : Type 0} (state : S → SourceState) (reads : ℕ) (table : Table) (source : S) (sink : SinkState)
     → IsScriptStopped state reads table source source sink sink (NoMemory 1)
-stopped_at_once state reads table source sink = record { after = start table; runs = starved_at_once IsReply state (start table) source sink }
+nothing_begun state reads table source sink =
+    let at_once = stopped_at_once state reads table [] source sink in record { after = at_once.after; runs = at_once.runs }
+
+-- from an empty history on it is the script's own
+module _ {T S : Type 0} (has_taken : T → History → Type 0) (state : S → SourceState) (reads : ℕ) (table : Table) (source source' : S) (sink sink' : SinkState) where
+  pub script_whole : (taker : T) → GoesOn state reads table [] has_taken taker (Ok tt) source source' sink sink'
+      → TakerRuns has_taken state reads table (Ok taker) source source' sink sink'
+  unfolding script_output script_history history_on output_on
+  script_whole taker (after, (ended, taken)) =
+      (after, (record { given = ended.given; gave = ended.gave; at_end = ended.at_end; took = ended.took; history_is = ended.history_is }, taken))
+
+  pub script_cut : (fault : ScriptFault) → IsStoppedOn state reads table [] source source' sink sink' fault
+      → IsScriptStopped state reads table source source' sink sink' fault
+  script_cut fault stopped = record { after = stopped.after; runs = stopped.runs }
 
 -- a core has taken its history
 pub core_runs : {S : Type 0} (state : S → SourceState) (reads : ℕ) (table : Table) (result : Result CoreState ScriptFault) (source source' : S) (sink sink' : SinkState)

@@ -2,8 +2,11 @@
 pub mod ScriptRun
 pub mod StepsTaken
 pub mod HistoryRun
+pub mod Resumed
 -- What a journal has, and what a run over a script leaves in one.
 pub mod Entered
+pub mod Recorded
+pub mod Copied
 pub mod Journaled
 pub mod JournaledRun
 pub mod Guarded

@@ -2,24 +2,36 @@
 //!
 //! - `script`: runs a script.
 //! - `script_machine`: answers its lines, each by the step that it takes.
-//! - `takes_steps`: what takes its steps: a core, an engine, or an engine with a journal.
+//! - `takes_steps`: what takes its steps: a core, an engine, or an engine with a journal or with a file of its entries.
 //! - `journaling`: an engine with a journal.
 //! - `journaled_steps`: the steps that it takes.
+//! - `nesting`: which of their lines nest too deep.
 //! - `journaled`: runs a script with a journal.
 //! - `reopened`: the engine of the history that a journal has.
+//! - `entry_file`: a file of entries.
+//! - `recording`: an engine whose entries are written to one.
+//! - `recorded`: runs a script with that.
 //! - `durable`: keeps in the journal what was accepted before it is told.
 //! - `history`: writes a history, and has those of others judged.
 //! - `judge`: follows the lines of a history, and tells where they depart.
+//! - `copier`: does so, and writes their entries to a file.
+//! - `copied`: reads a history that way.
 //!
 //! It knows nothing of how lines are cut and devices are read (`line_io`), of how a line or a reply is written (`script_format`), of how several scripts run at once (`filing_threads`), of locks, or of files.
 #![tactic(auto)]
 
+mod copied;
+mod copier;
 mod durable;
+mod entry_file;
 mod history;
 mod journaled;
 mod journaled_steps;
 mod journaling;
 mod judge;
+mod nesting;
+mod recorded;
+mod recording;
 mod reopened;
 mod script;
 mod script_machine;
@@ -27,14 +39,17 @@ mod takes_steps;
 
 // The names of `filing_threads`, `line_io` and `script_format` are handed on only so that callers find the whole command-line interface in one crate.
 pub use filing_threads::{ThreadsFault, Unwatched, Watch, run_threads, run_threads_watched};
+pub use copied::{CopiedHistory, copy_history};
+pub use entry_file::EntryFile;
 pub use history::{judge_history, judge_history_keeping, write_history, write_verdict};
 pub use journaled::{JournaledRun, run_script_with_journal};
 pub use line_io::{
     Failed, FromReader, Machine, MemoryIn, MemoryOut, ScriptFault, Sink, Source, ToWriter,
     is_blank, run, write_all,
 };
+pub use recorded::{RecordedRun, record_script};
 pub use reopened::{OpenHistoryFault, engine_of_history};
-pub use script::{run_script, run_script_on_engine, run_script_within};
+pub use script::{resume_script, run_script, run_script_on_engine, run_script_within};
 pub use script_format::{
     bad_fact_reply, bad_line_reply, bad_report_reply, exported_reply, name_in_use_reply,
     no_session_reply, reply_text,

@@ -2,6 +2,9 @@
 
 ghost use Rattle.std.specs.Prelude.{◌+◌, ◌≤◌, []};
 ghost use Rattle.std.specs.Arc.{arc_value};
+ghost use Rattle.filing_model.specs.Histories.History.{History};
+ghost use Rattle.filing_core.specs.Engines.{IsEngineOf};
+ghost use Rattle.filing_cli.specs.Resumed.{GoesOn};
 ghost use Rattle.filing_cli.specs.ScriptRun.{most_reads, EngineRuns, ScriptRuns, ScriptRunsWithin, TakerRuns};
 
 use crate::script_machine::ScriptMachine;
@@ -14,6 +17,27 @@ use std::sync::Arc;
 
 /// So many reads are made at most.
 pub(crate) const READS: u64 = 1 << 32;
+
+/// Runs a script from where what takes its steps left off, with no name in use, and gives that back.
+pub(crate) fn run_on<T: TakesSteps + Drop, R: Source, W: Sink>(
+    alloc: Global,
+    taker: T,
+    input: &mut R,
+    output: &mut W,
+    table: &Arc<NumericTable>,
+    reads: u64,
+) -> (T, Result<(), ScriptFault>)
+    ensures script { (h : History) → T.has_taken taker h → GoesOn R.state reads (arc_value table.now) h
+        T.has_taken result.0 result.1 input.old input.new (W.state output.old) (W.state output.new) }
+    ensures bounded { (R.state input.new).reads ≤ (R.state input.old).reads + reads }
+{
+    let Ok(table) = table.clone() else {
+        return (taker, Err(ScriptFault::NoMemory(1)));
+    };
+    let mut machine = ScriptMachine::before_lines(alloc, table, taker);
+    let ended = run(alloc, &mut machine, input, output, reads);
+    (machine.into_taker(), ended)
+}
 
 /// Runs a script, whose steps are taken by what has taken none yet, and gives that back.
 fn run_with<T: TakesSteps + Drop, R: Source, W: Sink>(
@@ -29,12 +53,13 @@ fn run_with<T: TakesSteps + Drop, R: Source, W: Sink>(
         (W.state output.old) (W.state output.new) }
     ensures bounded { (R.state input.new).reads ≤ (R.state input.old).reads + reads }
 {
-    let Ok(mut machine) = ScriptMachine::new(alloc, table, taker) else {
-        return Err(ScriptFault::NoMemory(1));
-    };
-    match run(alloc, &mut machine, input, output, reads) {
-        Ok(()) => Ok(machine.into_taker()),
-        Err(fault) => Err(fault),
+    let (taker, ended) = run_on(alloc, taker, input, output, table, reads);
+    match ended {
+        Ok(()) => Ok(taker),
+        Err(fault) => {
+            drop(taker);
+            Err(fault)
+        }
     }
 }
 
@@ -85,4 +110,19 @@ pub fn run_script_on_engine<R: Source, W: Sink>(
         Ok(engine) => run_with(alloc, engine, input, output, table, READS),
         Err(_) => Err(ScriptFault::NoMemory(1)),
     }
+}
+
+/// Runs a script as `run_script_on_engine` does, from where an engine left off, with no name in use, and gives the engine back.
+pub fn resume_script<R: Source, W: Sink>(
+    alloc: Global,
+    engine: Engine,
+    input: &mut R,
+    output: &mut W,
+    table: &Arc<NumericTable>,
+) -> (Engine, Result<(), ScriptFault>)
+    ensures script { (h : History) → IsEngineOf h engine → GoesOn R.state most_reads (arc_value table.now) h
+        (λ e h. IsEngineOf h e) result.0 result.1 input.old input.new (W.state output.old) (W.state output.new) }
+    ensures bounded { (R.state input.new).reads ≤ (R.state input.old).reads + most_reads }
+{
+    run_on(alloc, engine, input, output, table, READS)
 }

@@ -1,12 +1,12 @@
 //! `ScriptMachine`: what takes steps, asked by lines of a script.
 
-ghost use Rattle.std.specs.Prelude.{◌≡◌, [], IfOk, string_bytes};
+ghost use Rattle.std.specs.Prelude.{◌≡◌, IfOk, string_bytes};
 ghost use Rattle.std.specs.Arc.{arc_value};
 ghost use Rattle.filing_model.specs.Common.TextMap.{empty, get};
 ghost use Rattle.filing_step.specs.Steps.{step_of};
 ghost use Rattle.script_format.specs.LineOutcomes.{judged_under};
-ghost use Rattle.script_format.specs.Script.{StepDue, start, judged_open, judged_step, judged_end, judged_export};
-ghost use Rattle.filing_cli.specs.StepsTaken.{Answers, AnswersLine, carried};
+ghost use Rattle.script_format.specs.Script.{StepDue, judged_open, judged_step, judged_end, judged_export};
+ghost use Rattle.filing_cli.specs.StepsTaken.{Answers, AnswersLine};
 
 use crate::takes_steps::TakesSteps;
 use filing_core::CoreFault;
@@ -44,19 +44,6 @@ impl<T: TakesSteps + Drop> ScriptMachine<T> {
             taker,
             names: SessionNames::new(alloc),
         }
-    }
-
-    /// The same of what has taken no step.
-    pub(crate) fn new(
-        alloc: Global,
-        table: &Arc<NumericTable>,
-        taker: T,
-    ) -> Result<ScriptMachine<T>, AllocError>
-        ensures taker { IfOk result (λ m. m.taker ≡ taker) }
-        ensures start { IfOk result (λ m. carried m [] ≡ start (arc_value table.now)) }
-    {
-        let table = table.clone()?;
-        Ok(ScriptMachine::before_lines(alloc, table, taker))
     }
 
     pub(crate) fn into_taker(self) -> T

@@ -1,5 +1,5 @@
-use Rattle.filing_cli.proofs.Scripts.{stopped_at_once}
+use Rattle.filing_cli.proofs.Scripts.{nothing_begun}
 use Rattle.filing_cli.proofs.script.run_script_on_engine.Goals as goal
 
 pub returns-in-Err-clause-script : goal.returns-in-Err-clause-script
-returns-in-Err-clause-script g c = stopped_at_once g.R.Source.state _ _ _ _
+returns-in-Err-clause-script g c = nothing_begun g.R.Source.state _ _ _ _
