@@ -3,7 +3,7 @@ use Rattle.std.proofs.Common.{◌≡◌, ◌⊎◌, refl, inl, inr, ap, ap₂, s
 use Rattle.clap.specs.Words.{Row, Text, IsAmong, all_of, fault_of, first_of, subcommand_of, takes}
 use Rattle.clap.specs.declared.error.kind.ErrorKind.{ErrorKind}
 use Rattle.clap.specs.declared.error.kind.ErrorKind.TheVariants.{DisplayHelp, DisplayVersion, OutOfMemory}
-use Rattle.filing.specs.Words.{Asks, IsOrdered, ToRun, ToCheck, ToThread, ToExplain, asked, program}
+use Rattle.filing.specs.Words.{Asks, IsOrdered, ToRun, ToCheck, ToThread, ToExplain, asked, is_given, program}
 use Rattle.filing.specs.declared.fault.Fault.{Fault}
 use Rattle.filing.specs.declared.words.Invocation.{Invocation}
 use Rattle.filing.specs.declared.words.Invocation.TheVariants.{Run, Check, Threads, Explain, Shown}
@@ -18,10 +18,13 @@ both_read {A} {B} {C} f g (Some a) x y first second =
     ap₂ some_both (ap (λ (o : Option B). unwrap_or o (f a)) first) (ap (λ (o : Option C). unwrap_or o (g a)) second)
 
 -- the files of a run that was entered
-pub files_of_run : (entered : Option (Text × List Row)) (name : Text) (rows : List Row) (table file : Option Text)
+pub files_of_run : (entered : Option (Text × List Row)) (name : Text) (rows : List Row) (table file begun journal flag : Option Text) (waits : Bool)
     → entered ≡ Some (name, rows) → name ≡ codes "run" → table ≡ first_of (codes "numeric") rows
-    → file ≡ first_of (codes "history") rows → asked entered ≡ Some (ToRun table file)
-files_of_run entered name rows table file is named table_read file_read = rw (is, named, table_read, file_read) refl
+    → file ≡ first_of (codes "history") rows → begun ≡ first_of (codes "from") rows → journal ≡ first_of (codes "journal") rows
+    → flag ≡ first_of (codes "every_reply") rows → waits ≡ is_given flag
+    → asked entered ≡ Some (ToRun (record { numeric_file = table; history_file = file; begun_file = begun; journal_file = journal; waits = waits }))
+files_of_run entered name rows table file begun journal flag waits is named table_read file_read begun_read journal_read flag_read waits_is =
+    rw (is, named, waits_is, table_read, file_read, begun_read, journal_read, flag_read) refl
 
 -- the files of a check that was entered
 pub files_of_check : (entered : Option (Text × List Row)) (name : Text) (rows : List Row) (table : Option Text) (file : Text)
@@ -43,7 +46,7 @@ refusals_entered entered name rows is named = rw (is, named) refl
 -- words of which none is wrong ask for the command that a parse of them entered
 pub asks_command : (words : List Text) (r : Result Invocation Fault) → fault_of program words ≡ []
     → IfOk r (IsOrdered (subcommand_of program words)) → IfOk r (Asks words)
-asks_command words (Ok (Run table file)) none ordered = (none, ordered)
+asks_command words (Ok (Run given)) none ordered = (none, ordered)
 asks_command words (Ok (Check table file)) none ordered = (none, ordered)
 asks_command words (Ok (Threads table files)) none ordered = (none, ordered)
 asks_command words (Ok Explain) none ordered = (none, ordered)
@@ -69,7 +72,7 @@ answered words kind (inr v) (inr is) = inr (subst (λ (k : ErrorKind). IsAmong k
 pub asks_shown : (words : List Text) (kind : ErrorKind) (r : Result Invocation Fault)
     → (takes program words ≡ true → kind ≡ OutOfMemory) → (kind ≡ OutOfMemory) ⊎ IsAmong kind (fault_of program words)
     → IfOk r (λ o. o ≡ Shown) → IfOk r (λ _. (kind ≡ DisplayHelp) ⊎ (kind ≡ DisplayVersion)) → IfOk r (Asks words)
-asks_shown words kind (Ok (Run table file)) passes fails shown help = cc
+asks_shown words kind (Ok (Run given)) passes fails shown help = cc
 asks_shown words kind (Ok (Check table file)) passes fails shown help = cc
 asks_shown words kind (Ok (Threads table files)) passes fails shown help = cc
 asks_shown words kind (Ok Explain) passes fails shown help = cc

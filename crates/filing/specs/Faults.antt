@@ -1,5 +1,5 @@
 -- How the program ends.
-use Rattle.std.specs.Prelude.{◌≡◌, ℕ, List, Result, Ok, Err, IsUtf8}
+use Rattle.std.specs.Prelude.{◌≡◌, ℕ, Bool, true, List, Result, Ok, Err, IsUtf8}
 use Rattle.filing_model.specs.Oim.Facts.{Table}
 use Rattle.filing_model.specs.Oim.Tables.{read_table_of}
 use Rattle.filing_model.specs.declared.faults.TableFault.{TableFault}
@@ -8,8 +8,12 @@ use Rattle.line_io.specs.declared.fault.ScriptFault.{ScriptFault}
 use Rattle.line_io.specs.declared.fault.ScriptFault.TheVariants as script
 use Rattle.filing_threads.specs.declared.fault.ThreadsFault.{ThreadsFault}
 use Rattle.filing_threads.specs.declared.fault.ThreadsFault.TheVariants as threads
+use Rattle.filing_cli.specs.declared.reopened.OpenHistoryFault.{OpenHistoryFault}
+use Rattle.filing_cli.specs.declared.reopened.OpenHistoryFault.TheVariants as history
+use Rattle.journal_file.specs.declared.fault.FileFault.{FileFault}
+use Rattle.journal_file.specs.declared.fault.FileFault.TheVariants as file
 use Rattle.filing.specs.declared.fault.Fault.{Fault}
-use Rattle.filing.specs.declared.fault.Fault.TheVariants.{Words, TooManyScripts, Read, Write, TableLine, TableNotText, NoMemory}
+use Rattle.filing.specs.declared.fault.Fault.TheVariants.{Words, TooManyScripts, Read, Write, TableLine, TableNotText, HistoryLine, JournalInUse, JournalLine, TooDeep, NoMemory}
 use Rattle.filing.specs.declared.misplaced.Misplaced.{Misplaced}
 use Rattle.filing.specs.declared.misplaced.Misplaced.TheVariants as misplaced
 
@@ -25,6 +29,23 @@ abbrev pub threads_fault_of : ThreadsFault → Fault
 threads_fault_of threads.Write = Write
 threads_fault_of threads.NoMemory = NoMemory
 threads_fault_of threads.NoPlace = NoMemory
+
+-- of a script with a journal: a line whose entry would nest too deep is told as such, though no step was taken as for want of memory
+abbrev pub journaled_fault_of : Bool → ScriptFault → Fault
+journaled_fault_of true (script.NoMemory line) = TooDeep line
+journaled_fault_of deep fault = fault_of fault
+
+-- a line of the journal at which its history departs keeps its number
+abbrev pub history_fault_of : OpenHistoryFault → Fault
+history_fault_of (history.Departs number) = JournalLine number
+history_fault_of history.NoMemory = NoMemory
+
+-- a journal's file that cannot be opened is one that could not be written
+abbrev pub file_fault_of : FileFault → Fault
+file_fault_of file.Busy = JournalInUse
+file_fault_of file.NoMemory = NoMemory
+file_fault_of (file.Io error) = Write
+file_fault_of file.NotAFile = Write
 
 -- a history that can be kept nowhere is one that could not be written
 abbrev pub misplaced_fault_of : Misplaced → Fault
@@ -46,8 +67,12 @@ IsTableOf bytes (Err Words) = ⊥
 IsTableOf bytes (Err TooManyScripts) = ⊥
 IsTableOf bytes (Err Read) = ⊥
 IsTableOf bytes (Err Write) = ⊥
+IsTableOf bytes (Err (HistoryLine number)) = ⊥
+IsTableOf bytes (Err JournalInUse) = ⊥
+IsTableOf bytes (Err (JournalLine number)) = ⊥
+IsTableOf bytes (Err (TooDeep number)) = ⊥
 
--- 1 after a read or write fault, 2 where the words, the number of scripts or the numeric table were wrong, 3 where memory was wanted
+-- 1 after a read or write fault, 2 where the words, the number of scripts or the numeric table were wrong, 3 where memory was wanted, 4 where a history that is gone on from departs
 abbrev pub status_of : Fault → ℕ
 status_of Read = 1
 status_of Write = 1
@@ -55,7 +80,11 @@ status_of Words = 2
 status_of TooManyScripts = 2
 status_of (TableLine number) = 2
 status_of TableNotText = 2
+status_of JournalInUse = 1
+status_of (TooDeep number) = 1
 status_of NoMemory = 3
+status_of (HistoryLine number) = 4
+status_of (JournalLine number) = 4
 
 -- the status that the program ends with: that of what it did, or that of its fault
 abbrev pub status_after : Result ℕ Fault → ℕ

@@ -1,9 +1,11 @@
 -- What the words of the command line ask for.
-use Rattle.std.specs.Prelude.{◌≡◌, ◌⊎◌, true, false, List, [], Option, Some, None, codes, map, option_map, if◌then◌else◌}
+use Rattle.std.specs.Prelude.{◌≡◌, ◌⊎◌, Bool, true, false, List, [], Option, Some, None, codes, map, option_map, if◌then◌else◌}
+use Rattle.std.specs.Option.{option_map_or}
 use Rattle.std.specs.Str.{bytes_eq}
 use Rattle.clap.specs.Words.{App, Row, Rule, Text, IsAmong, all_of, fault_of, first_of, new_app, new_rule, subcommand_of, takes, with_rule, with_subcommand}
-use Rattle.clap.specs.declared.builder.action.ArgAction.TheVariants.{Append, Set}
+use Rattle.clap.specs.declared.builder.action.ArgAction.TheVariants.{Append, Set, SetTrue}
 use Rattle.clap.specs.declared.error.kind.ErrorKind.TheVariants.{DisplayHelp, DisplayVersion}
+use Rattle.filing.specs.declared.words.RunWords.{RunWords}
 use Rattle.filing.specs.declared.words.Invocation.{Invocation}
 use Rattle.filing.specs.declared.words.Invocation.TheVariants.{Run, Check, Threads, Explain, Shown}
 
@@ -21,6 +23,29 @@ history = record (new_rule (codes "history")) {
   long = Some (codes "history");
   action = Some Set;
   value_names = 1;
+}
+
+-- `--from HISTORY`
+unfoldable pub from : Rule
+from = record (new_rule (codes "from")) {
+  long = Some (codes "from");
+  action = Some Set;
+  value_names = 1;
+}
+
+-- `--journal FILE`
+unfoldable pub journal : Rule
+journal = record (new_rule (codes "journal")) {
+  long = Some (codes "journal");
+  action = Some Set;
+  value_names = 1;
+}
+
+-- `--every-reply`
+unfoldable pub every_reply : Rule
+every_reply = record (new_rule (codes "every_reply")) {
+  long = Some (codes "every-reply");
+  action = Some SetTrue;
 }
 
 -- HISTORY, which has to be there
@@ -41,7 +66,7 @@ scripts = record (new_rule (codes "scripts")) {
 
 -- the command `run`
 unfoldable pub run : App
-run = with_rule (with_rule (new_app (codes "run")) numeric) history
+run = with_rule (with_rule (with_rule (with_rule (with_rule (new_app (codes "run")) numeric) history) from) journal) every_reply
 
 -- the command `check`
 unfoldable pub check : App
@@ -62,18 +87,36 @@ program = let bare = new_app (codes "filing") in
     let running = with_subcommand (with_subcommand wanting run.top) threads.top in
     with_subcommand (with_subcommand running check.top) words.top
 
--- a run by the numeric table of a file, or by none, whose history goes to a file, or nowhere; or the history of a file that
--- is to be judged by the numeric table of another, or by none; or the scripts of some files, in their order, that are to be run
--- in threads by such a table; or the words by which lines are refused
+-- what a run is given: the file of a numeric table, that to which its history goes, that of a history to go on from, and that of
+-- a journal, or none of each; and whether each reply waits for the journal
+pub record RunAsked : Type 0 where
+  pub numeric_file : Option Text
+  pub history_file : Option Text
+  pub begun_file : Option Text
+  pub journal_file : Option Text
+  pub waits : Bool
+
+-- a run; or the history of a file that is to be judged by the numeric table of another, or by none; or the scripts of some
+-- files, in their order, that are to be run in threads by such a table; or the words by which lines are refused
 pub data Asked : Type 0 where
-  ToRun : Option Text → Option Text → Asked
+  ToRun : RunAsked → Asked
   ToCheck : Option Text → Text → Asked
   ToThread : Option Text → List Text → Asked
   ToExplain : Asked
 
+-- whether the value of a flag says that it was given
+abbrev pub is_given : Option Text → Bool
+is_given value = option_map_or (λ text. bytes_eq text (codes "true")) value false
+
 -- what `run`, `check` and `threads` ask for with these arguments
 abbrev pub run_asked : List Row → Option Asked
-run_asked rows = Some (ToRun (first_of (codes "numeric") rows) (first_of (codes "history") rows))
+run_asked rows = Some (ToRun (record {
+  numeric_file = first_of (codes "numeric") rows;
+  history_file = first_of (codes "history") rows;
+  begun_file = first_of (codes "from") rows;
+  journal_file = first_of (codes "journal") rows;
+  waits = is_given (first_of (codes "every_reply") rows);
+}))
 
 abbrev pub check_asked : List Row → Option Asked
 check_asked rows = option_map (ToCheck (first_of (codes "numeric") rows)) (first_of (codes "judged") rows)
@@ -90,10 +133,19 @@ asked (Some entered) =
     else (if bytes_eq entered.0 (codes "words") then Some ToExplain else None)))
 asked None = None
 
+-- what the words of a run are
+abbrev pub run_of : RunWords → RunAsked
+run_of given = record {
+  numeric_file = option_map (λ s. s.now) given.numeric;
+  history_file = option_map (λ s. s.now) given.history;
+  begun_file = option_map (λ s. s.now) given.from;
+  journal_file = option_map (λ s. s.now) given.journal;
+  waits = given.every_reply;
+}
+
 -- the invocation is what was asked for
 abbrev pub IsOrdered : Option (Text × List Row) → Invocation → Type 0
-IsOrdered entered (Run table file) =
-    asked entered ≡ Some (ToRun (option_map (λ s. s.now) table) (option_map (λ s. s.now) file))
+IsOrdered entered (Run given) = asked entered ≡ Some (ToRun (run_of given))
 IsOrdered entered (Check table file) = asked entered ≡ Some (ToCheck (option_map (λ s. s.now) table) file.now)
 IsOrdered entered (Threads table files) =
     asked entered ≡ Some (ToThread (option_map (λ s. s.now) table) (map (λ s. s.now) files.items))
@@ -102,8 +154,7 @@ IsOrdered entered Shown = ⊥
 
 -- The words, the program's name before them, ask for this. A command is asked for by words of which none is wrong, with the files that are the values of its arguments. What is shown is asked for by words that the program does not take, and that clap answers with help.
 abbrev pub Asks : List Text → Invocation → Type 0
-Asks words (Run table file) = (fault_of program words ≡ [])
-    × IsOrdered (subcommand_of program words) (Run table file)
+Asks words (Run given) = (fault_of program words ≡ []) × IsOrdered (subcommand_of program words) (Run given)
 Asks words (Check table file) = (fault_of program words ≡ [])
     × IsOrdered (subcommand_of program words) (Check table file)
 Asks words (Threads table files) = (fault_of program words ≡ [])

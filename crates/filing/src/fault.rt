@@ -3,8 +3,10 @@ ghost use Rattle.std.specs.Process.{exit_status};
 ghost use Rattle.filing.specs.Faults.{status_of};
 
 use crate::misplaced::Misplaced;
-use filing_cli::{ScriptFault, ThreadsFault};
+use filing_cli::{OpenHistoryFault, ScriptFault, ThreadsFault};
 use filing_model::TableFault;
+use journal::{DeviceFailed, NotAJournal};
+use journal_file::FileFault;
 use std::alloc::{AllocError, AllocFailed};
 use std::io::{Error, ErrorKind};
 use std::process::ExitCode;
@@ -22,6 +24,14 @@ pub(crate) enum Fault {
     TableLine(u64),
     /// The numeric table is not UTF-8.
     TableNotText,
+    /// The line of the history to go on from, counted from 1 without blank lines, at which it departs.
+    HistoryLine(u128),
+    /// Another process has the journal open.
+    JournalInUse,
+    /// The line of the journal, counted from 1, that is none of a lawful history.
+    JournalLine(u128),
+    /// The line of the script, counted from 1, that nests too deep for the journal.
+    TooDeep(u128),
     NoMemory,
 }
 
@@ -31,9 +41,10 @@ impl Fault {
         ensures { result ≡ status_of self }
     {
         match self {
-            Fault::Read | Fault::Write => 1,
+            Fault::Read | Fault::Write | Fault::JournalInUse | Fault::TooDeep(_) => 1,
             Fault::Words | Fault::TooManyScripts | Fault::TableLine(_) | Fault::TableNotText => 2,
             Fault::NoMemory => 3,
+            Fault::HistoryLine(_) | Fault::JournalLine(_) => 4,
         }
     }
 
@@ -48,6 +59,12 @@ impl Fault {
             Fault::Write => rt.eprintln("filing: write fault"),
             Fault::TableLine(number) => eprintln!(rt; "filing: numeric table, line {number}"),
             Fault::TableNotText => rt.eprintln("filing: numeric table is not UTF-8"),
+            Fault::HistoryLine(number) => eprintln!(rt; "filing: history, line {number}"),
+            Fault::JournalInUse => rt.eprintln("filing: journal in use"),
+            Fault::JournalLine(number) => eprintln!(rt; "filing: journal, line {number}"),
+            Fault::TooDeep(number) => {
+                eprintln!(rt; "filing: line {number} nests too deep for the journal")
+            }
             Fault::NoMemory => rt.eprintln("filing: no memory"),
         };
         let _ = told;
@@ -106,6 +123,57 @@ impl From<ScriptFault> for Fault {
             ScriptFault::Read | ScriptFault::Endless => Fault::Read,
             ScriptFault::Write => Fault::Write,
             ScriptFault::NoMemory(_) => Fault::NoMemory,
+        }
+    }
+}
+
+impl From<OpenHistoryFault> for Fault {
+    ghost use Rattle.std.specs.Prelude.{◌≡◌};
+    ghost use Rattle.filing.specs.Faults.{history_fault_of};
+
+    ghost from_gives = { λ fault e. e ≡ history_fault_of fault };
+
+    fn from(fault: OpenHistoryFault) -> Fault {
+        match fault {
+            OpenHistoryFault::Departs(number) => Fault::JournalLine(number),
+            OpenHistoryFault::NoMemory => Fault::NoMemory,
+        }
+    }
+}
+
+impl From<NotAJournal> for Fault {
+    ghost use Rattle.std.specs.Prelude.{◌≡◌};
+    ghost use Rattle.filing.specs.declared.fault.Fault.TheVariants.{JournalLine};
+
+    ghost from_gives = { λ _ e. e ≡ JournalLine 1 };
+
+    fn from(_error: NotAJournal) -> Fault {
+        Fault::JournalLine(1)
+    }
+}
+
+impl From<DeviceFailed> for Fault {
+    ghost use Rattle.std.specs.Prelude.{◌≡◌};
+    ghost use Rattle.filing.specs.declared.fault.Fault.TheVariants.{Write};
+
+    ghost from_gives = { λ _ e. e ≡ Write };
+
+    fn from(_error: DeviceFailed) -> Fault {
+        Fault::Write
+    }
+}
+
+impl From<FileFault> for Fault {
+    ghost use Rattle.std.specs.Prelude.{◌≡◌};
+    ghost use Rattle.filing.specs.Faults.{file_fault_of};
+
+    ghost from_gives = { λ fault e. e ≡ file_fault_of fault };
+
+    fn from(fault: FileFault) -> Fault {
+        match fault {
+            FileFault::Busy => Fault::JournalInUse,
+            FileFault::NoMemory => Fault::NoMemory,
+            FileFault::Io(_) | FileFault::NotAFile => Fault::Write,
         }
     }
 }

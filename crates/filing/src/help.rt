@@ -6,12 +6,16 @@ pub(crate) const BEGINNING: &str = r#"A script goes in, and a reply comes out fo
   filing run --numeric concepts.txt --history history.jsonl < script.jsonl
   filing check --numeric concepts.txt history.jsonl
 
+With a journal, what is loaded and committed is kept from run to run:
+  filing run --journal office.jsonl < script.jsonl > replies.jsonl
+
 `filing run --help` has every line by an example, `filing words` every word by
 which a line is refused.
 
 The status is 0 where the script was read to its end, also where lines were
 refused; 1 after a fault in reading or writing; 2 where the words or the numeric
-table are wrong; 3 where memory was wanted; 4 where a history departs."#;
+table are wrong; 3 where memory was wanted; 4 where a history or a journal
+departs."#;
 
 /// Every line by an example, and how reports and replies go in and out.
 pub(crate) const LINES: &str =
@@ -83,10 +87,20 @@ again, by jq:
 Without --numeric no concept is numeric, and a fact with a unit is refused as
 misplaced.
 
-The file of --history is written once the script has ended without fault. A file
-that is there is replaced, with its rights, and a link is followed. A path that
-will not do is told at once, before the script is read, and is a fault at the
-end."#;
+A journal is a file from which a run goes on, and in which it keeps its steps. A
+load or a commit that passed is told once it is in the file, on the disk; with
+--every-reply so is every reply. Where the run was cut short, the file has at
+least what was told. One process at a time has it open, and the numeric table
+has to be the same each time. `filing check` judges it as any history.
+
+A history is gone on from by
+  filing run --from old.jsonl --history new.jsonl < script.jsonl
+which leaves old.jsonl as it is, and writes the whole history to new.jsonl.
+
+The file of --history grows beside its place while the script runs, and takes it
+once the script has ended without fault. A file that is there is replaced, with
+its rights, and a link is followed. A path that will not do is told at once,
+before the script is read, and is a fault at the end."#;
 
 /// What `filing check --help` says of histories and verdicts.
 pub(crate) const VERDICTS: &str =

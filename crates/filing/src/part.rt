@@ -24,16 +24,16 @@ pub(crate) struct Part {
     pub(crate) path: String,
 }
 
-/// Makes a file under a name that no other file has, in the folder of a path. One that is to replace another is first its owner's alone.
+/// Makes a file under a name that no other file has, in the folder of a path. One that is private is its owner's alone: so is first what is to replace another.
 pub(crate) fn new_part(
     rt: &HostRuntime,
     path: &str,
-    replaced: &Option<Metadata>,
+    is_private: bool,
 ) -> Result<Part, Misplaced> {
     let run = process::id(rt.process());
     let mut options = OpenOptions::new();
-    options.write(true).create_new(true);
-    if replaced.is_some() {
+    options.read(true).write(true).create_new(true);
+    if is_private {
         options.mode(RIGHTS_OF_OWNER);
     }
     for number in 0..MOST_NAMES {

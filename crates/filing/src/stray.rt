@@ -1,6 +1,6 @@
 /// Whether a word is an option of `run` whose value is the next word.
 fn takes_next(word: &str) -> bool {
-    matches!(word, "--numeric" | "--history")
+    matches!(word, "--numeric" | "--history" | "--from" | "--journal")
 }
 
 /// The first word after `run` that is neither an option nor the value of one. `run` takes none: who writes one means a script's file.

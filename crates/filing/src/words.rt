@@ -1,6 +1,6 @@
-ghost use Rattle.std.specs.Prelude.{◌≡◌, ◌⊎◌, false, IfOk, IsOkAnd, map, string_bytes};
+ghost use Rattle.std.specs.Prelude.{◌≡◌, ◌⊎◌, false, IfOk, IsOkAnd, map, option_map, string_bytes};
 ghost use Rattle.clap.specs.Words.{AddsSubcommand, app_of, kind_of, new_app, rule_of, subcommand_rows_of, with_rule};
-ghost use Rattle.filing.specs.Words.{Asks, IsOrdered, numeric, history, judged, scripts, run, check, threads, words, program};
+ghost use Rattle.filing.specs.Words.{Asks, IsOrdered, is_given, numeric, history, from, journal, every_reply, judged, scripts, run, check, threads, words, program};
 ghost use Rattle.filing.specs.declared.words.Invocation.TheVariants.{Shown};
 
 use crate::fault::Fault;
@@ -11,14 +11,26 @@ use clap::{Arg, ArgAction, ArgMatches, Command, Error};
 use std::alloc::{AllocError, Global};
 use std::{env, io};
 
+/// What `run` was given.
+#[derive(Clone, Copy)]
+pub(crate) struct RunWords<'a> {
+    /// The file of a numeric table.
+    pub(crate) numeric: Option<&'a str>,
+    /// The file to which the history goes.
+    pub(crate) history: Option<&'a str>,
+    /// The file of a history to go on from.
+    pub(crate) from: Option<&'a str>,
+    /// The file of a journal.
+    pub(crate) journal: Option<&'a str>,
+    /// Whether each reply waits until its entry is in the journal.
+    pub(crate) every_reply: bool,
+}
+
 /// What the words of the command line ask for.
 #[derive(Drop)]
 pub(crate) enum Invocation<'a> {
-    /// Run the script that comes on standard input, by the numeric table of a file, if one is named. Its history goes to another, if that is named.
-    Run {
-        numeric: Option<&'a str>,
-        history: Option<&'a str>,
-    },
+    /// Run the script that comes on standard input.
+    Run(RunWords<'a>),
     /// Judge the history in a file, by the numeric table of a file, if one is named.
     Check {
         numeric: Option<&'a str>,
@@ -62,6 +74,44 @@ fn history_option<'a>(alloc: Global) -> Arg<'a>
         .value_name("FILE")
         .help("Where the history goes once the script has ended")
         .action(ArgAction::Set)
+}
+
+/// The option that names the file of a history to go on from.
+#[tactic(auto, unfolding(crate::specs::Words::from))]
+fn from_option<'a>(alloc: Global) -> Arg<'a>
+    ensures rule { rule_of result ≡ from }
+    ensures local { result.global ≡ false }
+{
+    Arg::new(alloc, "from")
+        .long("from")
+        .value_name("HISTORY")
+        .help("A history to go on from, which stays as it is")
+        .action(ArgAction::Set)
+}
+
+/// The option that names the file of a journal.
+#[tactic(auto, unfolding(crate::specs::Words::journal))]
+fn journal_option<'a>(alloc: Global) -> Arg<'a>
+    ensures rule { rule_of result ≡ journal }
+    ensures local { result.global ≡ false }
+{
+    Arg::new(alloc, "journal")
+        .long("journal")
+        .value_name("FILE")
+        .help("A journal to go on from: what is committed is kept in it")
+        .action(ArgAction::Set)
+}
+
+/// The flag by which each reply waits until its entry is in the journal.
+#[tactic(auto, unfolding(crate::specs::Words::every_reply))]
+fn every_reply_flag<'a>(alloc: Global) -> Arg<'a>
+    ensures rule { rule_of result ≡ every_reply }
+    ensures local { result.global ≡ false }
+{
+    Arg::new(alloc, "every_reply")
+        .long("every-reply")
+        .help("With a journal: each reply waits for its entry")
+        .action(ArgAction::SetTrue)
 }
 
 /// The file of the history that is to be judged.
@@ -120,7 +170,10 @@ fn run_command<'a>(alloc: Global) -> Result<Command<'a>, AllocError>
     ensures { IfOk result (λ c. app_of c ≡ run) }
 {
     let about = "Runs a script of JSON lines from standard input";
-    command_of(alloc, "run", about, LINES, history_option(alloc))
+    command_of(alloc, "run", about, LINES, history_option(alloc))?
+        .arg(from_option(alloc))?
+        .arg(journal_option(alloc))?
+        .arg(every_reply_flag(alloc))
 }
 
 /// The command that judges a history.
@@ -180,15 +233,28 @@ fn command<'a>(alloc: Global) -> Result<Command<'a>, AllocError>
     with_check.subcommand(words_command(alloc))
 }
 
+/// Whether the value of a flag says that it was given.
+fn is_given(value: Option<&str>) -> bool
+    ensures { result ≡ is_given (option_map (λ s. s.now) value.entry) }
+{
+    match value {
+        Some(text) => text == "true",
+        None => false,
+    }
+}
+
 /// What the words that `clap` has taken ask for. It takes none without a command, no `check` without its file, and no `threads` without a script.
 fn ordered<'a>(alloc: Global, matches: &ArgMatches<'a>) -> Result<Invocation<'a>, Fault>
     ensures { IfOk result (IsOrdered (subcommand_rows_of matches.now)) }
 {
     match matches.subcommand() {
-        Some(("run", run)) => Ok(Invocation::Run {
+        Some(("run", run)) => Ok(Invocation::Run(RunWords {
             numeric: run.get_str("numeric"),
             history: run.get_str("history"),
-        }),
+            from: run.get_str("from"),
+            journal: run.get_str("journal"),
+            every_reply: is_given(run.get_str("every_reply")),
+        })),
         Some(("check", check)) => match check.get_str("judged") {
             Some(history) => Ok(Invocation::Check {
                 numeric: check.get_str("numeric"),

@@ -2,12 +2,12 @@ use Rattle.std.proofs.Common.{ap, codes, true, false, refl, ◌≡◌, ◌∙◌
 use Rattle.std.proofs.lemmas.Result.{IfOk-weaker}
 use Rattle.clap.specs.Words.{App, app_of, new_app}
 use Rattle.clap.specs.Simple.{app_of_fields}
-use Rattle.filing.specs.Words.{check, history, judged, numeric, program, run, scripts, threads, words}
+use Rattle.filing.specs.Words.{check, every_reply, from, history, journal, judged, numeric, program, run, scripts, threads, words}
 use Rattle.filing.proofs.Commands.{with_command, with_made}
 use Rattle.filing.proofs.words.command.Goals as goal
 
 pub returns : goal.returns
-unfolding numeric history judged scripts run check threads words program
+unfolding numeric history from journal every_reply judged scripts run check threads words program
 returns c =
     let dated = λ (a : App). record a { top = record a.top { has_version = true } } in
     let wants = λ (a : App). record a { top = record a.top { subcommand_required = true } } in

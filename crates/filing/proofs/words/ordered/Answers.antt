@@ -10,10 +10,18 @@ returns-in-Some-run-default c =
     let found = found_of met.run'.now in
     files_of_run (subcommand_rows_of c.args.matches.now) met.field-0-0.now (rows_of found) (option_map (λ s. s.now) c.get_str.result)
     (option_map (λ s. s.now) c.get_str-in-Some-run-default.result)
+    (option_map (λ s. s.now) c.get_str-in-Some-run-default-2.result)
+    (option_map (λ s. s.now) c.get_str-in-Some-run-default-3.result)
+    (option_map (λ s. s.now) c.get_str-in-Some-run-default-4.result)
+    c.is_given.result
     (both_read _ _ _ _ _ (sym met.ensures.name) (sym met.ensures.rows))
     met.is-run
     (c.get_str.ensures ∙ first_value-rows found (codes "numeric"))
     (c.get_str-in-Some-run-default.ensures ∙ first_value-rows found (codes "history"))
+    (c.get_str-in-Some-run-default-2.ensures ∙ first_value-rows found (codes "from"))
+    (c.get_str-in-Some-run-default-3.ensures ∙ first_value-rows found (codes "journal"))
+    (c.get_str-in-Some-run-default-4.ensures ∙ first_value-rows found (codes "every_reply"))
+    c.is_given.ensures
 
 pub returns-in-Some : goal.returns-in-Some
 returns-in-Some c =
