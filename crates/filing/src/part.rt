@@ -25,11 +25,7 @@ pub(crate) struct Part {
 }
 
 /// Makes a file under a name that no other file has, in the folder of a path. One that is private is its owner's alone: so is first what is to replace another.
-pub(crate) fn new_part(
-    rt: &HostRuntime,
-    path: &str,
-    is_private: bool,
-) -> Result<Part, Misplaced> {
+pub(crate) fn new_part(rt: &HostRuntime, path: &str, is_private: bool) -> Result<Part, Misplaced> {
     let run = process::id(rt.process());
     let mut options = OpenOptions::new();
     options.read(true).write(true).create_new(true);

@@ -38,9 +38,9 @@ mod script_machine;
 mod takes_steps;
 
 // The names of `filing_threads`, `line_io` and `script_format` are handed on only so that callers find the whole command-line interface in one crate.
-pub use filing_threads::{ThreadsFault, Unwatched, Watch, run_threads, run_threads_watched};
 pub use copied::{CopiedHistory, copy_history};
 pub use entry_file::EntryFile;
+pub use filing_threads::{ThreadsFault, Unwatched, Watch, run_threads, run_threads_watched};
 pub use history::{judge_history, judge_history_keeping, write_history, write_verdict};
 pub use journaled::{JournaledRun, run_script_with_journal};
 pub use line_io::{
