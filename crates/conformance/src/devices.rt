@@ -2,7 +2,7 @@
 
 ghost use Rattle.std.specs.Prelude.{◌≡◌, ◌≤◌, ◌<◌};
 
-use crate::journals::keep_script;
+use crate::journals::{Keeping, keep_script};
 use anyhow::{Result, anyhow};
 use filing_cli::{
     MemoryIn, MemoryOut, ScriptFault, judge_history, run_script_within, write_history,
@@ -24,8 +24,8 @@ const ROOM: usize = 65536;
 pub(crate) enum Work<'a> {
     /// A script is run.
     Script(&'a [u8]),
-    /// A script is run that keeps a journal, for each reply or not.
-    Journal(&'a [u8], bool),
+    /// A script is run that keeps a journal.
+    Journal(&'a [u8], Keeping<'a>),
     /// The history of a core is written.
     History(&'a Core),
     /// That is judged.
@@ -62,8 +62,12 @@ impl Trial {
 pub(crate) enum Ended {
     /// A script left a core.
     Left(Core),
-    /// A script left a journal.
+    /// A script left all that it made in a journal.
     Kept(MemoryFile),
+    /// The run of one that keeps a journal, or its opening, ended with a fault.
+    Stopped(MemoryFile, ScriptFault),
+    /// The lines of a journal are no history.
+    Unopened,
     /// A history was judged.
     Judged(Verdict),
     /// A history was written, or a verdict, with this status.
@@ -121,9 +125,7 @@ fn do_work_by<L: Ledger, K: Ledger>(
                 Err(fault) => Ended::Failed(fault),
             }
         }
-        Work::Journal(_, every_reply) => {
-            keep_script(alloc, &mut source, &mut sink, table, every_reply)?
-        }
+        Work::Journal(_, keeping) => keep_script(alloc, &mut source, &mut sink, table, keeping)?,
         Work::History(core) => match write_history(alloc, &mut sink, core.history()) {
             Ok(()) => Ended::Written(0),
             Err(fault) => Ended::Failed(fault),

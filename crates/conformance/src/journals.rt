@@ -2,7 +2,10 @@
 
 use crate::devices::{Done, Ended, Trial, Work, do_work};
 use anyhow::Result;
-use filing_cli::{JournaledRun, Sink, Source, run_script_with_journal};
+use filing_cli::{
+    JournaledRun, OpenHistoryFault, ScriptFault, Sink, Source, engine_of_history,
+    run_script_with_journal,
+};
 use filing_core::Engine;
 use journal::{Journal, MemoryFile, open, read_lines};
 use oim_fact::NumericTable;
@@ -12,19 +15,47 @@ use std::sync::Arc;
 // So many bytes are moved at once: a script has several batches, and the file is not copied for each line.
 const PIECE: usize = 1000;
 
-/// Runs a script with an empty journal in memory. A call of that fails only for want of memory.
+/// How a script keeps a journal.
+#[derive(Clone, Copy)]
+pub(crate) struct Keeping<'a> {
+    /// The bytes of the file that it opens.
+    pub(crate) found: &'a [u8],
+    /// The number, from 1, of the change or sync of that file that fails; 0 for none.
+    pub(crate) failing: u64,
+    /// Whether each reply waits for its entry.
+    pub(crate) every_reply: bool,
+}
+
+/// The engine of the history that lines are, if they are one.
+pub(crate) fn engine_of(
+    alloc: Global,
+    table: &Arc<NumericTable>,
+    lines: &[u8],
+) -> Result<Option<Engine>, AllocError> {
+    match engine_of_history(alloc, lines, table) {
+        Ok(engine) => Ok(Some(engine)),
+        Err(OpenHistoryFault::Departs(_)) => Ok(None),
+        Err(OpenHistoryFault::NoMemory) => Err(AllocError),
+    }
+}
+
+/// Runs a script from the history that a journal in memory has, and keeps it there.
 pub(crate) fn keep_script<R: Source, W: Sink>(
     alloc: Global,
     source: &mut R,
     sink: &mut W,
     table: &Arc<NumericTable>,
-    every_reply: bool,
+    keeping: Keeping<'_>,
 ) -> Result<Ended, AllocError> {
-    let engine = Engine::new(alloc)?;
-    let mut file = MemoryFile::new(alloc, Vec::new(alloc));
-    let Ok(lines) = open(&mut file, Vec::new(alloc)) else {
-        return Err(AllocError);
+    let bytes = keeping.found.to_vec(alloc)?;
+    let mut file = MemoryFile::new(alloc, bytes.to_vec(alloc)?).failing_at(keeping.failing);
+    let Ok(lines) = open(&mut file, bytes) else {
+        return Ok(Ended::Stopped(file, ScriptFault::Write));
     };
+    let Some(engine) = engine_of(alloc, table, &lines)? else {
+        return Ok(Ended::Unopened);
+    };
+    let every_reply = keeping.every_reply;
     let journal = Journal::new(file, lines.len());
     let JournaledRun {
         ended,
@@ -33,12 +64,10 @@ pub(crate) fn keep_script<R: Source, W: Sink>(
         ..
     } = run_script_with_journal(alloc, engine, journal, source, sink, table, every_reply);
     drop(engine);
+    let file = journal.into_device();
     match ended {
-        Ok(()) => Ok(Ended::Kept(journal.into_device())),
-        Err(fault) => {
-            drop(journal);
-            Ok(Ended::Failed(fault))
-        }
+        Ok(()) => Ok(Ended::Kept(file)),
+        Err(fault) => Ok(Ended::Stopped(file, fault)),
     }
 }
 
@@ -54,7 +83,7 @@ fn has_history(alloc: Global, file: &MemoryFile, history: &[u8]) -> Result<bool>
     Ok(lines.as_slice() == history)
 }
 
-/// Whether a script that keeps a journal is told these replies, and has this history in it.
+/// Whether a script that keeps a journal is told these replies, and has this history in it. Nothing but want of memory stops it.
 fn is_kept(
     alloc: Global,
     table: &Arc<NumericTable>,
@@ -71,7 +100,7 @@ fn is_kept(
         }
         other => {
             drop(other);
-            Ok(false)
+            Err(AllocError.into())
         }
     }
 }
@@ -85,7 +114,12 @@ pub(crate) fn is_kept_both_ways(
     history: &[u8],
 ) -> Result<bool> {
     for every_reply in [true, false] {
-        let work = Work::Journal(script, every_reply);
+        let keeping = Keeping {
+            found: b"",
+            failing: 0,
+            every_reply,
+        };
+        let work = Work::Journal(script, keeping);
         if !is_kept(alloc, table, work, replies, history)? {
             return Ok(false);
         }

@@ -6,6 +6,7 @@
 //! - `calls`: worked rows of calls that no script makes.
 //! - `pages`: worked rows of lists in pages and of the pages of reports, and both beside plain lists.
 //! - `trials`: has each call of a device go wrong.
+//! - `crashes`: opens what a crash may leave of a journal.
 //! - `offices`: takes steps at desks, and opens reviews beside them.
 //! - `threads`: runs scripts in threads.
 //! - `drawn`: draws scripts, which the oracle answers too.
@@ -20,6 +21,7 @@
 #![tactic(auto)]
 
 mod calls;
+mod crashes;
 mod devices;
 mod draft;
 mod drawn;
@@ -37,6 +39,7 @@ mod trials;
 
 use anyhow::{Result, anyhow};
 use calls::compare_calls;
+use crashes::try_crashes;
 use drawn::compare_drawn;
 use offices::show_offices;
 use pages::{Kind, compare_pages, compare_rounds};
@@ -49,7 +52,7 @@ use std::thread::Threads;
 use threads::compare_threads;
 use trials::try_devices;
 
-const PARTS: [&str; 11] = [
+const PARTS: [&str; 12] = [
     "sheets",
     "calls",
     "pages",
@@ -58,6 +61,7 @@ const PARTS: [&str; 11] = [
     "scripts",
     "histories",
     "devices",
+    "crashes",
     "offices",
     "threads",
     "drawn",
@@ -88,6 +92,7 @@ fn compare_alone<R: Print + Files + AllocGlobal>(rt: &R, part: &str) -> Result<(
         "rounds" => compare_rounds(rt, Kind::Report),
         "scripts" => compare_stored(rt),
         "devices" => try_devices(rt),
+        "crashes" => try_crashes(rt),
         _ => Err(anyhow!("there is no part {part}")),
     }
 }

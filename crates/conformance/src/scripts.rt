@@ -201,7 +201,7 @@ pub(crate) fn compare_listed<R: Files + Print + AllocGlobal>(rt: &R, name: &str)
 }
 
 /// The script NAME.jsonl, with its replies and its history in files of their own.
-fn stored<R: Files + AllocGlobal>(rt: &R, name: &str) -> Result<Sheet> {
+pub(crate) fn stored<R: Files + AllocGlobal>(rt: &R, name: &str) -> Result<Sheet> {
     let mut sheet = Sheet::new(rt.alloc(), name.as_bytes())?;
     sheet.scripts.push(read_data(rt, name, "jsonl")?)?;
     sheet.replies = read_data(rt, name, "replies")?;
