@@ -23,7 +23,7 @@ class Life:
     def __init__(self, folder, seed, number, every_reply):
         self.draw = random.Random(f"{seed} {number}")
         self.folder, self.journal, self.every_reply = folder, folder / "journal", every_reply
-        self.clerk, self.lines, self.kept, self.opening = Clerk(self.draw), b"", [], 0.004
+        self.clerk, self.lines, self.behind, self.kept, self.opening = Clerk(self.draw), b"", b"", [], 0.004
         self.counts, self.start = Counter(), None
 
     def kill(self):
@@ -68,8 +68,11 @@ class Life:
         self.lines, self.kept = lines, self.kept + kept
         self.clerk.start_again(openings(lines))
         behind = data[len(lines) :]
-        self.counts["torn batches"] += len(behind) > 1
-        self.counts["without a gate"] += not behind
+        # What was there when the program was started, and is there still, counts once.
+        if (kept, behind) != ([], self.behind):
+            self.counts["torn batches"] += len(behind) > 1
+            self.counts["without a gate"] += not behind
+        self.behind = behind
         self.counts["entries found"] += len(kept)
         self.counts["replies told"] += self.start.told
         for line in self.start.sent:
@@ -85,7 +88,8 @@ class Life:
         tails = [GATE + rubbish, GATE + entries, GATE + entries[1:] + GATE, GATE + bytes(4096), b"", b"[", b"x", b"[1]"]
         if lines and len(behind) > 1:
             tails.append(b"x" + behind[1:])
-        self.journal.write_bytes(lines + self.draw.choice(tails))
+        self.behind = self.draw.choice(tails)
+        self.journal.write_bytes(lines + self.behind)
         self.counts["tails spoiled"] += 1
 
     def end(self):
