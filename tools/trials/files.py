@@ -129,9 +129,13 @@ TAILS = {
 
 for _name, _tail in TAILS.items():
 
-    @case(f"what stands behind the lines is cut off: {_name}")
+    @case(f"what stands behind the lines is cut off, and told where it is more than a gate: {_name}")
     def _(folder, tail=_tail):
-        Run(made(folder / "j", LINES + tail)).ends()
+        run = Run(made(folder / "j", LINES + tail))
+        run.ends()
+        line = LINES.count(b"\n") + 1
+        warning = b"filing: warning: journal, line %d: %d bytes that count for nothing were cut off\n" % (line, len(tail))
+        expect("the warning", run.warned, warning if len(tail) > 1 else b"")
         holds(folder / "j", LINES + GATE)
         goes_on(made(folder / "other", LINES + tail))
 

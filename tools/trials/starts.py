@@ -86,6 +86,14 @@ def words_of(journal, every_reply=False, table=None):
     return [TRIED.program, "run", "--numeric", str(table or TRIED.table), "--journal", str(journal), *["--every-reply"] * every_reply]
 
 
+WARNING = re.compile(rb"\Afiling: warning: journal, line \d+: \d+ bytes that count for nothing were cut off\n")
+
+
+def without_warning(told):
+    """What was told on standard error, but for the line that tells what was cut off."""
+    return WARNING.sub(b"", told)
+
+
 def is_due(told, every_reply):
     """Whether a reply, or the front of one, is told only once its entry is in the journal."""
     return told.startswith((b'["loaded"', b'["committed"')) or every_reply and told != b""
@@ -150,7 +158,7 @@ class Start:
         if self.writer is not None:
             self.writer.join()
             self.process.stdin.close()
-        error = self.process.stderr.read()
+        error = without_warning(self.process.stderr.read())
         self.process.stdout.close()
         self.process.stderr.close()
         return self.process.wait(PATIENCE), error
@@ -215,7 +223,8 @@ class Run:
         how.setdefault("stdout", subprocess.PIPE)
         run = [*words_of(journal), *words]
         done = subprocess.run(run, input=script, stderr=subprocess.PIPE, timeout=PATIENCE, **how)
-        self.status, self.written, self.told = done.returncode, done.stdout, done.stderr
+        self.status, self.written, self.told = done.returncode, done.stdout, without_warning(done.stderr)
+        self.warned = done.stderr[: len(done.stderr) - len(self.told)]
 
     def ends(self, status=0, written=b"", told=b""):
         expect("status and standard error", (self.status, self.told), (status, told))
