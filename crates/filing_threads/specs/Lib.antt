@@ -5,6 +5,13 @@ pub mod Batches
 pub mod Telling
 pub mod ScriptRuns
 pub mod UnderWay
-pub mod Tasks
 -- ---- what is written
 pub mod Writing
+-- ---- offices that begin with a history
+pub mod JournalLines
+pub mod FoundHistories
+pub mod Retaking
+pub mod Tasks
+-- ---- journals
+pub mod KeptEntries
+pub mod KeptThreads
