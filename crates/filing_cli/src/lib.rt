@@ -5,9 +5,8 @@
 //! - `takes_steps`: what takes its steps: a core, an engine, or an engine with a journal or with a file of its entries.
 //! - `journaling`: an engine with a journal.
 //! - `journaled_steps`: the steps that it takes.
-//! - `nesting`: which of their lines nest too deep.
 //! - `journaled`: runs a script with a journal.
-//! - `reopened`: the engine of the history that a journal has.
+//! - `reopened`: the engine of the history that a journal has, and its entries.
 //! - `entry_file`: a file of entries.
 //! - `recording`: an engine whose entries are written to one.
 //! - `recorded`: runs a script with that.
@@ -29,7 +28,6 @@ mod journaled;
 mod journaled_steps;
 mod journaling;
 mod judge;
-mod nesting;
 mod recorded;
 mod recording;
 mod reopened;
@@ -40,7 +38,10 @@ mod takes_steps;
 // The names of `filing_threads`, `line_io` and `script_format` are handed on only so that callers find the whole command-line interface in one crate.
 pub use copied::{CopiedHistory, copy_history};
 pub use entry_file::EntryFile;
-pub use filing_threads::{ThreadsFault, Unwatched, Watch, run_threads, run_threads_watched};
+pub use filing_threads::{
+    JournaledThreads, ThreadsFault, ThreadsOnHistory, Unwatched, Watch, run_threads,
+    run_threads_on_history, run_threads_watched, run_threads_with_journal,
+};
 pub use history::{judge_history, judge_history_keeping, write_history, write_verdict};
 pub use journaled::{JournaledRun, run_script_with_journal};
 pub use line_io::{
@@ -48,7 +49,7 @@ pub use line_io::{
     is_blank, run, write_all,
 };
 pub use recorded::{RecordedRun, record_script};
-pub use reopened::{OpenHistoryFault, engine_of_history};
+pub use reopened::{OpenHistoryFault, engine_of_history, entries_of_history};
 pub use script::{resume_script, run_script, run_script_on_engine, run_script_within};
 pub use script_format::{
     bad_fact_reply, bad_line_reply, bad_report_reply, exported_reply, name_in_use_reply,

@@ -6,3 +6,10 @@ mod JudgedScripts
 mod JudgedBatches
 mod UnderWay
 mod ScriptTasks
+-- ---- offices that begin with a history
+pub mod JournalLines
+mod CountedDesks
+mod Retaken
+mod BegunHistories
+-- ---- journals
+mod KeptLines

@@ -1,5 +1,5 @@
 -- Scripts at their desks.
-use Rattle.std.proofs.Common.{◌≡◌, ◌∙◌, ap, sym, subst, refl, arith, ℕ, zero, suc, ◌+◌, ◌<◌, take, get_or, List, [], ◌∷◌, ◌++◌, length, map, Option, Some, None, option_map, Result, IfOk}
+use Rattle.std.proofs.Common.{◌≡◌, ◌∙◌, ap, sym, subst, refl, arith, ℕ, zero, suc, ◌+◌, ◌<◌, take, get_or, List, [], ◌∷◌, ◌++◌, length, map, Option, Some, None, option_map, Result, Ok, Err, IfOk}
 use Rattle.std.proofs.lemmas.List.{length-map}
 use Rattle.std.proofs.Math.Seq.{take-suc}
 use Rattle.std.proofs.lemmas.Option.{none-some, same_Some, slice_get-map}
@@ -8,76 +8,155 @@ use Rattle.std.specs.Arc.{arc_value}
 use Rattle.std.specs.declared.alloc.AllocError.{AllocError}
 use Rattle.std.specs.declared.alloc.Global.{Global}
 use Rattle.std.specs.declared.vec.Vec.{Vec}
+use Rattle.filing_model.specs.Common.Text.{Text}
 use Rattle.filing_model.specs.Oim.Facts.{Table}
-use Rattle.filing_model.specs.Sessions.Repository.{Repository}
+use Rattle.filing_model.specs.Histories.History.{History, repository}
 use Rattle.filing_office.specs.Tallies.{Tally}
 use Rattle.filing_office.specs.Runs.{RunState}
-use Rattle.filing_office.specs.Rans.{EachResult, IsResultOf}
+use Rattle.filing_office.specs.Rans.{IsResultOf, has_task}
 use Rattle.filing_office.specs.declared.desk_task.TaskAtDesk.{TaskAtDesk}
 use Rattle.filing_threads.specs.declared.script_task.ScriptTask.{ScriptTask}
 use Rattle.filing_threads.specs.declared.replies.Replies.{Replies}
 use Rattle.filing_threads.specs.ScriptRuns.{IsScriptRun, EachScriptRun, at_office}
-use Rattle.filing_threads.specs.Tasks.{IsTaskOf, AreTasks}
+use Rattle.filing_threads.specs.FoundHistories.{AreRunOn, IsBegunOn, IsScriptRunTo, receipts_in, steps_in}
+use Rattle.filing_threads.specs.Tasks.{IsTaskOf, IsTaskOn, AreLeft, AreTasks, TaskResult, script_leaves}
 
--- one task at a desk more
-pub seats_further : {J M : Type 0} (table : Table) (scripts : List (Vec ℕ Global)) (at_desks : List (TaskAtDesk J M ScriptTask)) (script : Vec ℕ Global) (at_desk : TaskAtDesk J M ScriptTask)
-    → AreTasks table scripts at_desks → IsTaskOf table script at_desk → AreTasks table (scripts ++ script ∷ []) (at_desks ++ at_desk ∷ [])
-seats_further table [] [] script at_desk are is = (is, refl)
-seats_further table [] (other ∷ at_desks) script at_desk are is = absurd (cc are)
-seats_further table (x ∷ scripts) [] script at_desk are is = absurd are
-seats_further table (x ∷ scripts) (other ∷ at_desks) script at_desk are is = (are.0, seats_further table scripts at_desks script at_desk are.1 is)
+module _ {J M : Type 0} (Is : Vec ℕ Global → TaskAtDesk J M ScriptTask → Type 0) where
+  -- one task at a desk more
+  pub seats_further : (scripts : List (Vec ℕ Global)) (at_desks : List (TaskAtDesk J M ScriptTask)) (script : Vec ℕ Global) (at_desk : TaskAtDesk J M ScriptTask)
+      → AreTasks Is scripts at_desks → Is script at_desk → AreTasks Is (scripts ++ script ∷ []) (at_desks ++ at_desk ∷ [])
+  seats_further [] [] script at_desk are is = (is, refl)
+  seats_further [] (other ∷ at_desks) script at_desk are is = absurd (cc are)
+  seats_further (x ∷ scripts) [] script at_desk are is = absurd are
+  seats_further (x ∷ scripts) (other ∷ at_desks) script at_desk are is = (are.0, seats_further scripts at_desks script at_desk are.1 is)
 
-pub seats_taken : {J M : Type 0} (table : Table) (scripts : List (Vec ℕ Global)) (i : ℕ) (at_desks : List (TaskAtDesk J M ScriptTask)) (script : Vec ℕ Global) (at_desk : TaskAtDesk J M ScriptTask)
-    → i < length scripts → script ≡ get_or scripts i script → AreTasks table (take i scripts) at_desks → IsTaskOf table script at_desk
-    → AreTasks table (take (i + 1) scripts) (at_desks ++ at_desk ∷ [])
-seats_taken table scripts i at_desks script at_desk below is are here =
-    let next : suc i ≡ i + 1 = omega arith in
-    subst (λ m. AreTasks table (take m scripts) (at_desks ++ at_desk ∷ [])) next
-    (subst (λ xs. AreTasks table xs (at_desks ++ at_desk ∷ [])) (sym (take-suc scripts i script below))
-    (subst (λ x. AreTasks table (take i scripts ++ x ∷ []) (at_desks ++ at_desk ∷ [])) is (seats_further table (take i scripts) at_desks script at_desk are here)))
+  pub seats_taken : (scripts : List (Vec ℕ Global)) (i : ℕ) (at_desks : List (TaskAtDesk J M ScriptTask)) (script : Vec ℕ Global) (at_desk : TaskAtDesk J M ScriptTask)
+      → i < length scripts → script ≡ get_or scripts i script → AreTasks Is (take i scripts) at_desks → Is script at_desk
+      → AreTasks Is (take (i + 1) scripts) (at_desks ++ at_desk ∷ [])
+  seats_taken scripts i at_desks script at_desk below is are here =
+      let next : suc i ≡ i + 1 = omega arith in
+      subst (λ m. AreTasks Is (take m scripts) (at_desks ++ at_desk ∷ [])) next
+      (subst (λ xs. AreTasks Is xs (at_desks ++ at_desk ∷ [])) (sym (take-suc scripts i script below))
+      (subst (λ x. AreTasks Is (take i scripts ++ x ∷ []) (at_desks ++ at_desk ∷ [])) is (seats_further (take i scripts) at_desks script at_desk are here)))
 
-task_at : {J M : Type 0} (table : Table) (scripts : List (Vec ℕ Global)) (at_desks : List (TaskAtDesk J M ScriptTask)) (place : ℕ) (script : Vec ℕ Global)
-    → AreTasks table scripts at_desks → slice_get scripts place ≡ Some script
-    → (at_desk : TaskAtDesk J M ScriptTask) × (slice_get at_desks place ≡ Some at_desk) × IsTaskOf table script at_desk
-task_at table [] at_desks place script are at = absurd (none-some script at)
-task_at table (x ∷ scripts) [] place script are at = absurd are
-task_at table (x ∷ scripts) (at_desk ∷ at_desks) zero script are at = (at_desk, refl, subst (λ s. IsTaskOf table s at_desk) (same_Some x script at) are.0)
-task_at table (x ∷ scripts) (at_desk ∷ at_desks) (suc place) script are at = task_at table scripts at_desks place script are.1 at
+  task_at : (scripts : List (Vec ℕ Global)) (at_desks : List (TaskAtDesk J M ScriptTask)) (place : ℕ) (script : Vec ℕ Global)
+      → AreTasks Is scripts at_desks → slice_get scripts place ≡ Some script
+      → (at_desk : TaskAtDesk J M ScriptTask) × (slice_get at_desks place ≡ Some at_desk) × Is script at_desk
+  task_at [] at_desks place script are at = absurd (none-some script at)
+  task_at (x ∷ scripts) [] place script are at = absurd are
+  task_at (x ∷ scripts) (at_desk ∷ at_desks) zero script are at = (at_desk, refl, subst (λ s. Is s at_desk) (same_Some x script at) are.0)
+  task_at (x ∷ scripts) (at_desk ∷ at_desks) (suc place) script are at = task_at scripts at_desks place script are.1 at
 
-tasks_many : {J M : Type 0} (table : Table) (scripts : List (Vec ℕ Global)) (at_desks : List (TaskAtDesk J M ScriptTask)) → AreTasks table scripts at_desks → length at_desks ≡ length scripts
-tasks_many table [] at_desks are = ap length are
-tasks_many table (x ∷ scripts) [] are = absurd are
-tasks_many table (x ∷ scripts) (at_desk ∷ at_desks) are = ap suc (tasks_many table scripts at_desks are.1)
+  tasks_many : (scripts : List (Vec ℕ Global)) (at_desks : List (TaskAtDesk J M ScriptTask)) → AreTasks Is scripts at_desks → length at_desks ≡ length scripts
+  tasks_many [] at_desks are = ap length are
+  tasks_many (x ∷ scripts) [] are = absurd are
+  tasks_many (x ∷ scripts) (at_desk ∷ at_desks) are = ap suc (tasks_many scripts at_desks are.1)
 
 before_map : {X Y : Type 0} (f : X → Y) (o : Option X) (y : Y) → option_map f o ≡ Some y → (x : X) × (o ≡ Some x) × (f x ≡ y)
 before_map f (Some x) y is = (x, refl, same_Some (f x) y is)
 before_map f None y is = absurd (none-some y is)
 
--- what a script leaves
-abbrev pub script_leaves : (J : Type 0) → ScriptTask → RunState → RunState → Result Replies AllocError → Type 0
-script_leaves J task s t replies = IfOk replies (IsScriptRun J (arc_value task.table.now) task.script.now s)
+-- ---- what the tasks leave
 
-abbrev pub TaskResult : Type 0
-TaskResult = Tally × Option (List Repository) × Result Replies AllocError
+tallies_of : {J M : Type 0} (at_desks : List (TaskAtDesk J M ScriptTask))
+    → map (λ (s : RunState). s.tally) (map has_task at_desks) ≡ map (λ (x : TaskAtDesk J M ScriptTask). x.desk) at_desks
+tallies_of [] = refl
+tallies_of (x ∷ at_desks) = ap (λ (ts : List Tally). x.desk ∷ ts) (tallies_of at_desks)
 
-runs_at : {J M : Type 0} (table : Table) (script : Vec ℕ Global) (at_desk : TaskAtDesk J M ScriptTask) (left : TaskResult) → IsTaskOf table script at_desk
-    → IsResultOf (script_leaves J) at_desk left → IfOk left.2 (IsScriptRun J table script.items at_office)
-runs_at {J} table script at_desk left is leaves =
-    subst (λ t. IfOk left.2 (IsScriptRun J t script.items at_office)) is.table_is
-    (subst (λ text. IfOk left.2 (IsScriptRun J (arc_value at_desk.task.table.now) text at_office)) is.script_is
-    (subst (λ s. IfOk left.2 (IsScriptRun J (arc_value at_desk.task.table.now) at_desk.task.script.now s)) is.begins leaves.is_left))
+-- two facts of a success
+pub both_if : {X E : Type 0} (P Q R : X → Type 0) (r : Result X E) → ((x : X) → P x → Q x → R x) → IfOk r P → IfOk r Q → IfOk r R
+both_if P Q R (Ok x) join p q = join x p q
+both_if P Q R (Err e) join p q = tt
 
-pub each_run : {J M : Type 0} (table : Table) (scripts : List (Vec ℕ Global)) (at_desks : List (TaskAtDesk J M ScriptTask)) (lefts : List TaskResult) (all : List (Result Replies AllocError))
-    → AreTasks table scripts at_desks → EachResult (script_leaves J) at_desks lefts → all ≡ map (λ (l : TaskResult). l.2) lefts → EachScriptRun J table scripts all
-each_run {J} table scripts at_desks lefts all are each is = record {
-  all_run = ap length is ∙ length-map lefts (λ (l : TaskResult). l.2) ∙ each.all_back ∙ tasks_many table scripts at_desks are;
-  each = λ place script replies at_script at_replies.
-      let (at_desk, at_seat, is_seat) = task_at table scripts at_desks place script are at_script in
-      let (left, at_left, its) = before_map (λ (l : TaskResult). l.2) (slice_get lefts place) replies
-      (sym (slice_get-map (λ (l : TaskResult). l.2) lefts place) ∙ ap (λ xs. slice_get xs place) (sym is) ∙ at_replies) in
-      subst (λ r. IfOk r (IsScriptRun J table script.items at_office)) its
-      (runs_at table script at_desk left is_seat (each.each place at_desk left at_seat at_left));
-}
+-- of a script whose replies there are
+run_to : (J : Type 0) (table table' : Table) (script script' : Text) (start start' : RunState) (counted counted' : Tally) (replies replies' : Result Replies AllocError)
+    → table ≡ table' → script ≡ script' → start ≡ start' → counted ≡ counted' → replies ≡ replies' → IfOk replies (IsScriptRunTo J table script start counted)
+    → IfOk replies' (IsScriptRunTo J table' script' start' counted')
+run_to J table table' script script' start start' counted counted' replies replies' t x s c r run =
+    subst (λ (q : Result Replies AllocError). IfOk q (IsScriptRunTo J table' script' start' counted')) r
+    (subst (λ (q : Tally). IfOk replies (IsScriptRunTo J table' script' start' q)) c
+    (subst (λ (q : RunState). IfOk replies (IsScriptRunTo J table' script' q counted)) s
+    (subst (λ (q : Text). IfOk replies (IsScriptRunTo J table' q start counted)) x
+    (subst (λ (q : Table). IfOk replies (IsScriptRunTo J q script start counted)) t run))))
+
+only_run : (J : Type 0) (table : Table) (script : Text) (start : RunState) (counted : Tally) (replies : Result Replies AllocError)
+    → IfOk replies (IsScriptRunTo J table script start counted) → IfOk replies (IsScriptRun J table script start)
+only_run J table script start counted (Ok replies) run = run.run
+only_run J table script start counted (Err e) run = run
+
+module _ {J M : Type 0} (table : Table) (scripts : List (Vec ℕ Global)) (at_desks : List (TaskAtDesk J M ScriptTask)) (counted : List Tally) (all : List (Result Replies AllocError))
+    (left : AreLeft at_desks counted all) where
+  -- what the task at this place leaves
+  record LeftAt (place : ℕ) (at_desk : TaskAtDesk J M ScriptTask) (replies : Result Replies AllocError) : Type 0 where
+    its : TaskResult
+    is_left : IsResultOf (script_leaves J) at_desk its
+    at_place : slice_get left.lefts place ≡ Some its
+    replies_are : its.2 ≡ replies
+
+  left_at : (place : ℕ) (at_desk : TaskAtDesk J M ScriptTask) (replies : Result Replies AllocError) → slice_get at_desks place ≡ Some at_desk
+      → slice_get all place ≡ Some replies → LeftAt place at_desk replies
+  left_at place at_desk replies at_seat at_replies =
+      let (its, at_left, is) = before_map (λ (l : TaskResult). l.2) (slice_get left.lefts place) replies
+      (sym (slice_get-map (λ (l : TaskResult). l.2) left.lefts place) ∙ ap (λ xs. slice_get xs place) (sym left.replies_are) ∙ at_replies) in record {
+        its = its;
+        is_left = left.each.each place at_desk its at_seat at_left;
+        at_place = at_left;
+        replies_are = is;
+      }
+
+  lefts_many : length left.lefts ≡ length at_desks
+  lefts_many = left.each.all_back
+
+  all_many : length all ≡ length at_desks
+  all_many = ap length left.replies_are ∙ length-map left.lefts (λ (l : TaskResult). l.2) ∙ lefts_many
+
+  pub each_run : AreTasks (IsTaskOf table) scripts at_desks → EachScriptRun J table scripts all
+  each_run are = record {
+    all_run = all_many ∙ tasks_many (IsTaskOf table) scripts at_desks are;
+    each = λ place script replies at_script at_replies.
+        let (at_desk, at_seat, task) = task_at (IsTaskOf table) scripts at_desks place script are at_script in
+        let l = left_at place at_desk replies at_seat at_replies in
+        only_run J table script.items at_office l.is_left.left.tally replies
+        (run_to J (arc_value at_desk.task.table.now) table at_desk.task.script.now script.items (has_task at_desk) at_office
+        l.is_left.left.tally l.is_left.left.tally l.its.2 replies task.table_is task.script_is task.begins refl l.replies_are l.is_left.is_left);
+  }
+
+  module _ (h : History) (many : ℕ) (known : many ≡ (repository h).count + 1) where
+    begun_on : (script : Vec ℕ Global) (at_desk : TaskAtDesk J M ScriptTask) → IsTaskOn many table script at_desk → IsBegunOn h (has_task at_desk)
+    begun_on script at_desk task = record {
+      names = refl;
+      seen = task.seen;
+      seen_is = task.seen_is;
+      chain = task.has_seen.0;
+      many = task.has_seen.1 ∙ known;
+    }
+
+    pub each_run_on : AreTasks (IsTaskOn many table) scripts at_desks
+        → steps_in (map (λ (x : TaskAtDesk J M ScriptTask). x.desk) at_desks) ≡ length h
+        → receipts_in (map (λ (x : TaskAtDesk J M ScriptTask). x.desk) at_desks) ≡ (repository h).count
+        → AreRunOn J table scripts h counted all
+    each_run_on are steps receipts =
+        let starts = map has_task at_desks in
+        let desks_are : map (λ (s : RunState). s.tally) starts ≡ map (λ (x : TaskAtDesk J M ScriptTask). x.desk) at_desks = tallies_of at_desks in record {
+          starts = starts;
+          all_run = all_many ∙ tasks_many (IsTaskOn many table) scripts at_desks are;
+          all_started = length-map at_desks has_task ∙ tasks_many (IsTaskOn many table) scripts at_desks are;
+          all_counted = ap length left.desks_are ∙ length-map left.lefts (λ (l : TaskResult). l.0) ∙ lefts_many ∙ tasks_many (IsTaskOn many table) scripts at_desks are;
+          each = λ place script replies start tally at_script at_replies at_start at_tally.
+              let (at_desk, at_seat, task) = task_at (IsTaskOn many table) scripts at_desks place script are at_script in
+              let l = left_at place at_desk replies at_seat at_replies in
+              let start_is : has_task at_desk ≡ start =
+              same_Some (has_task at_desk) start (sym (ap (option_map has_task) at_seat) ∙ sym (slice_get-map has_task at_desks place) ∙ at_start) in
+              let tally_is : l.its.0 ≡ tally =
+              same_Some l.its.0 tally (sym (ap (option_map (λ (l : TaskResult). l.0)) l.at_place) ∙ sym (slice_get-map (λ (l : TaskResult). l.0) left.lefts place)
+              ∙ ap (λ xs. slice_get xs place) (sym left.desks_are) ∙ at_tally) in (
+                subst (IsBegunOn h) start_is (begun_on script at_desk task),
+                run_to J (arc_value at_desk.task.table.now) table at_desk.task.script.now script.items (has_task at_desk) start
+                    l.is_left.left.tally tally l.its.2 replies task.table_is task.script_is start_is (sym l.is_left.desk ∙ tally_is) l.replies_are l.is_left.is_left,
+              );
+          steps_before = ap steps_in desks_are ∙ steps;
+          receipts_before = ap receipts_in desks_are ∙ receipts;
+        }
 
 -- the last of a list of which each is so
 pub all_last : {X : Type 0} (P : X → Type 0) (xs : List X) (x : X) → All P (xs ++ x ∷ []) → P x × All P xs

@@ -7,6 +7,7 @@ use Rattle.filing_model.specs.Oim.Facts.{Table}
 use Rattle.filing_model.specs.Sessions.Repository.{Repository}
 use Rattle.line_io.specs.Lines.{lines_of, spoken, lines_text}
 use Rattle.line_io.proofs.TakenLines.{lines_text-append}
+use Rattle.filing_office.specs.Tallies.{Tally}
 use Rattle.filing_office.specs.Runs.{RunState, Runs, Learns}
 use Rattle.filing_office.specs.declared.outcome.Outcome.{Outcome}
 use Rattle.filing_office.proofs.LearntBetween.{IsAhead, not_ahead, runs_behind, runs_further, learns_ahead, learns_some_ahead}
@@ -15,7 +16,8 @@ use Rattle.filing_threads.specs.declared.replies.Ending.TheVariants.{Whole, Step
 use Rattle.filing_threads.specs.declared.replies.Replies.{Replies}
 use Rattle.filing_threads.specs.Batches.{AreBatch}
 use Rattle.filing_threads.specs.Telling.{replies_of}
-use Rattle.filing_threads.specs.ScriptRuns.{IsScriptRun, EndsSo}
+use Rattle.filing_threads.specs.ScriptRuns.{EndsSo}
+use Rattle.filing_threads.specs.FoundHistories.{IsScriptRunTo}
 use Rattle.filing_threads.specs.UnderWay.{IsUnderWay, TakesBatch, KeptBy}
 use Rattle.filing_threads.proofs.JudgedScripts.{judged_further, all_used, none_starved, replies_further, told_further, used_told, used_further}
 use Rattle.filing_threads.proofs.ToldReplies.{lines_of_none}
@@ -122,47 +124,60 @@ module _ {J : Type 0} (table : Table) (script rest : Text) (start now : RunState
         }
 
     -- a step for which memory was wanted is the last
-    pub stops : Taken false → (replies : Replies) → string_bytes replies.text ≡ text' → replies.ending ≡ StepStarved → IsScriptRun J table script start replies
-    stops takes replies is starved =
-        let (end, runs, ahead) = runs_on false takes in record {
-          lines = way.lines ++ read.lines;
-          later = spoken (lines_of rest');
-          parts = parts_further;
-          told = way.told ++ batch.told.items;
-          steps = way.steps ++ batch.steps.items;
-          judged = judged_further table way.lines read.lines way.told batch.told.items way.steps batch.steps.items way.judged read.judged;
-          outcomes = way.outcomes ++ takes.outcomes;
-          left = end;
-          runs = runs;
-          text = is ∙ text_further false takes;
-          ends = subst (λ e. EndsSo e (spoken (lines_of rest')) (way.told ++ batch.told.items) (way.outcomes ++ takes.outcomes)) (sym starved)
-              (told_further way.told batch.told.items way.outcomes takes.outcomes way.used ∙ sym takes.whole_is);
+    pub stops : Taken false → (replies : Replies) → string_bytes replies.text ≡ text' → replies.ending ≡ StepStarved
+        → (counted : Tally) → counted ≡ t.tally → IsScriptRunTo J table script start counted replies
+    stops takes replies is starved counted same =
+        let (end, runs, ahead) = runs_on false takes in
+        let (result, learns, kept_is) = takes.lets_go in
+        let gone = let_go end takes.mid t way.gone (kept ++ takes.outcomes) kept' ahead result learns kept_is in record {
+          run = record {
+            lines = way.lines ++ read.lines;
+            later = spoken (lines_of rest');
+            parts = parts_further;
+            told = way.told ++ batch.told.items;
+            steps = way.steps ++ batch.steps.items;
+            judged = judged_further table way.lines read.lines way.told batch.told.items way.steps batch.steps.items way.judged read.judged;
+            outcomes = way.outcomes ++ takes.outcomes;
+            left = end;
+            runs = runs;
+            text = is ∙ text_further false takes;
+            ends = subst (λ e. EndsSo e (spoken (lines_of rest')) (way.told ++ batch.told.items) (way.outcomes ++ takes.outcomes)) (sym starved)
+                (told_further way.told batch.told.items way.outcomes takes.outcomes way.used ∙ sym takes.whole_is);
+          };
+          counts = sym (same ∙ gone.ahead.tally);
         }
 
-  abbrev run_of : (replies : Replies) → string_bytes replies.text ≡ text → EndsSo replies.ending (spoken (lines_of rest)) way.told way.outcomes
-      → IsScriptRun J table script start replies
-  run_of replies is ends = record {
-    lines = way.lines;
-    later = spoken (lines_of rest);
-    parts = way.parts;
-    told = way.told;
-    steps = way.steps;
-    judged = way.judged;
-    outcomes = way.outcomes;
-    left = way.left;
-    runs = way.runs;
-    text = is ∙ way.text_is;
-    ends = ends;
+  run_of : (replies : Replies) → string_bytes replies.text ≡ text → EndsSo replies.ending (spoken (lines_of rest)) way.told way.outcomes
+      → (counted : Tally) → counted ≡ now.tally → IsScriptRunTo J table script start counted replies
+  run_of replies is ends counted same = record {
+    run = record {
+      lines = way.lines;
+      later = spoken (lines_of rest);
+      parts = way.parts;
+      told = way.told;
+      steps = way.steps;
+      judged = way.judged;
+      outcomes = way.outcomes;
+      left = way.left;
+      runs = way.runs;
+      text = is ∙ way.text_is;
+      ends = ends;
+    };
+    counts = sym (same ∙ way.ahead.tally);
   }
 
   -- no line is left
-  pub ends_whole : spoken (lines_of rest) ≡ [] → (replies : Replies) → string_bytes replies.text ≡ text → replies.ending ≡ Whole → IsScriptRun J table script start replies
-  ends_whole none replies is whole =
+  pub ends_whole : spoken (lines_of rest) ≡ [] → (replies : Replies) → string_bytes replies.text ≡ text → replies.ending ≡ Whole
+      → (counted : Tally) → counted ≡ now.tally → IsScriptRunTo J table script start counted replies
+  ends_whole none replies is whole counted same =
       run_of replies is
       (subst (λ e. EndsSo e (spoken (lines_of rest)) way.told way.outcomes) (sym whole) (none, used_told way.told way.outcomes way.used))
+      counted same
 
   -- memory was wanted while the next lines were classified
-  pub ends_starved : (replies : Replies) → string_bytes replies.text ≡ text → replies.ending ≡ LineStarved → IsScriptRun J table script start replies
-  ends_starved replies is starved =
+  pub ends_starved : (replies : Replies) → string_bytes replies.text ≡ text → replies.ending ≡ LineStarved
+      → (counted : Tally) → counted ≡ now.tally → IsScriptRunTo J table script start counted replies
+  ends_starved replies is starved counted same =
       run_of replies is
       (subst (λ e. EndsSo e (spoken (lines_of rest)) way.told way.outcomes) (sym starved) (used_told way.told way.outcomes way.used))
+      counted same

@@ -7,20 +7,37 @@
 //! - `written`: writes that, one script after the other, once all have ended.
 //! - `watch`: is told of each step, for whoever waits, and is given what is left at the end.
 //! - `threads`: the whole.
+//! - `entries`: entries of histories, and their lines.
+//! - `retaking`: takes the entries of a history again, at a desk.
+//! - `on_history`: opens an office that begins so, and runs each script.
+//! - `from_history`: the whole, on a history.
+//! - `keeping`: puts the lines of entries into a journal.
+//! - `nesting`: which lines nest too deep.
+//! - `journaled`: the whole, with a journal.
 //! - `fault`: why scripts did not run to their ends.
 //!
-//! Classifying, reviews and putting replies together need no lock: under that of the office are steps, and what a desk notes between two of them. It knows nothing of how a step is answered, of files, or of a history.
+//! Classifying, reviews and putting replies together need no lock: under that of the office are steps, and what a desk notes between two of them. It knows nothing of how a step is answered, of files, or of how a line of a history is written.
 #![tactic(auto)]
 
 mod batch;
+mod entries;
 mod fault;
+mod from_history;
+mod journaled;
+mod keeping;
+mod nesting;
 mod office;
+mod on_history;
 mod replies;
+mod retaking;
 mod script_task;
 mod threads;
 mod watch;
 mod written;
 
 pub use fault::ThreadsFault;
+pub use from_history::{ThreadsOnHistory, run_threads_on_history};
+pub use journaled::{JournaledThreads, run_threads_with_journal};
+pub use nesting::is_too_deep;
 pub use threads::{run_threads, run_threads_watched};
 pub use watch::{Unwatched, Watch};

@@ -4,7 +4,7 @@ ghost use Rattle.std.specs.Prelude.{◌≡◌, List, IfOk, OnOk, string_bytes};
 ghost use Rattle.std.specs.Arc.{arc_value};
 ghost use Rattle.filing_office.specs.declared.outcome.Outcome.{Outcome as Told};
 ghost use Rattle.filing_office.specs.Runs.{IsLearnt};
-ghost use Rattle.filing_threads.specs.ScriptRuns.{IsScriptRun};
+ghost use Rattle.filing_threads.specs.FoundHistories.{IsScriptRunTo};
 ghost use Rattle.filing_threads.specs.UnderWay.{LetsGo, TakesBatch};
 
 use crate::batch::Batch;
@@ -78,7 +78,8 @@ fn take_lines<L: Ledger + Naming, M: Ledger, A: Access<L, M>, G: Gate>(
     named_desk: &mut NamedDesk<L, M>,
 ) -> Result<Replies, AllocError>
     requires { (told : List (Told L)) → IsLearnt named_desk.old told }
-    ensures { IfOk result (IsScriptRun L (arc_value table.now) script.now named_desk.old.state) }
+    ensures { IfOk result (IsScriptRunTo L (arc_value table.now) script.now named_desk.old.state
+        named_desk.new.state.tally) }
 {
     let mut outcomes = Vec::new(alloc);
     let mut text = String::new(alloc);
@@ -110,10 +111,10 @@ impl<'a, L: Ledger + Naming, M: Ledger> DeskTask<L, M, Result<Replies, AllocErro
     for ScriptTask<'a> {
     ghost use Rattle.std.specs.Prelude.{IfOk};
     ghost use Rattle.std.specs.Arc.{arc_value};
-    ghost use Rattle.filing_threads.specs.ScriptRuns.{IsScriptRun};
+    ghost use Rattle.filing_threads.specs.FoundHistories.{IsScriptRunTo};
 
     ghost leaves = { λ task s t replies.
-        IfOk replies (IsScriptRun L (arc_value task.table.now) task.script.now s) };
+        IfOk replies (IsScriptRunTo L (arc_value task.table.now) task.script.now s t.tally) };
 
     fn run<A: Access<L, M>, G: Gate>(
         self,

@@ -3,7 +3,7 @@ use Rattle.std.specs.Arc.{arc_value}
 use Rattle.filing_model.specs.Sessions.Repository.{nothing}
 use Rattle.filing_model.specs.Common.TextMap.{empty}
 use Rattle.filing_office.specs.Tallies.{nothing_taken}
-use Rattle.filing_threads.specs.Tasks.{AreTasks}
+use Rattle.filing_threads.specs.Tasks.{AreTasks, IsTaskOf}
 use Rattle.filing_threads.proofs.ScriptTasks.{all_last, seats_taken}
 use Rattle.filing_threads.proofs.office.tasks_of.Goals as goal
 
@@ -19,8 +19,8 @@ loop-script-preserved g c =
       desks.1,
       omega (arith, so_far.2, c.in-Some-pop.ensures.cases),
       reviewers.1,
-      subst (λ at_desks. AreTasks table (take (c.loop-script.script-index + 1) c.args.scripts.now) at_desks) (sym c.in_ok-push.ensures.items)
-          (seats_taken table c.args.scripts.now c.loop-script.script-index c.loop-script.at_desks.items c.script-item.result _
+      subst (λ at_desks. AreTasks (IsTaskOf table) (take (c.loop-script.script-index + 1) c.args.scripts.now) at_desks) (sym c.in_ok-push.ensures.items)
+          (seats_taken (IsTaskOf table) c.args.scripts.now c.loop-script.script-index c.loop-script.at_desks.items c.script-item.result _
           c.loop-script-test.true c.script-item.is so_far.4
           (record {
             script_is = c.as_slice.ensures.value;

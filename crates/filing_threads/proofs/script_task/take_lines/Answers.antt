@@ -2,6 +2,7 @@ use Rattle.std.proofs.Common.{◌≡◌, ap, sym, subst, Bool, [], string_bytes}
 use Rattle.std.specs.Prelude.{MatchOption}
 use Rattle.std.specs.Arc.{arc_value}
 use Rattle.line_io.specs.Lines.{lines_of, spoken}
+use Rattle.filing_office.specs.Runs.{NamedDeskState}
 use Rattle.filing_threads.specs.Batches.{AreBatch}
 use Rattle.filing_threads.specs.UnderWay.{IsUnderWay, TakesBatch}
 use Rattle.filing_threads.proofs.UnderWay.{begins, goes_on, stops, ends_whole, ends_starved}
@@ -44,12 +45,16 @@ returns g c =
     let kept = c.loop-read.outcomes.items in
     let text = string_bytes c.loop-read.text in
     let way = c.loop-read.invariant.1 in
+    let counted = c.match-read.named_desk.state.tally in
     elim c.match-read.branch [
-      | in_default w ↦ ends_starved table script rest start now kept text way _ (ap string_bytes w.text-is) w.ending-is
+      | in_default w ↦
+          ends_starved table script rest start now kept text way _ (ap string_bytes w.text-is) w.ending-is
+          counted (ap (λ (d : NamedDeskState). d.state.tally) w.named_desk-is)
       | in-Ok+in_default-read w ↦
           let none : spoken (lines_of rest) ≡ [] =
           subst (λ o. MatchOption o (spoken (lines_of rest) ≡ []) (λ b. AreBatch table rest b.1.now b.0)) w.in_default-read.is w.in-Ok.ensures in
           ends_whole table script rest start now kept text way none _ (ap string_bytes w.text-is) w.ending-is
+          counted (ap (λ (d : NamedDeskState). d.state.tally) w.named_desk-is)
       | in-Ok+in-Some+in_ok-take_batch+then-not-branch w ↦
           let read : AreBatch table rest w.in-Some.others.now w.in-Some.batch =
           subst (λ o. MatchOption o (spoken (lines_of rest) ≡ []) (λ b. AreBatch table rest b.1.now b.0)) w.in-Some.is w.in-Ok.ensures in
@@ -58,4 +63,5 @@ returns g c =
           (subst (λ (whole : Bool). TakesBatch w.in-Some.batch.told.items w.in-Some.batch.steps.items now w.take_batch.new.named_desk.state kept
           w.take_batch.new.outcomes.items text (string_bytes w.take_batch.new.text) whole) w.if-not-branch.true w.in_ok-take_batch.ensures.taken)
           _ (ap string_bytes w.text-is) w.ending-is
+          counted (ap (λ (d : NamedDeskState). d.state.tally) w.named_desk-is)
     ]
