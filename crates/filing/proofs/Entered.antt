@@ -33,10 +33,13 @@ pub files_of_check : (entered : Option (Text × List Row)) (name : Text) (rows :
 files_of_check entered name rows table file is named table_read file_read = rw (is, named, table_read, ← file_read) refl
 
 -- the files of scripts that were entered
-pub files_of_threads : (entered : Option (Text × List Row)) (name : Text) (rows : List Row) (table : Option Text) (files : List Text)
+pub files_of_threads : (entered : Option (Text × List Row)) (name : Text) (rows : List Row) (table file begun journal : Option Text) (files : List Text)
     → entered ≡ Some (name, rows) → name ≡ codes "threads" → table ≡ first_of (codes "numeric") rows
-    → Some files ≡ all_of (codes "scripts") rows → asked entered ≡ Some (ToThread table files)
-files_of_threads entered name rows table files is named table_read files_read = rw (is, named, table_read, ← files_read) refl
+    → file ≡ first_of (codes "history") rows → begun ≡ first_of (codes "from") rows → journal ≡ first_of (codes "journal") rows
+    → Some files ≡ all_of (codes "scripts") rows
+    → asked entered ≡ Some (ToThread (record { numeric_file = table; history_file = file; begun_file = begun; journal_file = journal; script_files = files }))
+files_of_threads entered name rows table file begun journal files is named table_read file_read begun_read journal_read files_read =
+    rw (is, named, table_read, file_read, begun_read, journal_read, ← files_read) refl
 
 -- the words of refusals that were entered
 pub refusals_entered : (entered : Option (Text × List Row)) (name : Text) (rows : List Row)
@@ -48,7 +51,7 @@ pub asks_command : (words : List Text) (r : Result Invocation Fault) → fault_o
     → IfOk r (IsOrdered (subcommand_of program words)) → IfOk r (Asks words)
 asks_command words (Ok (Run given)) none ordered = (none, ordered)
 asks_command words (Ok (Check table file)) none ordered = (none, ordered)
-asks_command words (Ok (Threads table files)) none ordered = (none, ordered)
+asks_command words (Ok (Threads given)) none ordered = (none, ordered)
 asks_command words (Ok Explain) none ordered = (none, ordered)
 asks_command words (Ok Shown) none ordered = absurd ordered
 asks_command words (Err fault) none ordered = tt
@@ -74,7 +77,7 @@ pub asks_shown : (words : List Text) (kind : ErrorKind) (r : Result Invocation F
     → IfOk r (λ o. o ≡ Shown) → IfOk r (λ _. (kind ≡ DisplayHelp) ⊎ (kind ≡ DisplayVersion)) → IfOk r (Asks words)
 asks_shown words kind (Ok (Run given)) passes fails shown help = cc
 asks_shown words kind (Ok (Check table file)) passes fails shown help = cc
-asks_shown words kind (Ok (Threads table files)) passes fails shown help = cc
+asks_shown words kind (Ok (Threads given)) passes fails shown help = cc
 asks_shown words kind (Ok Explain) passes fails shown help = cc
 asks_shown words kind (Ok Shown) passes fails shown help =
     (not_taken kind (takes program words) passes help, answered words kind help fails)

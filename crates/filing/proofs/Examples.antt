@@ -14,6 +14,11 @@ abbrev running : Option Text → Option Text → Option Text → Option Text →
 running table file begun journal waits =
     Some (ToRun (record { numeric_file = table; history_file = file; begun_file = begun; journal_file = journal; waits = waits }))
 
+-- of `threads`
+abbrev threading : Option Text → Option Text → Option Text → Option Text → List Text → Option Asked
+threading table file begun journal scripts =
+    Some (ToThread (record { numeric_file = table; history_file = file; begun_file = begun; journal_file = journal; script_files = scripts }))
+
 abbrev is_taken : List Text → Bool
 is_taken words = takes program (codes "filing" ∷ words)
 
@@ -127,7 +132,7 @@ unfolding clap_on_literals program run check threads words numeric history from 
 two_judged = refl
 
 -- `filing threads a b`
-two_scripts : asked_by (codes "threads" ∷ codes "a" ∷ codes "b" ∷ []) ≡ Some (ToThread None (codes "a" ∷ codes "b" ∷ []))
+two_scripts : asked_by (codes "threads" ∷ codes "a" ∷ codes "b" ∷ []) ≡ threading None None None None (codes "a" ∷ codes "b" ∷ [])
 unfolding clap_on_literals program run check threads words numeric history from journal every_reply judged scripts
 two_scripts = refl
 
@@ -137,9 +142,15 @@ two_scripts_taken = refl
 
 -- `filing threads --numeric t.txt a`
 scripts_by_table : asked_by (codes "threads" ∷ codes "--numeric" ∷ codes "t.txt" ∷ codes "a" ∷ [])
-    ≡ Some (ToThread (Some (codes "t.txt")) (codes "a" ∷ []))
+    ≡ threading (Some (codes "t.txt")) None None None (codes "a" ∷ [])
 unfolding clap_on_literals program run check threads words numeric history from journal every_reply judged scripts
 scripts_by_table = refl
+
+-- `filing threads --journal j.jsonl a b`
+threads_with_journal : asked_by (codes "threads" ∷ codes "--journal" ∷ codes "j.jsonl" ∷ codes "a" ∷ codes "b" ∷ [])
+    ≡ threading None None None (Some (codes "j.jsonl")) (codes "a" ∷ codes "b" ∷ [])
+unfolding clap_on_literals program run check threads words numeric history from journal every_reply judged scripts
+threads_with_journal = refl
 
 -- `filing threads`
 no_script : is_taken (codes "threads" ∷ []) ≡ false

@@ -3,7 +3,8 @@ use Rattle.std.specs.Prelude.{◌≡◌, ℕ, Bool, false, List, reverse}
 use Rattle.std.specs.declared.option.Option.{Option}
 use Rattle.std.specs.Io.KnownBytes.{Consumes, Appends, IsAtEnd}
 use Rattle.filing_model.specs.Oim.Facts.{Table}
-use Rattle.filing_model.specs.Histories.History.{History}
+use Rattle.filing_model.specs.Histories.History.{Entry, History}
+use Rattle.filing_model.specs.Histories.Lawful.{IsLawful}
 use Rattle.line_io.specs.Lines.{lines_of, spoken}
 use Rattle.journal.specs.Lines.{recovered}
 use Rattle.journal.specs.Standing.{IsKept, device_of, has_stopped}
@@ -12,11 +13,19 @@ use Rattle.history_format.specs.LinesRead.{AreLawful, LinesDepart, entries_on}
 use Rattle.filing_core.specs.Engines.{EngineState, IsEngineOf}
 use Rattle.filing_core.specs.Verdicts.{departure}
 use Rattle.filing_core.specs.declared.verdict.Verdict.{Verdict}
-use Rattle.filing_cli.specs.Entered.{journal_text}
+use Rattle.filing_threads.specs.JournalLines.{journal_text}
 use Rattle.filing_cli.specs.HistoryRun.{verdict_text, verdict_status}
 use Rattle.filing_cli.specs.Recorded.{HasLines}
 use Rattle.filing_cli.specs.Resumed.{history_on, output_on}
 use Rattle.filing_cli.specs.declared.entry_file.EntryFile.{EntryFile}
+
+-- a journal is kept and goes on, and its lines are those of these entries, which are a lawful history
+pub record HasEntries {D : Type 0} (seen : D → List ℕ) (may_leave : D → List ℕ → Type 0) (has_failed : D → Bool)
+    (entries : List Entry) (journal : Journal D) : Type 0 where
+  pub kept : IsKept seen may_leave has_failed journal
+  pub goes_on : has_stopped journal ≡ false
+  pub lawful : IsLawful (reverse entries)
+  pub lines : recovered (seen (device_of journal)) ≡ journal_text (reverse entries)
 
 -- the reader was read to its end, the output of the script that it gave, from a history on, is what was written and nothing else, as far as the bytes of either are known, and this is what the script made of the history
 pub record WritesOn (table : Table) (h : History) (rest rest' written written' : Option (List ℕ)) (after : History)

@@ -6,6 +6,7 @@ use Rattle.clap.specs.Words.{App, Row, Rule, Text, IsAmong, all_of, fault_of, fi
 use Rattle.clap.specs.declared.builder.action.ArgAction.TheVariants.{Append, Set, SetTrue}
 use Rattle.clap.specs.declared.error.kind.ErrorKind.TheVariants.{DisplayHelp, DisplayVersion}
 use Rattle.filing.specs.declared.words.RunWords.{RunWords}
+use Rattle.filing.specs.declared.words.ThreadsWords.{ThreadsWords}
 use Rattle.filing.specs.declared.words.Invocation.{Invocation}
 use Rattle.filing.specs.declared.words.Invocation.TheVariants.{Run, Check, Threads, Explain, Shown}
 
@@ -74,7 +75,7 @@ check = with_rule (with_rule (new_app (codes "check")) numeric) judged
 
 -- the command `threads`
 unfoldable pub threads : App
-threads = with_rule (with_rule (new_app (codes "threads")) numeric) scripts
+threads = with_rule (with_rule (with_rule (with_rule (with_rule (new_app (codes "threads")) numeric) scripts) history) from) journal
 
 -- the command `words`
 unfoldable pub words : App
@@ -96,12 +97,20 @@ pub record RunAsked : Type 0 where
   pub journal_file : Option Text
   pub waits : Bool
 
--- a run; or the history of a file that is to be judged by the numeric table of another, or by none; or the scripts of some
--- files, in their order, that are to be run in threads by such a table; or the words by which lines are refused
+-- what threads are given: such files, and those of the scripts in their order
+pub record ThreadsAsked : Type 0 where
+  pub numeric_file : Option Text
+  pub history_file : Option Text
+  pub begun_file : Option Text
+  pub journal_file : Option Text
+  pub script_files : List Text
+
+-- a run; or the history of a file that is to be judged by the numeric table of another, or by none; or scripts in threads; or
+-- the words by which lines are refused
 pub data Asked : Type 0 where
   ToRun : RunAsked → Asked
   ToCheck : Option Text → Text → Asked
-  ToThread : Option Text → List Text → Asked
+  ToThread : ThreadsAsked → Asked
   ToExplain : Asked
 
 -- whether the value of a flag says that it was given
@@ -122,7 +131,13 @@ abbrev pub check_asked : List Row → Option Asked
 check_asked rows = option_map (ToCheck (first_of (codes "numeric") rows)) (first_of (codes "judged") rows)
 
 abbrev pub threads_asked : List Row → Option Asked
-threads_asked rows = option_map (ToThread (first_of (codes "numeric") rows)) (all_of (codes "scripts") rows)
+threads_asked rows = option_map (λ files. ToThread (record {
+  numeric_file = first_of (codes "numeric") rows;
+  history_file = first_of (codes "history") rows;
+  begun_file = first_of (codes "from") rows;
+  journal_file = first_of (codes "journal") rows;
+  script_files = files;
+})) (all_of (codes "scripts") rows)
 
 -- what the command that was entered asks for
 abbrev pub asked : Option (Text × List Row) → Option Asked
@@ -143,12 +158,21 @@ run_of given = record {
   waits = given.every_reply;
 }
 
+-- and those of threads
+abbrev pub threads_of : ThreadsWords → ThreadsAsked
+threads_of given = record {
+  numeric_file = option_map (λ s. s.now) given.numeric;
+  history_file = option_map (λ s. s.now) given.history;
+  begun_file = option_map (λ s. s.now) given.from;
+  journal_file = option_map (λ s. s.now) given.journal;
+  script_files = map (λ s. s.now) given.scripts.items;
+}
+
 -- the invocation is what was asked for
 abbrev pub IsOrdered : Option (Text × List Row) → Invocation → Type 0
 IsOrdered entered (Run given) = asked entered ≡ Some (ToRun (run_of given))
 IsOrdered entered (Check table file) = asked entered ≡ Some (ToCheck (option_map (λ s. s.now) table) file.now)
-IsOrdered entered (Threads table files) =
-    asked entered ≡ Some (ToThread (option_map (λ s. s.now) table) (map (λ s. s.now) files.items))
+IsOrdered entered (Threads given) = asked entered ≡ Some (ToThread (threads_of given))
 IsOrdered entered Explain = asked entered ≡ Some ToExplain
 IsOrdered entered Shown = ⊥
 
@@ -157,8 +181,7 @@ abbrev pub Asks : List Text → Invocation → Type 0
 Asks words (Run given) = (fault_of program words ≡ []) × IsOrdered (subcommand_of program words) (Run given)
 Asks words (Check table file) = (fault_of program words ≡ [])
     × IsOrdered (subcommand_of program words) (Check table file)
-Asks words (Threads table files) = (fault_of program words ≡ [])
-    × IsOrdered (subcommand_of program words) (Threads table files)
+Asks words (Threads given) = (fault_of program words ≡ []) × IsOrdered (subcommand_of program words) (Threads given)
 Asks words Explain = (fault_of program words ≡ []) × IsOrdered (subcommand_of program words) Explain
 Asks words Shown = (takes program words ≡ false)
     × (IsAmong DisplayHelp (fault_of program words) ⊎ IsAmong DisplayVersion (fault_of program words))

@@ -131,7 +131,12 @@ replies are those of `filing run --help`, but
 
 Which script's step comes first is not said. The replies come script by script,
 in the order of the files:
-  filing threads --numeric concepts.txt load.jsonl anna.jsonl ben.jsonl"#;
+  filing threads --numeric concepts.txt load.jsonl anna.jsonl ben.jsonl
+
+With --journal the scripts go on from a journal, and what they made is in it
+before the first reply is written. With --from they go on from a history, which
+stays as it is, and with --history the whole history is written to a file once
+they have ended."#;
 
 /// Every word by which a line is refused.
 pub(crate) const REFUSALS: &str = r#"A line of a script is refused by

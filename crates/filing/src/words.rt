@@ -26,6 +26,21 @@ pub(crate) struct RunWords<'a> {
     pub(crate) every_reply: bool,
 }
 
+/// What `threads` was given.
+#[derive(Drop)]
+pub(crate) struct ThreadsWords<'a> {
+    /// The file of a numeric table.
+    pub(crate) numeric: Option<&'a str>,
+    /// The file to which the history goes.
+    pub(crate) history: Option<&'a str>,
+    /// The file of a history to go on from.
+    pub(crate) from: Option<&'a str>,
+    /// The file of a journal.
+    pub(crate) journal: Option<&'a str>,
+    /// The files of the scripts, in their order.
+    pub(crate) scripts: Vec<&'a str>,
+}
+
 /// What the words of the command line ask for.
 #[derive(Drop)]
 pub(crate) enum Invocation<'a> {
@@ -36,11 +51,8 @@ pub(crate) enum Invocation<'a> {
         numeric: Option<&'a str>,
         history: &'a str,
     },
-    /// Run the scripts in some files, each in a thread of its own, by the numeric table of a file, if one is named.
-    Threads {
-        numeric: Option<&'a str>,
-        scripts: Vec<&'a str>,
-    },
+    /// Run the scripts in some files, each in a thread of its own.
+    Threads(ThreadsWords<'a>),
     /// Tell the words by which lines are refused.
     Explain,
     /// Help or the version was asked for, and it was shown.
@@ -189,7 +201,10 @@ fn threads_command<'a>(alloc: Global) -> Result<Command<'a>, AllocError>
     ensures { IfOk result (λ c. app_of c ≡ threads) }
 {
     let about = "Runs scripts of JSON lines from files, each in its own thread";
-    command_of(alloc, "threads", about, THREADS, scripts_argument(alloc))
+    command_of(alloc, "threads", about, THREADS, scripts_argument(alloc))?
+        .arg(history_option(alloc))?
+        .arg(from_option(alloc))?
+        .arg(journal_option(alloc))
 }
 
 /// The command that tells the words of refusals.
@@ -263,10 +278,13 @@ fn ordered<'a>(alloc: Global, matches: &ArgMatches<'a>) -> Result<Invocation<'a>
             None => Err(Fault::Words),
         },
         Some(("threads", threads)) => match threads.get_strs("scripts") {
-            Some(scripts) => Ok(Invocation::Threads {
+            Some(scripts) => Ok(Invocation::Threads(ThreadsWords {
                 numeric: threads.get_str("numeric"),
+                history: threads.get_str("history"),
+                from: threads.get_str("from"),
+                journal: threads.get_str("journal"),
                 scripts: scripts.to_vec(alloc)?,
-            }),
+            })),
             None => Err(Fault::Words),
         },
         Some(("words", _)) => Ok(Invocation::Explain),

@@ -41,10 +41,16 @@ returns-in_ok-to_vec-in-Some-get_strs c =
     let kept = c.in_ok-to_vec-in-Some-get_strs in
     files_of_threads (subcommand_rows_of c.args.matches.now) met.field-0-0.now (rows_of found)
     (option_map (λ s. s.now) c.get_str-in-Some-get_strs.result)
+    (option_map (λ s. s.now) c.get_str-in-Some-get_strs-2.result)
+    (option_map (λ s. s.now) c.get_str-in-Some-get_strs-3.result)
+    (option_map (λ s. s.now) c.get_str-in-Some-get_strs-4.result)
     (map (λ s. s.now) kept.field-0.items)
     (both_read _ _ _ _ _ (sym met.ensures.name) (sym met.ensures.rows))
     met.is-threads
     (c.get_str-in-Some-get_strs.ensures ∙ first_value-rows found (codes "numeric"))
+    (c.get_str-in-Some-get_strs-2.ensures ∙ first_value-rows found (codes "history"))
+    (c.get_str-in-Some-get_strs-3.ensures ∙ first_value-rows found (codes "from"))
+    (c.get_str-in-Some-get_strs-4.ensures ∙ first_value-rows found (codes "journal"))
     (ap (λ (l : List (Bor (List ℕ))). Some (map (λ (s : Bor (List ℕ)). s.now) l)) (kept.ensures.items_if_clones_equal (λ x y h. h))
     ∙ c.in-Some-get_strs.ensures ∙ raw_values-rows found (codes "scripts"))
 
