@@ -1,0 +1,3 @@
+-- ---- the words of refusals
+pub mod RefusalWords
+pub mod RefusalTexts

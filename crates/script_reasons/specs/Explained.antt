@@ -1,0 +1,15 @@
+-- What the reasons of a refused line are. The project's own.
+use Rattle.std.specs.Prelude.{◌≡◌, ℕ, ◌+◌, ◌<◌, ◌≤◌, length, IfSome}
+use Rattle.filing_model.specs.Common.Text.{Text}
+use Rattle.script_reasons.specs.declared.reasons.Reasons.{Reasons}
+
+-- a column of this line, or the one behind it, from 1
+abbrev pub IsColumnOf : Text → ℕ → Type 0
+IsColumnOf line column = (0 < column) × (column ≤ length line + 1)
+
+-- some reasons of this line under this number: one at least and 100 at most, with a column of the line if with one
+pub record AreReasonsOf (number : ℕ) (line : Text) (r : Reasons) : Type 0 where
+  pub same : r.number ≡ number
+  pub some : 0 < length r.reasons.items
+  pub few : length r.reasons.items ≤ 100
+  pub within : IfSome r.column (IsColumnOf line)

@@ -1,0 +1,122 @@
+//! `Refusal`: the words of replies by which lines are refused.
+
+ghost use Rattle.std.specs.Prelude.{◌≡◌, IfOk, IfSome};
+ghost use Rattle.script_reasons.specs.Refusals.{is_removal, refusal_in, refusal_of_word, refusal_word, word_of};
+
+use filing_model::is_same_text;
+use oim_report::json_value;
+use script_format::text_at;
+use std::alloc::{AllocError, Global};
+
+/// What a refused line is told, by the word of its reply.
+#[derive(Clone, Copy, Debug, PartialEq, Eq)]
+pub enum Refusal {
+    BadLine,
+    BadReport,
+    BadFact,
+    NameTaken,
+    Disallowed,
+    NameInUse,
+    NoSession,
+    NoReport,
+    ReadOnly,
+    Taken,
+    Conflict,
+    /// `none`, to a line that removes a fact.
+    NotThere,
+}
+
+impl Refusal {
+    /// The word of the reply.
+    pub fn word(self) -> &'static str
+        ensures { result.now ≡ refusal_word self }
+    {
+        match self {
+            Refusal::BadLine => "bad-line",
+            Refusal::BadReport => "bad-report",
+            Refusal::BadFact => "bad-fact",
+            Refusal::NameTaken => "name-taken",
+            Refusal::Disallowed => "disallowed",
+            Refusal::NameInUse => "name-in-use",
+            Refusal::NoSession => "no-session",
+            Refusal::NoReport => "no-report",
+            Refusal::ReadOnly => "read-only",
+            Refusal::Taken => "taken",
+            Refusal::Conflict => "conflict",
+            Refusal::NotThere => "none",
+        }
+    }
+}
+
+/// What stands between the first two quotes of a reply.
+fn word_of(reply: &str) -> &str
+    ensures { result.now ≡ word_of reply.now }
+{
+    let Some((_, rest)) = reply.split_once('"') else {
+        return "";
+    };
+    match rest.split_once('"') {
+        Some((word, _)) => word,
+        None => rest,
+    }
+}
+
+/// The refusal that a word tells whatever the line is; none where it answers.
+fn refusal_of_word(word: &str) -> Option<Refusal>
+    ensures { result ≡ refusal_of_word word.now }
+{
+    if is_same_text(word, "bad-line") {
+        Some(Refusal::BadLine)
+    } else if is_same_text(word, "bad-report") {
+        Some(Refusal::BadReport)
+    } else if is_same_text(word, "bad-fact") {
+        Some(Refusal::BadFact)
+    } else if is_same_text(word, "name-taken") {
+        Some(Refusal::NameTaken)
+    } else if is_same_text(word, "disallowed") {
+        Some(Refusal::Disallowed)
+    } else if is_same_text(word, "name-in-use") {
+        Some(Refusal::NameInUse)
+    } else if is_same_text(word, "no-session") {
+        Some(Refusal::NoSession)
+    } else if is_same_text(word, "no-report") {
+        Some(Refusal::NoReport)
+    } else if is_same_text(word, "read-only") {
+        Some(Refusal::ReadOnly)
+    } else if is_same_text(word, "taken") {
+        Some(Refusal::Taken)
+    } else if is_same_text(word, "conflict") {
+        Some(Refusal::Conflict)
+    } else {
+        None
+    }
+}
+
+/// Whether a line stages that a fact goes, by its first text.
+fn is_removal(alloc: Global, line: &[u8]) -> Result<bool, AllocError>
+    ensures { IfOk result (λ b. b ≡ is_removal line.now) }
+{
+    let Some(value) = json_value(alloc, line)? else {
+        return Ok(false);
+    };
+    match text_at(&value, 0) {
+        Some(word) => Ok(is_same_text(word, "remove")),
+        None => Ok(false),
+    }
+}
+
+/// The refusal of a line by its reply; none where the reply answers it. That there is no fact refuses a removal, and answers any other line.
+pub fn refusal_in(alloc: Global, line: &[u8], reply: &str) -> Result<Option<Refusal>, AllocError>
+    ensures refusal { IfOk result (λ o. o ≡ refusal_in line.now reply.now) }
+    ensures word { IfOk result (λ o. IfSome o (λ r. refusal_word r ≡ word_of reply.now)) }
+{
+    let word = word_of(reply);
+    if !is_same_text(word, "none") {
+        return Ok(refusal_of_word(word));
+    }
+    if is_removal(alloc, line)? {
+        Ok(Some(Refusal::NotThere))
+    } else {
+        Ok(None)
+    }
+}
