@@ -1,0 +1,125 @@
+//! What is wrong with a report: all of it, first what the reply tells.
+
+use crate::facts::fact_faults;
+use crate::fits::fit_faults;
+use crate::gathered::Gathered;
+use crate::info::info_faults;
+use crate::json_fault::{JsonFault, json_fault};
+use crate::shown::kind_of;
+use crate::told::Told;
+use filing_model::{DimFault, Trouble};
+use oim_fact::{Names, NumericTable, fit};
+use oim_report::{json_value, raw_fact};
+use serde_json::{Map, Value};
+use std::alloc::{AllocError, Global};
+use std::sync::Arc;
+
+/// What is wrong with a fact of a report, as it is read and by these names, where they are in order.
+fn told_of_fact(alloc: Global, names: &Option<Names>, fact: &Value) -> Result<Told, AllocError> {
+    let mut told = Told::new(alloc);
+    let raw = match raw_fact(alloc, fact) {
+        Ok(raw) => raw,
+        Err(Trouble::NoMemory | Trouble::Dims(DimFault::NoMemory)) => return Err(AllocError),
+        Err(_) => {
+            fact_faults(alloc, &mut told, fact)?;
+            return Ok(told);
+        }
+    };
+    if let Some(names) = names {
+        if let Err(fault) = fit(names, raw) {
+            fit_faults(alloc, &mut told, names, fault, fact)?;
+        }
+    }
+    Ok(told)
+}
+
+/// Gathers what is wrong with each fact, in byte order of the identifiers.
+fn gather_facts(
+    alloc: Global,
+    gathered: &mut Gathered,
+    names: &Option<Names>,
+    members: &Map<String, Value>,
+) -> Result<(), AllocError> {
+    for (id, fact) in members {
+        gathered.add(alloc, Some(id.as_str()), told_of_fact(alloc, names, fact)?)?;
+    }
+    Ok(())
+}
+
+/// What is wrong with the facts of a report as a whole.
+fn told_of_facts(alloc: Global, facts: &Value) -> Result<Told, AllocError> {
+    let mut told = Told::new(alloc);
+    let kind = kind_of(facts);
+    told.tell(format!(in alloc; "\"facts\" is {kind}, not an object")?)?;
+    Ok(told)
+}
+
+/// Gathers all that is wrong with a report that is JSON.
+fn gather_report(
+    alloc: Global,
+    gathered: &mut Gathered,
+    report: &Value,
+    table: &Arc<NumericTable>,
+) -> Result<(), AllocError> {
+    let mut told = Told::new(alloc);
+    let names = info_faults(alloc, &mut told, report, table)?;
+    gathered.add(alloc, None, told)?;
+    match report.get("facts") {
+        None => Ok(()),
+        Some(Value::Object(members)) => gather_facts(alloc, gathered, &names, members),
+        Some(facts) => gathered.add(alloc, None, told_of_facts(alloc, facts)?),
+    }
+}
+
+/// The row and the column, in characters, of a place in a text, both from 1.
+fn row_and_column(text: &str, place: usize) -> (u64, u64) {
+    let mut row = 1u64;
+    let mut column = 1u64;
+    for byte in text.as_bytes().iter().take(place) {
+        if *byte == b'\n' {
+            row = row.saturating_add(1);
+            column = 1;
+        } else if *byte & 0xc0 != 0x80 {
+            column = column.saturating_add(1);
+        }
+    }
+    (row, column)
+}
+
+/// What is wrong with the text of a report that is no JSON.
+fn told_of_text(alloc: Global, text: &str) -> Result<Told, AllocError> {
+    let mut told = Told::new(alloc);
+    let JsonFault { place, said } = json_fault(alloc, text)?;
+    let (row, column) = row_and_column(text, place);
+    told.tell(format!(in alloc;
+        "the text of the report, its line {row}, column {column}: {said}"
+    )?)?;
+    Ok(told)
+}
+
+/// Gathers all that is wrong with the text of a report, after one byte order mark.
+fn gather_text(
+    alloc: Global,
+    gathered: &mut Gathered,
+    text: &str,
+    table: &Arc<NumericTable>,
+) -> Result<(), AllocError> {
+    let text = text.strip_prefix('\u{feff}').unwrap_or(text);
+    match json_value(alloc, text.as_bytes())? {
+        Some(report) => gather_report(alloc, gathered, &report, table),
+        None => gathered.add(alloc, None, told_of_text(alloc, text)?),
+    }
+}
+
+/// Gathers all that is wrong with the report of a load, an object or the text of one.
+pub(crate) fn gather_load(
+    alloc: Global,
+    gathered: &mut Gathered,
+    report: &Value,
+    table: &Arc<NumericTable>,
+) -> Result<(), AllocError> {
+    match report {
+        Value::String(text) => gather_text(alloc, gathered, text, table),
+        report => gather_report(alloc, gathered, report, table),
+    }
+}

@@ -1,0 +1,32 @@
+//! `Told`: what is wrong with a line or with one fact, as it is found.
+
+use std::alloc::{AllocError, Global};
+
+/// How much is told of one line.
+pub(crate) const MOST: usize = 100;
+
+/// What was found so far. What is found beyond the hundredth is counted.
+#[derive(Drop)]
+pub(crate) struct Told {
+    pub(crate) said: Vec<String>,
+    pub(crate) more: u64,
+}
+
+impl Told {
+    pub(crate) fn new(alloc: Global) -> Told {
+        Told {
+            said: Vec::new(alloc),
+            more: 0,
+        }
+    }
+
+    /// Adds one thing that is wrong.
+    pub(crate) fn tell(&mut self, said: String) -> Result<(), AllocError> {
+        if self.said.len() < MOST {
+            self.said.push(said)?;
+        } else {
+            self.more = self.more.saturating_add(1);
+        }
+        Ok(())
+    }
+}
