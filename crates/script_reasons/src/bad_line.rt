@@ -1,7 +1,7 @@
 //! What is no line of a script: its encoding, its JSON, its form.
 
 ghost use Rattle.std.specs.Prelude.{IfOk, IfSome};
-ghost use Rattle.script_reasons.specs.Explained.{IsColumnOf};
+ghost use Rattle.script_reasons.specs.Explained.{IsColumnOf, IsStopOf};
 
 use crate::forms::line_fault;
 use crate::json_fault::{JsonFault, json_fault};
@@ -56,7 +56,7 @@ fn no_utf8(alloc: Global, line: &[u8], place: usize) -> Result<String, AllocErro
 
 /// What is wrong with a line that is UTF-8, with the column at which its reading stopped.
 fn text_fault(alloc: Global, line: &[u8], text: &str) -> Result<(Option<u64>, String), AllocError>
-    ensures { IfOk result (λ r. IfSome r.0 (IsColumnOf line.now)) }
+    ensures { IfOk result (λ r. IfSome r.0 (IsStopOf line.now)) }
 {
     match json_value(alloc, line)? {
         Some(value) => Ok((None, line_fault(alloc, &value)?)),
@@ -69,7 +69,7 @@ fn text_fault(alloc: Global, line: &[u8], text: &str) -> Result<(Option<u64>, St
 
 /// What is wrong with a line that is none of a script, with the column at which its reading stopped.
 pub(crate) fn bad_line(alloc: Global, line: &[u8]) -> Result<(Option<u64>, String), AllocError>
-    ensures { IfOk result (λ r. IfSome r.0 (IsColumnOf line.now)) }
+    ensures { IfOk result (λ r. IfSome r.0 (IsStopOf line.now)) }
 {
     if let Some(said) = other_encoding(line) {
         return Ok((None, String::from_str(alloc, said)?));

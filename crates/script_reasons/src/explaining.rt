@@ -1,7 +1,7 @@
 //! `explain`: why a line was refused, by its reply.
 
 ghost use Rattle.std.specs.Prelude.{◌≡◌, ◌<◌, length, vec_len, IfOk, IfSome, option_map};
-ghost use Rattle.script_reasons.specs.Explained.{AreReasonsOf, IsColumnOf};
+ghost use Rattle.script_reasons.specs.Explained.{AreReasonsOf, IsStopOf};
 ghost use Rattle.script_reasons.specs.Refusals.{refusal_in, refusal_word, word_of};
 
 use crate::bad_line::bad_line;
@@ -89,7 +89,7 @@ fn gathered_of(
     reply: &str,
 ) -> Result<(Option<u64>, Gathered), AllocError>
     ensures some { IfOk result (λ r. 0 < vec_len r.1.reasons) }
-    ensures within { IfOk result (λ r. IfSome r.0 (IsColumnOf line.now)) }
+    ensures stops { IfOk result (λ r. IfSome r.0 (IsStopOf line.now)) }
 {
     if let Refusal::BadLine = refusal {
         let (column, said) = bad_line(alloc, line)?;
