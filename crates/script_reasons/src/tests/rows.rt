@@ -61,6 +61,9 @@ line 7, column 36: not JSON: the number "1e999" is out of range
 > ["page","s1","r1","ex:A",true,null,010]
 < ["bad-line"]
 line 7, column 36: not JSON: expected a value behind the comma, found "010"
+> ["get",[[[[[[[[[[[[[[[[[[[[[[[[[[[[[[[[[[[[[[[[[[[[[[[[[[[[[[[[[[[[[[[[[[[[[[[[[[[[[[[[[[[[[[[[[[[[[[[[[[[[[[[[[[[[[[[[[[[[[[[[[[[[[[[]]]]]]]]]]]]]]]]]]]]]]]]]]]]]]]]]]]]]]]]]]]]]]]]]]]]]]]]]]]]]]]]]]]]]]]]]]]]]]]]]]]]]]]]]]]]]]]]]]]]]]]]]]]]]]]]]]]]]]]]]]]]]]]]
+< ["bad-line"]
+line 7, column 134: not JSON: it nests more than 127 deep
 > {"commit":"s1"}
 < ["bad-line"]
 line 7: a line is an array, as ["commit","s1"]; this is an object
@@ -177,6 +180,112 @@ line 7, fact "f": there are no "dimensions"
 line 7, fact "g": it is a number, not an object
 line 7, fact "h": the dimension "entity" is null, which it may not be
 line 7, fact "h": there is no dimension "concept"
+> ["load","r1",{"documentInfo":{"documentType":"https://xbrl.org/2021/xbrl-json"},"facts":{"f001":1,"f002":2,"f003":3,"f004":4,"f005":5,"f006":6,"f007":7,"f008":8,"f009":9,"f010":10,"f011":11,"f012":12,"f013":13,"f014":14,"f015":15,"f016":16,"f017":17,"f018":18,"f019":19,"f020":20,"f021":21,"f022":22,"f023":23,"f024":24,"f025":25,"f026":26,"f027":27,"f028":28,"f029":29,"f030":30,"f031":31,"f032":32,"f033":33,"f034":34,"f035":35,"f036":36,"f037":37,"f038":38,"f039":39,"f040":40,"f041":41,"f042":42,"f043":43,"f044":44,"f045":45,"f046":46,"f047":47,"f048":48,"f049":49,"f050":50,"f051":51,"f052":52,"f053":53,"f054":54,"f055":55,"f056":56,"f057":57,"f058":58,"f059":59,"f060":60,"f061":61,"f062":62,"f063":63,"f064":64,"f065":65,"f066":66,"f067":67,"f068":68,"f069":69,"f070":70,"f071":71,"f072":72,"f073":73,"f074":74,"f075":75,"f076":76,"f077":77,"f078":78,"f079":79,"f080":80,"f081":81,"f082":82,"f083":83,"f084":84,"f085":85,"f086":86,"f087":87,"f088":88,"f089":89,"f090":90,"f091":91,"f092":92,"f093":93,"f094":94,"f095":95,"f096":96,"f097":97,"f098":98,"f099":99,"f100":100,"f101":101,"f102":102,"f103":103}}]
+< ["bad-report","bad-fact","f001","wrong-shape"]
+line 7, fact "f001": it is a number, not an object
+line 7, fact "f002": it is a number, not an object
+line 7, fact "f003": it is a number, not an object
+line 7, fact "f004": it is a number, not an object
+line 7, fact "f005": it is a number, not an object
+line 7, fact "f006": it is a number, not an object
+line 7, fact "f007": it is a number, not an object
+line 7, fact "f008": it is a number, not an object
+line 7, fact "f009": it is a number, not an object
+line 7, fact "f010": it is a number, not an object
+line 7, fact "f011": it is a number, not an object
+line 7, fact "f012": it is a number, not an object
+line 7, fact "f013": it is a number, not an object
+line 7, fact "f014": it is a number, not an object
+line 7, fact "f015": it is a number, not an object
+line 7, fact "f016": it is a number, not an object
+line 7, fact "f017": it is a number, not an object
+line 7, fact "f018": it is a number, not an object
+line 7, fact "f019": it is a number, not an object
+line 7, fact "f020": it is a number, not an object
+line 7, fact "f021": it is a number, not an object
+line 7, fact "f022": it is a number, not an object
+line 7, fact "f023": it is a number, not an object
+line 7, fact "f024": it is a number, not an object
+line 7, fact "f025": it is a number, not an object
+line 7, fact "f026": it is a number, not an object
+line 7, fact "f027": it is a number, not an object
+line 7, fact "f028": it is a number, not an object
+line 7, fact "f029": it is a number, not an object
+line 7, fact "f030": it is a number, not an object
+line 7, fact "f031": it is a number, not an object
+line 7, fact "f032": it is a number, not an object
+line 7, fact "f033": it is a number, not an object
+line 7, fact "f034": it is a number, not an object
+line 7, fact "f035": it is a number, not an object
+line 7, fact "f036": it is a number, not an object
+line 7, fact "f037": it is a number, not an object
+line 7, fact "f038": it is a number, not an object
+line 7, fact "f039": it is a number, not an object
+line 7, fact "f040": it is a number, not an object
+line 7, fact "f041": it is a number, not an object
+line 7, fact "f042": it is a number, not an object
+line 7, fact "f043": it is a number, not an object
+line 7, fact "f044": it is a number, not an object
+line 7, fact "f045": it is a number, not an object
+line 7, fact "f046": it is a number, not an object
+line 7, fact "f047": it is a number, not an object
+line 7, fact "f048": it is a number, not an object
+line 7, fact "f049": it is a number, not an object
+line 7, fact "f050": it is a number, not an object
+line 7, fact "f051": it is a number, not an object
+line 7, fact "f052": it is a number, not an object
+line 7, fact "f053": it is a number, not an object
+line 7, fact "f054": it is a number, not an object
+line 7, fact "f055": it is a number, not an object
+line 7, fact "f056": it is a number, not an object
+line 7, fact "f057": it is a number, not an object
+line 7, fact "f058": it is a number, not an object
+line 7, fact "f059": it is a number, not an object
+line 7, fact "f060": it is a number, not an object
+line 7, fact "f061": it is a number, not an object
+line 7, fact "f062": it is a number, not an object
+line 7, fact "f063": it is a number, not an object
+line 7, fact "f064": it is a number, not an object
+line 7, fact "f065": it is a number, not an object
+line 7, fact "f066": it is a number, not an object
+line 7, fact "f067": it is a number, not an object
+line 7, fact "f068": it is a number, not an object
+line 7, fact "f069": it is a number, not an object
+line 7, fact "f070": it is a number, not an object
+line 7, fact "f071": it is a number, not an object
+line 7, fact "f072": it is a number, not an object
+line 7, fact "f073": it is a number, not an object
+line 7, fact "f074": it is a number, not an object
+line 7, fact "f075": it is a number, not an object
+line 7, fact "f076": it is a number, not an object
+line 7, fact "f077": it is a number, not an object
+line 7, fact "f078": it is a number, not an object
+line 7, fact "f079": it is a number, not an object
+line 7, fact "f080": it is a number, not an object
+line 7, fact "f081": it is a number, not an object
+line 7, fact "f082": it is a number, not an object
+line 7, fact "f083": it is a number, not an object
+line 7, fact "f084": it is a number, not an object
+line 7, fact "f085": it is a number, not an object
+line 7, fact "f086": it is a number, not an object
+line 7, fact "f087": it is a number, not an object
+line 7, fact "f088": it is a number, not an object
+line 7, fact "f089": it is a number, not an object
+line 7, fact "f090": it is a number, not an object
+line 7, fact "f091": it is a number, not an object
+line 7, fact "f092": it is a number, not an object
+line 7, fact "f093": it is a number, not an object
+line 7, fact "f094": it is a number, not an object
+line 7, fact "f095": it is a number, not an object
+line 7, fact "f096": it is a number, not an object
+line 7, fact "f097": it is a number, not an object
+line 7, fact "f098": it is a number, not an object
+line 7, fact "f099": it is a number, not an object
+line 7, fact "f100": it is a number, not an object
+line 7: and 3 more
+> ["load","r1","﻿{\"documentInfo\":7}"]
+< ["bad-report","wrong-shape"]
+line 7: "documentInfo" is a number, not an object
 > ["cell","s1","r1",{"entity":"e"}]
 < ["bad-fact","no-concept"]
 line 7: there is no dimension "concept"
