@@ -2,6 +2,7 @@
 use Rattle.std.specs.Prelude.{◌≡◌, ℕ, ◌+◌, ◌<◌, ◌≤◌, length, IfSome, None}
 use Rattle.filing_model.specs.Common.Text.{Text}
 use Rattle.filing_model.specs.Reading.JsonText.{json_of}
+use Rattle.script_reasons.specs.ToldFacts.{AreOfFactsIn}
 use Rattle.script_reasons.specs.declared.reasons.Reasons.{Reasons}
 
 -- a column of this line, or the one behind it, from 1
@@ -13,9 +14,10 @@ pub record IsStopOf (line : Text) (column : ℕ) : Type 0 where
   pub within : IsColumnOf line column
   pub no_json : json_of line ≡ None
 
--- some reasons of this line under this number: one at least and 100 at most; with a column only where its reading stopped
+-- some reasons of this line under this number: one at least and 100 at most; with a column only where its reading stopped, and of no facts but those that stand in the line
 pub record AreReasonsOf (number : ℕ) (line : Text) (r : Reasons) : Type 0 where
   pub same : r.number ≡ number
   pub some : 0 < length r.reasons.items
   pub few : length r.reasons.items ≤ 100
   pub stops : IfSome r.column (IsStopOf line)
+  pub facts : AreOfFactsIn line r.reasons.items

@@ -2,6 +2,7 @@
 pub mod Refusals
 -- ---- what is told of them
 pub mod ReasonText
+pub mod ToldFacts
 pub mod Explained
 -- ---- the law
 pub mod RefusalLaws
