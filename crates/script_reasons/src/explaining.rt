@@ -1,7 +1,10 @@
 //! `explain`: why a line was refused, by its reply.
 
-ghost use Rattle.std.specs.Prelude.{◌≡◌, ◌<◌, length, vec_len, IfOk, IfSome, option_map};
+ghost use Rattle.std.specs.Prelude.{◌≡◌, ◌<◌, Bool, vec_len, IfOk, IfSome, OnOk, Some, option_map};
 ghost use Rattle.script_reasons.specs.Explained.{AreReasonsOf, IsStopOf};
+ghost use Rattle.filing_model.specs.Common.Text.{Text};
+ghost use Rattle.script_format.specs.LineView.{line_view};
+ghost use Rattle.script_reasons.specs.ToldFacts.{AreOfFactsIn, KeepsTo, line_has_fact};
 ghost use Rattle.script_reasons.specs.Refusals.{refusal_in, refusal_word, word_of};
 
 use crate::bad_line::bad_line;
@@ -42,7 +45,10 @@ fn gather_line(
     line: &Line<'_>,
     table: &Arc<NumericTable>,
     reply: &str,
-) -> Result<(), AllocError> {
+) -> Result<(), AllocError>
+    ensures { OnOk result (KeepsTo (λ id. line_has_fact id (Some (line_view line.now)))
+        gathered.old.reasons.items gathered.new.reasons.items) }
+{
     match (refusal, line) {
         (Refusal::BadReport, Line::Load { report, .. }) => {
             gather_load(alloc, gathered, report, table)
@@ -59,7 +65,9 @@ fn reasons_of(
     line: &[u8],
     table: &Arc<NumericTable>,
     reply: &str,
-) -> Result<Gathered, AllocError> {
+) -> Result<Gathered, AllocError>
+    ensures { IfOk result (λ g. AreOfFactsIn line.now g.reasons.items) }
+{
     let mut gathered = Gathered::new(alloc);
     if let Some(value) = json_value(alloc, line)? {
         if let Some(line) = line_of(&value) {
@@ -71,7 +79,8 @@ fn reasons_of(
 
 /// What was gathered, or what the refusal means where nothing was.
 fn some_of(alloc: Global, refusal: Refusal, gathered: Gathered) -> Result<Gathered, AllocError>
-    ensures { IfOk result (λ g. 0 < vec_len g.reasons) }
+    ensures some { IfOk result (λ g. 0 < vec_len g.reasons) }
+    ensures kept { IfOk result (λ g. (of : Text → Bool) → KeepsTo of gathered.reasons.items g.reasons.items) }
 {
     if gathered.reasons.is_empty() {
         Gathered::of(alloc, String::from_str(alloc, meaning(refusal))?)
@@ -90,6 +99,7 @@ fn gathered_of(
 ) -> Result<(Option<u64>, Gathered), AllocError>
     ensures some { IfOk result (λ r. 0 < vec_len r.1.reasons) }
     ensures stops { IfOk result (λ r. IfSome r.0 (IsStopOf line.now)) }
+    ensures facts { IfOk result (λ r. AreOfFactsIn line.now r.1.reasons.items) }
 {
     if let Refusal::BadLine = refusal {
         let (column, said) = bad_line(alloc, line)?;

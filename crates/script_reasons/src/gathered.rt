@@ -1,6 +1,8 @@
 //! `Gathered`: the reasons of one line.
 
-ghost use Rattle.std.specs.Prelude.{◌<◌, ◌≤◌, vec_len, IfOk};
+ghost use Rattle.std.specs.Prelude.{◌≡◌, ◌<◌, ◌≤◌, [], Bool, true, vec_len, IfOk, OnOk, option_map, string_bytes};
+ghost use Rattle.filing_model.specs.Common.Text.{Text};
+ghost use Rattle.script_reasons.specs.ToldFacts.{KeepsTo, are_told_of, is_told_of};
 
 use crate::reasons::Reason;
 use crate::told::{MOST, Told};
@@ -15,7 +17,9 @@ pub(crate) struct Gathered {
 }
 
 /// An own copy of the identifier of a fact.
-fn own_id(alloc: Global, id: Option<&str>) -> Result<Option<String>, AllocError> {
+fn own_id(alloc: Global, id: Option<&str>) -> Result<Option<String>, AllocError>
+    ensures { IfOk result (λ o. option_map string_bytes o ≡ option_map (λ t. t.now) id.entry) }
+{
     match id {
         Some(id) => Ok(Some(String::from_str(alloc, id)?)),
         None => Ok(None),
@@ -23,7 +27,9 @@ fn own_id(alloc: Global, id: Option<&str>) -> Result<Option<String>, AllocError>
 }
 
 impl Gathered {
-    pub(crate) fn new(alloc: Global) -> Gathered {
+    pub(crate) fn new(alloc: Global) -> Gathered
+        ensures { result.reasons.items ≡ [] }
+    {
         Gathered {
             reasons: Vec::new(alloc),
             more: 0,
@@ -32,7 +38,8 @@ impl Gathered {
 
     /// The one reason of a line.
     pub(crate) fn of(alloc: Global, said: String) -> Result<Gathered, AllocError>
-        ensures { IfOk result (λ g. 0 < vec_len g.reasons) }
+        ensures some { IfOk result (λ g. 0 < vec_len g.reasons) }
+        ensures of_none { IfOk result (λ g. (of : Text → Bool) → are_told_of of g.reasons.items ≡ true) }
     {
         let mut reasons = Vec::new(alloc);
         reasons.push(Reason { fact: None, said })?;
@@ -40,7 +47,10 @@ impl Gathered {
     }
 
     /// Adds one thing that is wrong with a fact, or with the line where no identifier is given.
-    fn put(&mut self, alloc: Global, id: Option<&str>, said: String) -> Result<(), AllocError> {
+    fn put(&mut self, alloc: Global, id: Option<&str>, said: String) -> Result<(), AllocError>
+        ensures { OnOk result ((of : Text → Bool) → is_told_of of (option_map (λ t. t.now) id.entry) ≡ true
+            → KeepsTo of self.old.reasons.items self.new.reasons.items) }
+    {
         if self.reasons.len() < MOST {
             let fact = own_id(alloc, id)?;
             self.reasons.push(Reason { fact, said })?;
@@ -56,7 +66,10 @@ impl Gathered {
         alloc: Global,
         id: Option<&str>,
         told: Told,
-    ) -> Result<(), AllocError> {
+    ) -> Result<(), AllocError>
+        ensures { OnOk result ((of : Text → Bool) → is_told_of of (option_map (λ t. t.now) id.entry) ≡ true
+            → KeepsTo of self.old.reasons.items self.new.reasons.items) }
+    {
         let Told { said, more } = told;
         for said in said {
             self.put(alloc, id, said)?;

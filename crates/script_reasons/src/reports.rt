@@ -1,5 +1,12 @@
 //! What is wrong with a report: all of it, first what the reply tells.
 
+ghost use Rattle.std.specs.Prelude.{◌≡◌, OnOk, is_some, codes, option_and_then};
+ghost use Rattle.serde_json.specs.Data.{string};
+ghost use Rattle.serde_json.specs.Find.{get, get_member};
+ghost use Rattle.serde_json.specs.View.{view, members_view};
+ghost use Rattle.filing_model.specs.Reading.JsonText.{without_mark};
+ghost use Rattle.script_reasons.specs.ToldFacts.{KeepsTo, has_fact, has_loaded_fact};
+
 use crate::facts::fact_faults;
 use crate::fits::fit_faults;
 use crate::gathered::Gathered;
@@ -12,6 +19,7 @@ use oim_fact::{Names, NumericTable, fit};
 use oim_report::{json_value, raw_fact};
 use serde_json::{Map, Value};
 use std::alloc::{AllocError, Global};
+use std::str::from_utf8;
 use std::sync::Arc;
 
 /// What is wrong with a fact of a report, as it is read and by these names, where they are in order.
@@ -39,7 +47,10 @@ fn gather_facts(
     gathered: &mut Gathered,
     names: &Option<Names>,
     members: &Map<String, Value>,
-) -> Result<(), AllocError> {
+) -> Result<(), AllocError>
+    ensures { OnOk result (KeepsTo (λ id. is_some (get_member id (members_view members.now.entries)))
+        gathered.old.reasons.items gathered.new.reasons.items) }
+{
     for (id, fact) in members {
         gathered.add(alloc, Some(id.as_str()), told_of_fact(alloc, names, fact)?)?;
     }
@@ -60,14 +71,19 @@ fn gather_report(
     gathered: &mut Gathered,
     report: &Value,
     table: &Arc<NumericTable>,
-) -> Result<(), AllocError> {
+) -> Result<(), AllocError>
+    ensures { OnOk result (KeepsTo (λ id. has_fact id (view report.now))
+        gathered.old.reasons.items gathered.new.reasons.items) }
+{
     let mut told = Told::new(alloc);
     let names = info_faults(alloc, &mut told, report, table)?;
     gathered.add(alloc, None, told)?;
     match report.get("facts") {
         None => Ok(()),
-        Some(Value::Object(members)) => gather_facts(alloc, gathered, &names, members),
-        Some(facts) => gathered.add(alloc, None, told_of_facts(alloc, facts)?),
+        Some(facts) => match facts.as_object() {
+            Some(members) => gather_facts(alloc, gathered, &names, members),
+            None => gathered.add(alloc, None, told_of_facts(alloc, facts)?),
+        },
     }
 }
 
@@ -86,14 +102,26 @@ fn row_and_column(text: &str, place: usize) -> (u64, u64) {
     (row, column)
 }
 
+/// The bytes without one byte order mark before them.
+fn without_mark(bytes: &[u8]) -> &[u8]
+    ensures { result.now ≡ without_mark bytes.now }
+{
+    match bytes {
+        [0xef, 0xbb, 0xbf, rest @ ..] => rest,
+        _ => bytes,
+    }
+}
+
 /// What is wrong with the text of a report that is no JSON.
-fn told_of_text(alloc: Global, text: &str) -> Result<Told, AllocError> {
+fn told_of_text(alloc: Global, bytes: &[u8]) -> Result<Told, AllocError> {
     let mut told = Told::new(alloc);
-    let JsonFault { place, said } = json_fault(alloc, text)?;
-    let (row, column) = row_and_column(text, place);
-    told.tell(format!(in alloc;
-        "the text of the report, its line {row}, column {column}: {said}"
-    )?)?;
+    if let Ok(text) = from_utf8(bytes) {
+        let JsonFault { place, said } = json_fault(alloc, text)?;
+        let (row, column) = row_and_column(text, place);
+        told.tell(format!(in alloc;
+            "the text of the report, its line {row}, column {column}: {said}"
+        )?)?;
+    }
     Ok(told)
 }
 
@@ -103,11 +131,14 @@ fn gather_text(
     gathered: &mut Gathered,
     text: &str,
     table: &Arc<NumericTable>,
-) -> Result<(), AllocError> {
-    let text = text.strip_prefix('\u{feff}').unwrap_or(text);
-    match json_value(alloc, text.as_bytes())? {
+) -> Result<(), AllocError>
+    ensures { OnOk result (KeepsTo (λ id. has_loaded_fact id (string text.now))
+        gathered.old.reasons.items gathered.new.reasons.items) }
+{
+    let bytes = without_mark(text.as_bytes());
+    match json_value(alloc, bytes)? {
         Some(report) => gather_report(alloc, gathered, &report, table),
-        None => gathered.add(alloc, None, told_of_text(alloc, text)?),
+        None => gathered.add(alloc, None, told_of_text(alloc, bytes)?),
     }
 }
 
@@ -117,7 +148,10 @@ pub(crate) fn gather_load(
     gathered: &mut Gathered,
     report: &Value,
     table: &Arc<NumericTable>,
-) -> Result<(), AllocError> {
+) -> Result<(), AllocError>
+    ensures { OnOk result (KeepsTo (λ id. has_loaded_fact id (view report.now))
+        gathered.old.reasons.items gathered.new.reasons.items) }
+{
     match report {
         Value::String(text) => gather_text(alloc, gathered, text, table),
         report => gather_report(alloc, gathered, report, table),
