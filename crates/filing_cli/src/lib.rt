@@ -42,15 +42,16 @@ pub use filing_threads::{
     JournaledThreads, ThreadsFault, ThreadsOnHistory, Unwatched, Watch, run_threads,
     run_threads_on_history, run_threads_watched, run_threads_with_journal,
 };
-pub use history::{judge_history, judge_history_keeping, write_history, write_verdict};
+pub use history::{Nowhere, judge_history, judge_history_keeping, write_history, write_verdict};
 pub use journaled::{JournaledRun, run_script_with_journal};
+pub use judge::entry_of;
 pub use line_io::{
     Failed, FromReader, Machine, MemoryIn, MemoryOut, ScriptFault, Sink, Source, ToWriter,
     is_blank, run, write_all,
 };
 pub use recorded::{RecordedRun, record_script};
 pub use reopened::{OpenHistoryFault, engine_of_history, entries_of_history};
-pub use script::{resume_script, run_script, run_script_on_engine, run_script_within};
+pub use script::{READS, resume_script, run_script, run_script_on_engine, run_script_within};
 pub use script_format::{
     bad_fact_reply, bad_line_reply, bad_report_reply, exported_reply, name_in_use_reply,
     no_session_reply, reply_text,

@@ -16,7 +16,7 @@ use std::alloc::Global;
 use std::sync::Arc;
 
 /// So many reads are made at most.
-pub(crate) const READS: u64 = 1 << 32;
+pub const READS: u64 = 1 << 32;
 
 /// Runs a script from where what takes its steps left off, with no name in use, and gives that back.
 pub(crate) fn run_on<T: TakesSteps + Drop, R: Source, W: Sink>(
