@@ -1,10 +1,13 @@
 -- Of which facts reasons tell. The project's own.
-use Rattle.std.specs.Prelude.{◌≡◌, Bool, true, false, codes, List, Option, None, Some, is_some, option_map, option_and_then, string_bytes}
+use Rattle.std.specs.Prelude.{◌≡◌, Bool, true, false, codes, List, Option, None, Some, Result, Ok, Err, is_ok, not, is_some, option_map, option_and_then, string_bytes}
 use Rattle.std.specs.List.{list_all}
 use Rattle.serde_json.specs.Data.{Data, string}
 use Rattle.serde_json.specs.Find.{get}
 use Rattle.filing_model.specs.Common.Text.{Text, text_eq}
+use Rattle.filing_model.specs.Oim.Facts.{Names, RawFact, fit_of}
 use Rattle.filing_model.specs.Reading.JsonText.{json_of, without_mark}
+use Rattle.filing_model.specs.Reading.ReadFact.{raw_fact_of}
+use Rattle.filing_model.specs.declared.faults.Trouble.{Trouble}
 use Rattle.script_format.specs.ScriptLines.{Line, Load, Open, Ask, Commit, Close, Export, Asking, Add, line_of}
 use Rattle.script_reasons.specs.declared.reasons.Reason.{Reason}
 
@@ -44,3 +47,16 @@ KeepsTo of before after = are_told_of of before ≡ true → are_told_of of afte
 -- each fact of which it is told stands in this line
 abbrev pub AreOfFactsIn : Text → List Reason → Type 0
 AreOfFactsIn line reasons = are_told_of (λ id. line_has_fact id (option_and_then line_of (json_of line))) reasons ≡ true
+
+-- a fact that was read does not fit these names, where they are known
+abbrev pub is_misfit : Option Names → RawFact → Bool
+is_misfit None raw = false
+is_misfit (Some names) raw = not (is_ok (fit_of names raw))
+
+abbrev pub is_refused_as : Option Names → Result RawFact Trouble → Bool
+is_refused_as names (Err trouble) = true
+is_refused_as names (Ok raw) = is_misfit names raw
+
+-- a fact is refused as it is read, or by these names
+abbrev pub is_refused : Option Names → Data → Bool
+is_refused names fact = is_refused_as names (raw_fact_of fact)
