@@ -1,11 +1,11 @@
 //! What is wrong with a report: all of it, first what the reply tells.
 
-ghost use Rattle.std.specs.Prelude.{◌≡◌, OnOk, is_some, codes, option_and_then};
+ghost use Rattle.std.specs.Prelude.{◌≡◌, IfOk, OnOk, is_some, nat_lt, option_map, vec_len};
 ghost use Rattle.serde_json.specs.Data.{string};
 ghost use Rattle.serde_json.specs.Find.{get, get_member};
 ghost use Rattle.serde_json.specs.View.{view, members_view};
 ghost use Rattle.filing_model.specs.Reading.JsonText.{without_mark};
-ghost use Rattle.script_reasons.specs.ToldFacts.{KeepsTo, has_fact, has_loaded_fact};
+ghost use Rattle.script_reasons.specs.ToldFacts.{KeepsTo, has_fact, has_loaded_fact, is_refused};
 
 use crate::facts::fact_faults;
 use crate::fits::fit_faults;
@@ -22,21 +22,27 @@ use std::alloc::{AllocError, Global};
 use std::str::from_utf8;
 use std::sync::Arc;
 
-/// What is wrong with a fact of a report, as it is read and by these names, where they are in order.
-fn told_of_fact(alloc: Global, names: &Option<Names>, fact: &Value) -> Result<Told, AllocError> {
+/// What is wrong with a fact of a report, as it is read and by these names, where they are in order: something where it is refused, and nothing else.
+fn told_of_fact(alloc: Global, names: Option<&Names>, fact: &Value) -> Result<Told, AllocError>
+    ensures { IfOk result (λ t. nat_lt 0 (vec_len t.said)
+        ≡ is_refused (option_map (λ n. n.now) names.entry) (view fact.now)) }
+{
     let mut told = Told::new(alloc);
     let raw = match raw_fact(alloc, fact) {
         Ok(raw) => raw,
         Err(Trouble::NoMemory | Trouble::Dims(DimFault::NoMemory)) => return Err(AllocError),
-        Err(_) => {
+        Err(trouble) => {
             fact_faults(alloc, &mut told, fact)?;
+            told.tell_some(alloc, trouble)?;
             return Ok(told);
         }
     };
-    if let Some(names) = names {
-        if let Err(fault) = fit(names, raw) {
-            fit_faults(alloc, &mut told, names, fault, fact)?;
-        }
+    let Some(names) = names else {
+        return Ok(told);
+    };
+    if let Err(fault) = fit(names, raw) {
+        fit_faults(alloc, &mut told, names, fault, fact)?;
+        told.tell_some(alloc, Trouble::Fit(fault))?;
     }
     Ok(told)
 }
@@ -52,7 +58,11 @@ fn gather_facts(
         gathered.old.reasons.items gathered.new.reasons.items) }
 {
     for (id, fact) in members {
-        gathered.add(alloc, Some(id.as_str()), told_of_fact(alloc, names, fact)?)?;
+        gathered.add(
+            alloc,
+            Some(id.as_str()),
+            told_of_fact(alloc, names.as_ref(), fact)?,
+        )?;
     }
     Ok(())
 }

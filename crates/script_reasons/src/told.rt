@@ -1,5 +1,8 @@
 //! `Told`: what is wrong with a line or with one fact, as it is found.
 
+ghost use Rattle.std.specs.Prelude.{◌≡◌, ◌<◌, vec_len, OnOk};
+
+use filing_model::Trouble;
 use std::alloc::{AllocError, Global};
 
 /// How much is told of one line.
@@ -13,7 +16,9 @@ pub(crate) struct Told {
 }
 
 impl Told {
-    pub(crate) fn new(alloc: Global) -> Told {
+    pub(crate) fn new(alloc: Global) -> Told
+        ensures { vec_len result.said ≡ 0 }
+    {
         Told {
             said: Vec::new(alloc),
             more: 0,
@@ -21,11 +26,23 @@ impl Told {
     }
 
     /// Adds one thing that is wrong.
-    pub(crate) fn tell(&mut self, said: String) -> Result<(), AllocError> {
+    pub(crate) fn tell(&mut self, said: String) -> Result<(), AllocError>
+        ensures { OnOk result (0 < vec_len self.new.said) }
+    {
         if self.said.len() < MOST {
             self.said.push(said)?;
         } else {
             self.more = self.more.saturating_add(1);
+        }
+        Ok(())
+    }
+
+    /// Tells a fault in general, where nothing was found.
+    pub(crate) fn tell_some(&mut self, alloc: Global, trouble: Trouble) -> Result<(), AllocError>
+        ensures { OnOk result (0 < vec_len self.new.said) }
+    {
+        if self.said.is_empty() {
+            self.tell(format!(in alloc; "{trouble}")?)?;
         }
         Ok(())
     }
