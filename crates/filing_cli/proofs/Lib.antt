@@ -1,9 +1,12 @@
 -- ---- runs
 pub mod CarriedRuns
+pub mod RunsWithin
 -- ---- lines of scripts
+pub mod ToldSteps
 pub mod MachineAnswers
 -- ---- whole scripts
 pub mod Scripts
+pub mod ObservedRuns
 -- ---- histories
 pub mod PlainEntries
 pub mod JudgedByEngine

@@ -9,7 +9,7 @@ use Rattle.filing_model.specs.Oim.Facts.{Table}
 use Rattle.filing_model.specs.Histories.History.{History}
 use Rattle.line_io.specs.Devices.{SourceState, SinkState, Took}
 use Rattle.line_io.specs.Lines.{lines_of, spoken, lines_text}
-use Rattle.line_io.specs.Run.{Runs, replies_by, state_after}
+use Rattle.line_io.specs.Run.{Runs}
 use Rattle.script_format.specs.Script.{State, line_answer, script_output, script_history}
 use Rattle.filing_core.specs.States.{CoreState}
 use Rattle.filing_cli.specs.Resumed.{GoesOn, IsStoppedOn, history_on, output_on, resumed}

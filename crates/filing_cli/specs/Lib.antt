@@ -1,6 +1,7 @@
 -- What a run over a script leaves, and one over a history.
 pub mod ScriptRun
 pub mod StepsTaken
+pub mod Observed
 pub mod HistoryRun
 pub mod Resumed
 -- What a journal has, and what a run over a script leaves in one.

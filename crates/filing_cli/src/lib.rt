@@ -2,6 +2,7 @@
 //!
 //! - `script`: runs a script.
 //! - `script_machine`: answers its lines, each by the step that it takes.
+//! - `observed`: shows them to an observer, with their replies.
 //! - `takes_steps`: what takes its steps: a core, an engine, or an engine with a journal or with a file of its entries.
 //! - `journaling`: an engine with a journal.
 //! - `journaled_steps`: the steps that it takes.
@@ -28,6 +29,7 @@ mod journaled;
 mod journaled_steps;
 mod journaling;
 mod judge;
+mod observed;
 mod recorded;
 mod recording;
 mod reopened;
@@ -43,15 +45,19 @@ pub use filing_threads::{
     run_threads_on_history, run_threads_watched, run_threads_with_journal,
 };
 pub use history::{Nowhere, judge_history, judge_history_keeping, write_history, write_verdict};
-pub use journaled::{JournaledRun, run_script_with_journal};
+pub use journaled::{JournaledRun, run_script_with_journal, run_script_with_journal_observed};
 pub use judge::entry_of;
 pub use line_io::{
     Failed, FromReader, Machine, MemoryIn, MemoryOut, ScriptFault, Sink, Source, ToWriter,
     is_blank, run, write_all,
 };
-pub use recorded::{RecordedRun, record_script};
+pub use observed::Observes;
+pub use recorded::{RecordedRun, record_script, record_script_observed};
 pub use reopened::{OpenHistoryFault, engine_of_history, entries_of_history};
-pub use script::{READS, resume_script, run_script, run_script_on_engine, run_script_within};
+pub use script::{
+    READS, resume_script, resume_script_observed, run_script, run_script_on_engine,
+    run_script_within,
+};
 pub use script_format::{
     bad_fact_reply, bad_line_reply, bad_report_reply, exported_reply, name_in_use_reply,
     no_session_reply, reply_text,

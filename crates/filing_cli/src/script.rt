@@ -1,12 +1,14 @@
 //! A run over a script, from its source to its sink.
 
-ghost use Rattle.std.specs.Prelude.{◌+◌, ◌≤◌, []};
+ghost use Rattle.std.specs.Prelude.{◌+◌, ◌≤◌, [], OnOk};
 ghost use Rattle.std.specs.Arc.{arc_value};
 ghost use Rattle.filing_model.specs.Histories.History.{History};
 ghost use Rattle.filing_core.specs.Engines.{IsEngineOf};
+ghost use Rattle.filing_cli.specs.Observed.{IsShown};
 ghost use Rattle.filing_cli.specs.Resumed.{GoesOn};
 ghost use Rattle.filing_cli.specs.ScriptRun.{most_reads, EngineRuns, ScriptRuns, ScriptRunsWithin, TakerRuns};
 
+use crate::observed::{Observed, Observes, Unobserved};
 use crate::script_machine::ScriptMachine;
 use crate::takes_steps::TakesSteps;
 use filing_core::{Core, Engine};
@@ -18,7 +20,33 @@ use std::sync::Arc;
 /// So many reads are made at most.
 pub const READS: u64 = 1 << 32;
 
-/// Runs a script from where what takes its steps left off, with no name in use, and gives that back.
+/// Runs a script from where what takes its steps left off, with no name in use, shows its lines and their replies to an observer, and gives both back.
+pub(crate) fn run_observed<T: TakesSteps + Drop, O: Observes + Drop, R: Source, W: Sink>(
+    alloc: Global,
+    taker: T,
+    observer: O,
+    input: &mut R,
+    output: &mut W,
+    table: &Arc<NumericTable>,
+    reads: u64,
+) -> (T, O, Result<(), ScriptFault>)
+    ensures script { (h : History) → T.has_taken taker h → GoesOn R.state reads (arc_value table.now) h
+        T.has_taken result.0 result.2 input.old input.new (W.state output.old) (W.state output.new) }
+    ensures shown { OnOk result.2 (IsShown R.state O.sees input.old input.new (W.state output.old) (W.state output.new)
+        observer result.1) }
+    ensures bounded { (R.state input.new).reads ≤ (R.state input.old).reads + reads }
+{
+    let Ok(table) = table.clone() else {
+        return (taker, observer, Err(ScriptFault::NoMemory(1)));
+    };
+    let machine = ScriptMachine::before_lines(alloc, table, taker);
+    let mut observed = Observed { machine, observer };
+    let ended = run(alloc, &mut observed, input, output, reads);
+    let Observed { machine, observer } = observed;
+    (machine.into_taker(), observer, ended)
+}
+
+/// The same with nobody who looks.
 pub(crate) fn run_on<T: TakesSteps + Drop, R: Source, W: Sink>(
     alloc: Global,
     taker: T,
@@ -31,12 +59,8 @@ pub(crate) fn run_on<T: TakesSteps + Drop, R: Source, W: Sink>(
         T.has_taken result.0 result.1 input.old input.new (W.state output.old) (W.state output.new) }
     ensures bounded { (R.state input.new).reads ≤ (R.state input.old).reads + reads }
 {
-    let Ok(table) = table.clone() else {
-        return (taker, Err(ScriptFault::NoMemory(1)));
-    };
-    let mut machine = ScriptMachine::before_lines(alloc, table, taker);
-    let ended = run(alloc, &mut machine, input, output, reads);
-    (machine.into_taker(), ended)
+    let (taker, _, ended) = run_observed(alloc, taker, Unobserved, input, output, table, reads);
+    (taker, ended)
 }
 
 /// Runs a script, whose steps are taken by what has taken none yet, and gives that back.
@@ -125,4 +149,22 @@ pub fn resume_script<R: Source, W: Sink>(
     ensures bounded { (R.state input.new).reads ≤ (R.state input.old).reads + most_reads }
 {
     run_on(alloc, engine, input, output, table, READS)
+}
+
+/// As `resume_script`, with an observer that is shown each line beside its reply, and given back.
+pub fn resume_script_observed<O: Observes + Drop, R: Source, W: Sink>(
+    alloc: Global,
+    engine: Engine,
+    observer: O,
+    input: &mut R,
+    output: &mut W,
+    table: &Arc<NumericTable>,
+) -> (Engine, O, Result<(), ScriptFault>)
+    ensures script { (h : History) → IsEngineOf h engine → GoesOn R.state most_reads (arc_value table.now) h
+        (λ e h. IsEngineOf h e) result.0 result.2 input.old input.new (W.state output.old) (W.state output.new) }
+    ensures shown { OnOk result.2 (IsShown R.state O.sees input.old input.new (W.state output.old) (W.state output.new)
+        observer result.1) }
+    ensures bounded { (R.state input.new).reads ≤ (R.state input.old).reads + most_reads }
+{
+    run_observed(alloc, engine, observer, input, output, table, READS)
 }

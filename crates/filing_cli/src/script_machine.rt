@@ -9,7 +9,6 @@ ghost use Rattle.script_format.specs.Script.{StepDue, judged_open, judged_step, 
 ghost use Rattle.filing_cli.specs.StepsTaken.{Answers, AnswersLine};
 
 use crate::takes_steps::TakesSteps;
-use filing_core::CoreFault;
 use filing_step::{Kind, Reply, SessionNames, Step};
 use filing_version::RepoVersion;
 use line_io::Machine;
@@ -70,15 +69,7 @@ impl<T: TakesSteps + Drop> ScriptMachine<T> {
             (λ state. StepDue session (step_of step) state.names) self.old (string_bytes text) self.new) }
         ensures steps_on { T.steps_on self.old.taker self.new.taker }
     {
-        match self.taker.take_step(alloc, session, step) {
-            Ok(reply) => {
-                let text = reply_text(alloc, &reply);
-                drop(reply);
-                text
-            }
-            Err(CoreFault::NoSession) => String::from_str(alloc, no_session_reply()),
-            Err(CoreFault::NoMemory) => Err(AllocError),
-        }
+        self.taker.take_step(alloc, session, step)
     }
 
     /// Answers an opening.

@@ -1,13 +1,14 @@
 //! `TakesSteps`: what takes the steps of a script.
 
-ghost use Rattle.std.specs.Prelude.{◌≡◌};
+ghost use Rattle.std.specs.Prelude.{◌≡◌, IfOk, string_bytes};
 ghost use Rattle.filing_model.specs.Histories.History.{History};
 ghost use Rattle.filing_step.specs.Steps.{step_of};
 ghost use Rattle.filing_core.specs.Engines.{IsEngineOf};
-ghost use Rattle.filing_cli.specs.StepsTaken.{Takes};
+ghost use Rattle.filing_cli.specs.StepsTaken.{IsTold, Takes, Tells};
 
 use filing_core::{Core, CoreFault, Engine, EngineFault, Reply, Step};
-use std::alloc::Global;
+use script_format::{no_session_reply, reply_text};
+use std::alloc::{AllocError, Global};
 
 /// What takes one step after another: a core, which keeps their history, or an engine, which keeps none of them.
 pub(crate) trait TakesSteps {
@@ -17,15 +18,15 @@ pub(crate) trait TakesSteps {
     /// What a step may change, whatever it is answered.
     ghost steps_on: { Self → Self → Type 0 };
 
-    /// Takes one step and answers it. Where the session is not open, none is taken.
+    /// Takes one step, and gives the text of its reply. Where the session is not open, none is taken, and the text says so.
     fn take_step(
         &mut self,
         alloc: Global,
         session: Option<u64>,
         step: Step,
-    ) -> Result<Reply, CoreFault>
-        ensures answers { (h : History) → has_taken self.old h
-            → Takes (has_taken self.new) h session (step_of step) result }
+    ) -> Result<String, AllocError>
+        ensures answers { (h : History) → has_taken self.old h → IfOk result
+            (λ text. Tells (has_taken self.new) h session (step_of step) (string_bytes text)) }
         ensures steps_on { steps_on self.old self.new };
 
     /// The engine that took them.
@@ -34,6 +35,51 @@ pub(crate) trait TakesSteps {
 
     /// A step may change nothing.
     ghost stays: { (t : Self) → steps_on t t };
+}
+
+/// Takes a step of an engine. That no step more can be counted is told as want of memory.
+pub(crate) fn step_of_engine(
+    engine: &mut Engine,
+    alloc: Global,
+    session: Option<u64>,
+    step: Step,
+) -> Result<Reply, CoreFault>
+    ensures { (h : History) → IsEngineOf h engine.old
+        → Takes (λ h. IsEngineOf h engine.new) h session (step_of step) result }
+{
+    match engine.step(alloc, session, step) {
+        Ok(reply) => Ok(reply),
+        Err(EngineFault::NoSession) => Err(CoreFault::NoSession),
+        Err(EngineFault::NoMemory | EngineFault::Full) => Err(CoreFault::NoMemory),
+    }
+}
+
+/// Takes a step of a core.
+fn step_of_core(
+    core: &mut Core,
+    alloc: Global,
+    session: Option<u64>,
+    step: Step,
+) -> Result<Reply, CoreFault>
+    ensures { (h : History) → core.old.history ≡ h
+        → Takes (λ h. core.new.history ≡ h) h session (step_of step) result }
+{
+    core.step(alloc, session, step)
+}
+
+/// The text that tells what became of a step.
+fn told(alloc: Global, outcome: Result<Reply, CoreFault>) -> Result<String, AllocError>
+    ensures { IfOk result (λ text. IsTold outcome (string_bytes text)) }
+{
+    match outcome {
+        Ok(reply) => {
+            let text = reply_text(alloc, &reply);
+            drop(reply);
+            text
+        }
+        Err(CoreFault::NoSession) => String::from_str(alloc, no_session_reply()),
+        Err(CoreFault::NoMemory) => Err(AllocError),
+    }
 }
 
 impl TakesSteps for Core {
@@ -48,8 +94,9 @@ impl TakesSteps for Core {
         alloc: Global,
         session: Option<u64>,
         step: Step,
-    ) -> Result<Reply, CoreFault> {
-        self.step(alloc, session, step)
+    ) -> Result<String, AllocError> {
+        let outcome = step_of_core(self, alloc, session, step);
+        told(alloc, outcome)
     }
 
     fn as_engine(&self) -> &Engine {
@@ -69,12 +116,9 @@ impl TakesSteps for Engine {
         alloc: Global,
         session: Option<u64>,
         step: Step,
-    ) -> Result<Reply, CoreFault> {
-        match self.step(alloc, session, step) {
-            Ok(reply) => Ok(reply),
-            Err(EngineFault::NoSession) => Err(CoreFault::NoSession),
-            Err(EngineFault::NoMemory | EngineFault::Full) => Err(CoreFault::NoMemory),
-        }
+    ) -> Result<String, AllocError> {
+        let outcome = step_of_engine(self, alloc, session, step);
+        told(alloc, outcome)
     }
 
     fn as_engine(&self) -> &Engine {
