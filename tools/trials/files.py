@@ -5,9 +5,9 @@ import subprocess
 from pathlib import Path
 
 from starts import (
-    AS_NOBODY, FACT, GATE, IS_ROOT, LINES, MORE_LINES, PATIENCE, READ_FAULT, REPLIES, SCRIPT, TRIED, PassedOver, Run, alone,
-    at_line, begins_anew, begun, cannot_be_written, case, content, expect, goes_on, holds, judged, made, on_small_disk,
-    refused, words_of,
+    AS_NOBODY, FACT, GATE, IS_ROOT, LINES, MORE, MORE_LINES, PATIENCE, READ_FAULT, REPLIES, SCRIPT, TRIED, PassedOver, Run,
+    alone, at_line, begins_anew, begun, cannot_be_written, case, content, expect, goes_on, holds, judged, made,
+    on_small_disk, refused, words_of,
 )
 
 DATA = Path(__file__).resolve().parent.parent.parent / "crates/conformance/data"
@@ -138,6 +138,11 @@ for _name, _tail in TAILS.items():
         expect("the warning", run.warned, warning if len(tail) > 1 else b"")
         holds(folder / "j", LINES + GATE)
         goes_on(made(folder / "other", LINES + tail))
+        threads, script = made(folder / "threads", LINES + tail), made(folder / "script", MORE)
+        words = ["threads", "--numeric", TRIED.table, "--journal", str(threads), str(script)]
+        done = subprocess.run([TRIED.program, *words], capture_output=True, timeout=PATIENCE)
+        expect("the warning of threads", done.stderr, warning if len(tail) > 1 else b"")
+        holds(threads, LINES + MORE_LINES + GATE)
 
 
 @case("a batch that is staged and opened counts")

@@ -18,13 +18,13 @@ both_read {A} {B} {C} f g (Some a) x y first second =
     ap₂ some_both (ap (λ (o : Option B). unwrap_or o (f a)) first) (ap (λ (o : Option C). unwrap_or o (g a)) second)
 
 -- the files of a run that was entered
-pub files_of_run : (entered : Option (Text × List Row)) (name : Text) (rows : List Row) (table file begun journal flag : Option Text) (waits : Bool)
+pub files_of_run : (entered : Option (Text × List Row)) (name : Text) (rows : List Row) (table file begun journal flag told : Option Text) (waits explains : Bool)
     → entered ≡ Some (name, rows) → name ≡ codes "run" → table ≡ first_of (codes "numeric") rows
     → file ≡ first_of (codes "history") rows → begun ≡ first_of (codes "from") rows → journal ≡ first_of (codes "journal") rows
-    → flag ≡ first_of (codes "every_reply") rows → waits ≡ is_given flag
-    → asked entered ≡ Some (ToRun (record { numeric_file = table; history_file = file; begun_file = begun; journal_file = journal; waits = waits }))
-files_of_run entered name rows table file begun journal flag waits is named table_read file_read begun_read journal_read flag_read waits_is =
-    rw (is, named, waits_is, table_read, file_read, begun_read, journal_read, flag_read) refl
+    → flag ≡ first_of (codes "every_reply") rows → waits ≡ is_given flag → told ≡ first_of (codes "explain") rows → explains ≡ is_given told
+    → asked entered ≡ Some (ToRun (record { numeric_file = table; history_file = file; begun_file = begun; journal_file = journal; waits = waits; explains = explains }))
+files_of_run entered name rows table file begun journal flag told waits explains is named table_read file_read begun_read journal_read flag_read waits_is told_read explains_is =
+    rw (is, named, waits_is, explains_is, table_read, file_read, begun_read, journal_read, flag_read, told_read) refl
 
 -- the files of a check that was entered
 pub files_of_check : (entered : Option (Text × List Row)) (name : Text) (rows : List Row) (table : Option Text) (file : Text)

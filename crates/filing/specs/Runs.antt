@@ -18,6 +18,18 @@ use Rattle.filing_cli.specs.HistoryRun.{verdict_text, verdict_status}
 use Rattle.filing_cli.specs.Recorded.{HasLines}
 use Rattle.filing_cli.specs.Resumed.{history_on, output_on}
 use Rattle.filing_cli.specs.declared.entry_file.EntryFile.{EntryFile}
+use Rattle.filing.specs.declared.explained.Explainer.{Explainer}
+
+-- of what an explainer sees nothing is said
+abbrev pub looks_on : Explainer → List ℕ → List ℕ → Explainer → Type 0
+looks_on before line reply after = Unit {0}
+
+-- a journal is kept and goes on, and has these lines
+pub record GoesOnWith {D : Type 0} (seen : D → List ℕ) (may_leave : D → List ℕ → Type 0) (has_failed : D → Bool)
+    (lines : List ℕ) (journal : Journal D) : Type 0 where
+  pub kept : IsKept seen may_leave has_failed journal
+  pub goes_on : has_stopped journal ≡ false
+  pub lines_are : recovered (seen (device_of journal)) ≡ lines
 
 -- a journal is kept and goes on, and its lines are those of these entries, which are a lawful history
 pub record HasEntries {D : Type 0} (seen : D → List ℕ) (may_leave : D → List ℕ → Type 0) (has_failed : D → Bool)

@@ -49,6 +49,13 @@ every_reply = record (new_rule (codes "every_reply")) {
   action = Some SetTrue;
 }
 
+-- `--explain`
+unfoldable pub explain : Rule
+explain = record (new_rule (codes "explain")) {
+  long = Some (codes "explain");
+  action = Some SetTrue;
+}
+
 -- HISTORY, which has to be there
 unfoldable pub judged : Rule
 judged = record (new_rule (codes "judged")) {
@@ -67,7 +74,8 @@ scripts = record (new_rule (codes "scripts")) {
 
 -- the command `run`
 unfoldable pub run : App
-run = with_rule (with_rule (with_rule (with_rule (with_rule (new_app (codes "run")) numeric) history) from) journal) every_reply
+run = let taking = with_rule (with_rule (with_rule (with_rule (new_app (codes "run")) numeric) history) from) journal in
+    with_rule (with_rule taking every_reply) explain
 
 -- the command `check`
 unfoldable pub check : App
@@ -89,13 +97,14 @@ program = let bare = new_app (codes "filing") in
     with_subcommand (with_subcommand running check.top) words.top
 
 -- what a run is given: the file of a numeric table, that to which its history goes, that of a history to go on from, and that of
--- a journal, or none of each; and whether each reply waits for the journal
+-- a journal, or none of each; whether each reply waits for the journal, and whether it is told why lines are refused
 pub record RunAsked : Type 0 where
   pub numeric_file : Option Text
   pub history_file : Option Text
   pub begun_file : Option Text
   pub journal_file : Option Text
   pub waits : Bool
+  pub explains : Bool
 
 -- what threads are given: such files, and those of the scripts in their order
 pub record ThreadsAsked : Type 0 where
@@ -125,6 +134,7 @@ run_asked rows = Some (ToRun (record {
   begun_file = first_of (codes "from") rows;
   journal_file = first_of (codes "journal") rows;
   waits = is_given (first_of (codes "every_reply") rows);
+  explains = is_given (first_of (codes "explain") rows);
 }))
 
 abbrev pub check_asked : List Row → Option Asked
@@ -156,6 +166,7 @@ run_of given = record {
   begun_file = option_map (λ s. s.now) given.from;
   journal_file = option_map (λ s. s.now) given.journal;
   waits = given.every_reply;
+  explains = given.explain;
 }
 
 -- and those of threads

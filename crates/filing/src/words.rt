@@ -1,6 +1,6 @@
 ghost use Rattle.std.specs.Prelude.{◌≡◌, ◌⊎◌, false, IfOk, IsOkAnd, map, option_map, string_bytes};
 ghost use Rattle.clap.specs.Words.{AddsSubcommand, app_of, kind_of, new_app, rule_of, subcommand_rows_of, with_rule};
-ghost use Rattle.filing.specs.Words.{Asks, IsOrdered, is_given, numeric, history, from, journal, every_reply, judged, scripts, run, check, threads, words, program};
+ghost use Rattle.filing.specs.Words.{Asks, IsOrdered, is_given, numeric, history, from, journal, every_reply, explain, judged, scripts, run, check, threads, words, program};
 ghost use Rattle.filing.specs.declared.words.Invocation.TheVariants.{Shown};
 
 use crate::fault::Fault;
@@ -24,6 +24,8 @@ pub(crate) struct RunWords<'a> {
     pub(crate) journal: Option<&'a str>,
     /// Whether each reply waits until its entry is in the journal.
     pub(crate) every_reply: bool,
+    /// Whether it is told why lines are refused.
+    pub(crate) explain: bool,
 }
 
 /// What `threads` was given.
@@ -126,6 +128,18 @@ fn every_reply_flag<'a>(alloc: Global) -> Arg<'a>
         .action(ArgAction::SetTrue)
 }
 
+/// The flag by which it is told why lines are refused.
+#[tactic(auto, unfolding(crate::specs::Words::explain))]
+fn explain_flag<'a>(alloc: Global) -> Arg<'a>
+    ensures rule { rule_of result ≡ explain }
+    ensures local { result.global ≡ false }
+{
+    Arg::new(alloc, "explain")
+        .long("explain")
+        .help("Tells on standard error why lines are refused")
+        .action(ArgAction::SetTrue)
+}
+
 /// The file of the history that is to be judged.
 #[tactic(auto, unfolding(crate::specs::Words::judged))]
 fn judged_argument<'a>(alloc: Global) -> Arg<'a>
@@ -185,7 +199,8 @@ fn run_command<'a>(alloc: Global) -> Result<Command<'a>, AllocError>
     command_of(alloc, "run", about, LINES, history_option(alloc))?
         .arg(from_option(alloc))?
         .arg(journal_option(alloc))?
-        .arg(every_reply_flag(alloc))
+        .arg(every_reply_flag(alloc))?
+        .arg(explain_flag(alloc))
 }
 
 /// The command that judges a history.
@@ -269,6 +284,7 @@ fn ordered<'a>(alloc: Global, matches: &ArgMatches<'a>) -> Result<Invocation<'a>
             from: run.get_str("from"),
             journal: run.get_str("journal"),
             every_reply: is_given(run.get_str("every_reply")),
+            explain: is_given(run.get_str("explain")),
         })),
         Some(("check", check)) => match check.get_str("judged") {
             Some(history) => Ok(Invocation::Check {

@@ -13,7 +13,9 @@ returns-in-Some-run-default c =
     (option_map (λ s. s.now) c.get_str-in-Some-run-default-2.result)
     (option_map (λ s. s.now) c.get_str-in-Some-run-default-3.result)
     (option_map (λ s. s.now) c.get_str-in-Some-run-default-4.result)
+    (option_map (λ s. s.now) c.get_str-in-Some-run-default-5.result)
     c.is_given.result
+    c.is_given-in-Some-run-default.result
     (both_read _ _ _ _ _ (sym met.ensures.name) (sym met.ensures.rows))
     met.is-run
     (c.get_str.ensures ∙ first_value-rows found (codes "numeric"))
@@ -22,6 +24,8 @@ returns-in-Some-run-default c =
     (c.get_str-in-Some-run-default-3.ensures ∙ first_value-rows found (codes "journal"))
     (c.get_str-in-Some-run-default-4.ensures ∙ first_value-rows found (codes "every_reply"))
     c.is_given.ensures
+    (c.get_str-in-Some-run-default-5.ensures ∙ first_value-rows found (codes "explain"))
+    c.is_given-in-Some-run-default.ensures
 
 pub returns-in-Some : goal.returns-in-Some
 returns-in-Some c =

@@ -1,7 +1,7 @@
 use Rattle.std.proofs.Common.{◌≡◌, ◌∙◌, ap, codes, refl}
 use Rattle.std.proofs.lemmas.Result.{IfOk-weaker}
 use Rattle.clap.specs.Words.{app_of, new_app, with_rule}
-use Rattle.filing.specs.Words.{every_reply, from, history, journal, numeric, run}
+use Rattle.filing.specs.Words.{every_reply, explain, from, history, journal, numeric, run}
 use Rattle.filing.proofs.Commands.{with_argument}
 use Rattle.filing.proofs.words.run_command.Goals as goal
 
@@ -12,5 +12,6 @@ returns c =
     c.in_ok-command_of.ensures ∙ ap (with_rule (with_rule (new_app (codes "run")) numeric)) c.history_option.ensures.rule in
     let second = with_argument _ _ _ _ _ c.in_ok-arg.ensures first c.from_option.ensures.rule c.from_option.ensures.local in
     let third = with_argument _ _ _ _ _ c.in_ok-arg-2.ensures second c.journal_option.ensures.rule c.journal_option.ensures.local in
-    IfOk-weaker c.arg-3.result _ _ (λ r added. with_argument _ _ _ r _ added third c.every_reply_flag.ensures.rule c.every_reply_flag.ensures.local)
-    c.arg-3.ensures
+    let fourth = with_argument _ _ _ _ _ c.in_ok-arg-3.ensures third c.every_reply_flag.ensures.rule c.every_reply_flag.ensures.local in
+    IfOk-weaker c.arg-4.result _ _ (λ r added. with_argument _ _ _ r _ added fourth c.explain_flag.ensures.rule c.explain_flag.ensures.local)
+    c.arg-4.ensures
