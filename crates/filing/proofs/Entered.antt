@@ -3,10 +3,10 @@ use Rattle.std.proofs.Common.{◌≡◌, ◌⊎◌, refl, inl, inr, ap, ap₂, s
 use Rattle.clap.specs.Words.{Row, Text, IsAmong, all_of, fault_of, first_of, subcommand_of, takes}
 use Rattle.clap.specs.declared.error.kind.ErrorKind.{ErrorKind}
 use Rattle.clap.specs.declared.error.kind.ErrorKind.TheVariants.{DisplayHelp, DisplayVersion, OutOfMemory}
-use Rattle.filing.specs.Words.{Asks, IsOrdered, ToRun, ToCheck, ToThread, ToExplain, asked, is_given, program}
+use Rattle.filing.specs.Words.{Asks, IsOrdered, ToRun, ToCheck, ToShow, ToThread, ToExplain, asked, is_given, program}
 use Rattle.filing.specs.declared.fault.Fault.{Fault}
 use Rattle.filing.specs.declared.words.Invocation.{Invocation}
-use Rattle.filing.specs.declared.words.Invocation.TheVariants.{Run, Check, Threads, Explain, Shown}
+use Rattle.filing.specs.declared.words.Invocation.TheVariants.{Run, Check, Show, Threads, Explain, Shown}
 
 -- two values that are read of one, from each of them
 pub both_read : {A B C : Type 0} (f : A → B) (g : A → C) (o : Option A) (x : B) (y : C)
@@ -32,6 +32,14 @@ pub files_of_check : (entered : Option (Text × List Row)) (name : Text) (rows :
     → Some file ≡ first_of (codes "judged") rows → asked entered ≡ Some (ToCheck table file)
 files_of_check entered name rows table file is named table_read file_read = rw (is, named, table_read, ← file_read) refl
 
+-- what of a history is to be shown, that was entered
+pub shown_entered : (entered : Option (Text × List Row)) (name : Text) (rows : List Row) (table number report : Option Text) (file : Text)
+    → entered ≡ Some (name, rows) → name ≡ codes "show" → table ≡ first_of (codes "numeric") rows → number ≡ first_of (codes "at") rows
+    → report ≡ first_of (codes "report") rows → Some file ≡ first_of (codes "viewed") rows
+    → asked entered ≡ Some (ToShow (record { numeric_file = table; version_text = number; history_file = file; report_name = report }))
+shown_entered entered name rows table number report file is named table_read number_read report_read file_read =
+    rw (is, named, table_read, number_read, report_read, ← file_read) refl
+
 -- the files of scripts that were entered
 pub files_of_threads : (entered : Option (Text × List Row)) (name : Text) (rows : List Row) (table file begun journal : Option Text) (files : List Text)
     → entered ≡ Some (name, rows) → name ≡ codes "threads" → table ≡ first_of (codes "numeric") rows
@@ -51,6 +59,7 @@ pub asks_command : (words : List Text) (r : Result Invocation Fault) → fault_o
     → IfOk r (IsOrdered (subcommand_of program words)) → IfOk r (Asks words)
 asks_command words (Ok (Run given)) none ordered = (none, ordered)
 asks_command words (Ok (Check table file)) none ordered = (none, ordered)
+asks_command words (Ok (Show given)) none ordered = (none, ordered)
 asks_command words (Ok (Threads given)) none ordered = (none, ordered)
 asks_command words (Ok Explain) none ordered = (none, ordered)
 asks_command words (Ok Shown) none ordered = absurd ordered
@@ -77,6 +86,7 @@ pub asks_shown : (words : List Text) (kind : ErrorKind) (r : Result Invocation F
     → IfOk r (λ o. o ≡ Shown) → IfOk r (λ _. (kind ≡ DisplayHelp) ⊎ (kind ≡ DisplayVersion)) → IfOk r (Asks words)
 asks_shown words kind (Ok (Run given)) passes fails shown help = cc
 asks_shown words kind (Ok (Check table file)) passes fails shown help = cc
+asks_shown words kind (Ok (Show given)) passes fails shown help = cc
 asks_shown words kind (Ok (Threads given)) passes fails shown help = cc
 asks_shown words kind (Ok Explain) passes fails shown help = cc
 asks_shown words kind (Ok Shown) passes fails shown help =

@@ -5,14 +5,14 @@ use Rattle.clap.specs.declared.error.Error.{Error}
 use Rattle.clap.specs.declared.error.kind.ErrorKind.TheVariants.{OutOfMemory}
 use Rattle.clap.specs.declared.parser.matches.ArgMatches.{ArgMatches}
 use Rattle.clap.proofs.OnLiterals.{clap_on_literals}
-use Rattle.filing.specs.Words.{check, every_reply, explain, from, history, journal, judged, numeric, program, run, scripts, threads, words}
+use Rattle.filing.specs.Words.{at, check, every_reply, explain, from, history, journal, judged, numeric, program, report, run, scripts, show, threads, viewed, words}
 
 is_simple_program : is_simple program ≡ true
-unfolding clap_on_literals program run check threads words numeric history from journal every_reply explain judged scripts
+unfolding clap_on_literals program run check show threads words numeric history from journal every_reply explain judged viewed report at scripts
 is_simple_program = refl
 
 is_free_program : is_simple_and_free program ≡ true
-unfolding clap_on_literals program run check threads words numeric history from journal every_reply explain judged scripts
+unfolding clap_on_literals program run check show threads words numeric history from journal every_reply explain judged viewed report at scripts
 is_free_program = refl
 
 -- what clap says of a command line says the same of the program, where that is the command line

@@ -1,8 +1,10 @@
 -- What a run of the program leaves of its reader and its writer.
-use Rattle.std.specs.Prelude.{◌≡◌, ℕ, Bool, false, List, reverse}
+use Rattle.std.specs.Prelude.{◌≡◌, ℕ, Bool, false, List, reverse, Some, None, option_map}
 use Rattle.std.specs.declared.option.Option.{Option}
 use Rattle.std.specs.Io.KnownBytes.{Consumes, Appends, IsAtEnd}
+use Rattle.filing_model.specs.Common.Text.{Text}
 use Rattle.filing_model.specs.Oim.Facts.{Table}
+use Rattle.filing_model.specs.Sessions.Repository.{Repository}
 use Rattle.filing_model.specs.Histories.History.{Entry, History}
 use Rattle.filing_model.specs.Histories.Lawful.{IsLawful}
 use Rattle.line_io.specs.Lines.{lines_of, spoken}
@@ -19,6 +21,9 @@ use Rattle.filing_cli.specs.Recorded.{HasLines}
 use Rattle.filing_cli.specs.Resumed.{history_on, output_on}
 use Rattle.filing_cli.specs.declared.entry_file.EntryFile.{EntryFile}
 use Rattle.filing.specs.declared.explained.Explainer.{Explainer}
+use Rattle.history_views.specs.Versions.{version_asked}
+use Rattle.history_views.specs.declared.shown.Shown.{Shown}
+use Rattle.history_views.specs.declared.shown.Shown.TheVariants.{Written, NoReport, NoVersion}
 
 -- of what an explainer sees nothing is said
 abbrev pub looks_on : Explainer → List ℕ → List ℕ → Explainer → Type 0
@@ -115,6 +120,22 @@ pub record WritesVerdict (table : Table) (rest rest' written written' : Option (
   pub departs : LinesDepart table (spoken (lines_of given)) (departure verdict)
   pub took : Appends written written' (verdict_text verdict)
   pub status_is : status ≡ verdict_status verdict
+
+-- of the text that a version may have, where there is that version: it is written and nothing else, as far as the bytes are known; or there is none, or no such version, and nothing is written
+abbrev pub IsShown : Option (Option Text) → Option (List ℕ) → Option (List ℕ) → Shown → Type 0
+IsShown found written written' Written = (text : Text) × ((found ≡ Some (Some text)) × Appends written written' text)
+IsShown found written written' NoReport = (found ≡ Some None) × (written' ≡ written)
+IsShown found written written' NoVersion = (found ≡ None) × (written' ≡ written)
+
+-- the reader was read to its end, its lines are a lawful history, and this is what was shown of a text that the version which is asked for has in that history
+pub record ShowsVersion (table : Table) (number : Option ℕ) (text_of : Repository → Option Text)
+    (rest rest' written written' : Option (List ℕ)) (shown : Shown) : Type 0 where
+  pub given : List ℕ
+  pub gave : Consumes rest rest' given
+  pub at_end : IsAtEnd rest'
+  pub lawful : AreLawful table (spoken (lines_of given))
+  pub is_shown : IsShown
+      (option_map text_of (version_asked number (reverse (entries_on table (spoken (lines_of given)))))) written written' shown
 
 -- some bytes were written and nothing else, as far as they are known
 abbrev pub WritesSome : Option (List ℕ) → Option (List ℕ) → Type 0

@@ -6,9 +6,10 @@ use Rattle.clap.specs.Words.{App, Row, Rule, Text, IsAmong, all_of, fault_of, fi
 use Rattle.clap.specs.declared.builder.action.ArgAction.TheVariants.{Append, Set, SetTrue}
 use Rattle.clap.specs.declared.error.kind.ErrorKind.TheVariants.{DisplayHelp, DisplayVersion}
 use Rattle.filing.specs.declared.words.RunWords.{RunWords}
+use Rattle.filing.specs.declared.words.ShowWords.{ShowWords}
 use Rattle.filing.specs.declared.words.ThreadsWords.{ThreadsWords}
 use Rattle.filing.specs.declared.words.Invocation.{Invocation}
-use Rattle.filing.specs.declared.words.Invocation.TheVariants.{Run, Check, Threads, Explain, Shown}
+use Rattle.filing.specs.declared.words.Invocation.TheVariants.{Run, Check, Show, Threads, Explain, Shown}
 
 -- `--numeric FILE`
 unfoldable pub numeric : Rule
@@ -64,6 +65,29 @@ judged = record (new_rule (codes "judged")) {
   required = true;
 }
 
+-- HISTORY, of which something is to be shown
+unfoldable pub viewed : Rule
+viewed = record (new_rule (codes "viewed")) {
+  action = Some Set;
+  value_names = 1;
+  required = true;
+}
+
+-- REPORT
+unfoldable pub report : Rule
+report = record (new_rule (codes "report")) {
+  action = Some Set;
+  value_names = 1;
+}
+
+-- `--at VERSION`
+unfoldable pub at : Rule
+at = record (new_rule (codes "at")) {
+  long = Some (codes "at");
+  action = Some Set;
+  value_names = 1;
+}
+
 -- SCRIPT.., of which there has to be one
 unfoldable pub scripts : Rule
 scripts = record (new_rule (codes "scripts")) {
@@ -81,6 +105,10 @@ run = let taking = with_rule (with_rule (with_rule (with_rule (new_app (codes "r
 unfoldable pub check : App
 check = with_rule (with_rule (new_app (codes "check")) numeric) judged
 
+-- the command `show`
+unfoldable pub show : App
+show = with_rule (with_rule (with_rule (with_rule (new_app (codes "show")) numeric) viewed) report) at
+
 -- the command `threads`
 unfoldable pub threads : App
 threads = with_rule (with_rule (with_rule (with_rule (with_rule (new_app (codes "threads")) numeric) scripts) history) from) journal
@@ -94,7 +122,7 @@ unfoldable pub program : App
 program = let bare = new_app (codes "filing") in
     let wanting = record bare { top = record bare.top { has_version = true; subcommand_required = true } } in
     let running = with_subcommand (with_subcommand wanting run.top) threads.top in
-    with_subcommand (with_subcommand running check.top) words.top
+    with_subcommand (with_subcommand (with_subcommand running check.top) show.top) words.top
 
 -- what a run is given: the file of a numeric table, that to which its history goes, that of a history to go on from, and that of
 -- a journal, or none of each; whether each reply waits for the journal, and whether it is told why lines are refused
@@ -114,11 +142,21 @@ pub record ThreadsAsked : Type 0 where
   pub journal_file : Option Text
   pub script_files : List Text
 
--- a run; or the history of a file that is to be judged by the numeric table of another, or by none; or scripts in threads; or
--- the words by which lines are refused
+-- what is to be shown: the file of a numeric table, or none; the text of a version's number, or none; the file of a history; and the
+-- name of a report, or none
+pub record ShowAsked : Type 0 where
+  pub numeric_file : Option Text
+  pub version_text : Option Text
+  pub history_file : Text
+  pub report_name : Option Text
+
+-- a run; or the history of a file that is to be judged by the numeric table of another, or by none; or what is to be shown of
+-- a history;
+-- or scripts in threads; or the words by which lines are refused
 pub data Asked : Type 0 where
   ToRun : RunAsked → Asked
   ToCheck : Option Text → Text → Asked
+  ToShow : ShowAsked → Asked
   ToThread : ThreadsAsked → Asked
   ToExplain : Asked
 
@@ -126,7 +164,7 @@ pub data Asked : Type 0 where
 abbrev pub is_given : Option Text → Bool
 is_given value = option_map_or (λ text. bytes_eq text (codes "true")) value false
 
--- what `run`, `check` and `threads` ask for with these arguments
+-- what `run`, `check`, `show` and `threads` ask for with these arguments
 abbrev pub run_asked : List Row → Option Asked
 run_asked rows = Some (ToRun (record {
   numeric_file = first_of (codes "numeric") rows;
@@ -139,6 +177,14 @@ run_asked rows = Some (ToRun (record {
 
 abbrev pub check_asked : List Row → Option Asked
 check_asked rows = option_map (ToCheck (first_of (codes "numeric") rows)) (first_of (codes "judged") rows)
+
+abbrev pub show_asked : List Row → Option Asked
+show_asked rows = option_map (λ file. ToShow (record {
+  numeric_file = first_of (codes "numeric") rows;
+  version_text = first_of (codes "at") rows;
+  history_file = file;
+  report_name = first_of (codes "report") rows;
+})) (first_of (codes "viewed") rows)
 
 abbrev pub threads_asked : List Row → Option Asked
 threads_asked rows = option_map (λ files. ToThread (record {
@@ -154,8 +200,9 @@ abbrev pub asked : Option (Text × List Row) → Option Asked
 asked (Some entered) =
     if bytes_eq entered.0 (codes "run") then run_asked entered.1
     else (if bytes_eq entered.0 (codes "check") then check_asked entered.1
+    else (if bytes_eq entered.0 (codes "show") then show_asked entered.1
     else (if bytes_eq entered.0 (codes "threads") then threads_asked entered.1
-    else (if bytes_eq entered.0 (codes "words") then Some ToExplain else None)))
+    else (if bytes_eq entered.0 (codes "words") then Some ToExplain else None))))
 asked None = None
 
 -- what the words of a run are
@@ -167,6 +214,15 @@ run_of given = record {
   journal_file = option_map (λ s. s.now) given.journal;
   waits = given.every_reply;
   explains = given.explain;
+}
+
+-- those of what is to be shown
+abbrev pub shown_of : ShowWords → ShowAsked
+shown_of given = record {
+  numeric_file = option_map (λ s. s.now) given.numeric;
+  version_text = option_map (λ s. s.now) given.version;
+  history_file = given.history.now;
+  report_name = option_map (λ s. s.now) given.report;
 }
 
 -- and those of threads
@@ -183,6 +239,7 @@ threads_of given = record {
 abbrev pub IsOrdered : Option (Text × List Row) → Invocation → Type 0
 IsOrdered entered (Run given) = asked entered ≡ Some (ToRun (run_of given))
 IsOrdered entered (Check table file) = asked entered ≡ Some (ToCheck (option_map (λ s. s.now) table) file.now)
+IsOrdered entered (Show given) = asked entered ≡ Some (ToShow (shown_of given))
 IsOrdered entered (Threads given) = asked entered ≡ Some (ToThread (threads_of given))
 IsOrdered entered Explain = asked entered ≡ Some ToExplain
 IsOrdered entered Shown = ⊥
@@ -192,6 +249,7 @@ abbrev pub Asks : List Text → Invocation → Type 0
 Asks words (Run given) = (fault_of program words ≡ []) × IsOrdered (subcommand_of program words) (Run given)
 Asks words (Check table file) = (fault_of program words ≡ [])
     × IsOrdered (subcommand_of program words) (Check table file)
+Asks words (Show given) = (fault_of program words ≡ []) × IsOrdered (subcommand_of program words) (Show given)
 Asks words (Threads given) = (fault_of program words ≡ []) × IsOrdered (subcommand_of program words) (Threads given)
 Asks words Explain = (fault_of program words ≡ []) × IsOrdered (subcommand_of program words) Explain
 Asks words Shown = (takes program words ≡ false)

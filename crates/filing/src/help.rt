@@ -1,10 +1,11 @@
-//! What `filing --help` says of how to begin, `filing run --help` of the lines of a script, `filing threads --help` of several scripts, `filing check --help` of verdicts, and `filing words` of refusals. It is a text that is shown as it stands, at most 80 columns wide; no code reads it.
+//! What `filing --help` says of how to begin, `filing run --help` of the lines of a script, `filing threads --help` of several scripts, `filing check --help` of verdicts, `filing show --help` of versions, and `filing words` of refusals. It is a text that is shown as it stands, at most 80 columns wide; no code reads it.
 
 /// What `filing --help` says beside the commands.
 pub(crate) const BEGINNING: &str = r#"A script goes in, and a reply comes out for each of its lines:
   filing run < script.jsonl > replies.jsonl
   filing run --numeric concepts.txt --history history.jsonl < script.jsonl
   filing check --numeric concepts.txt history.jsonl
+  filing show --numeric concepts.txt --at 4 history.jsonl r1
 
 With a journal, what is loaded and committed is kept from run to run:
   filing run --journal office.jsonl < script.jsonl > replies.jsonl
@@ -119,6 +120,27 @@ line tells the verdict:
 
 The numeric table has to be that of the run. The spaces in a line and the order
 of members are free."#;
+
+/// What `filing show --help` says of versions.
+pub(crate) const VERSIONS: &str =
+    r#"Each load and commit that is accepted makes a version: the numbers are those of
+["loaded",1] and ["committed",2], and version 0 is empty. A report of a version
+comes out in one line, as ["export","r1"] was answered when that version was the
+current one:
+  filing show --at 4 history.jsonl r1
+  filing show history.jsonl r1 | jq '.[1]'
+                              the last version, and the report alone
+
+Without a report there is a line for the version, and one for each of its
+reports in byte order of names: how many facts it has, and the duplicates that
+it allows:
+  ["version",4]
+  ["report","r1",120,"consistent"]
+
+The history is judged first: where it departs, nothing is shown, and the status
+is 4. It may be a journal. The numeric table has to be that of the run. The
+status is 2 where the history has no such version, or the version no such
+report."#;
 
 /// What `filing threads --help` says of several scripts.
 pub(crate) const THREADS: &str =

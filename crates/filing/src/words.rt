@@ -1,10 +1,10 @@
 ghost use Rattle.std.specs.Prelude.{◌≡◌, ◌⊎◌, false, IfOk, IsOkAnd, map, option_map, string_bytes};
 ghost use Rattle.clap.specs.Words.{AddsSubcommand, app_of, kind_of, new_app, rule_of, subcommand_rows_of, with_rule};
-ghost use Rattle.filing.specs.Words.{Asks, IsOrdered, is_given, numeric, history, from, journal, every_reply, explain, judged, scripts, run, check, threads, words, program};
+ghost use Rattle.filing.specs.Words.{Asks, IsOrdered, is_given, numeric, history, from, journal, every_reply, explain, judged, viewed, report, at, scripts, run, check, show, threads, words, program};
 ghost use Rattle.filing.specs.declared.words.Invocation.TheVariants.{Shown};
 
 use crate::fault::Fault;
-use crate::help::{BEGINNING, LINES, REFUSALS, THREADS, VERDICTS};
+use crate::help::{BEGINNING, LINES, REFUSALS, THREADS, VERDICTS, VERSIONS};
 use crate::stray::stray_word;
 use clap::error::ErrorKind;
 use clap::{Arg, ArgAction, ArgMatches, Command, Error};
@@ -26,6 +26,19 @@ pub(crate) struct RunWords<'a> {
     pub(crate) every_reply: bool,
     /// Whether it is told why lines are refused.
     pub(crate) explain: bool,
+}
+
+/// What `show` was given.
+#[derive(Clone, Copy)]
+pub(crate) struct ShowWords<'a> {
+    /// The file of a numeric table.
+    pub(crate) numeric: Option<&'a str>,
+    /// The number of a version, as it was written.
+    pub(crate) version: Option<&'a str>,
+    /// The file of the history.
+    pub(crate) history: &'a str,
+    /// The name of a report.
+    pub(crate) report: Option<&'a str>,
 }
 
 /// What `threads` was given.
@@ -53,6 +66,8 @@ pub(crate) enum Invocation<'a> {
         numeric: Option<&'a str>,
         history: &'a str,
     },
+    /// Show a report as a version of the history in a file has it, or which reports it has.
+    Show(ShowWords<'a>),
     /// Run the scripts in some files, each in a thread of its own.
     Threads(ThreadsWords<'a>),
     /// Tell the words by which lines are refused.
@@ -153,6 +168,44 @@ fn judged_argument<'a>(alloc: Global) -> Arg<'a>
         .required(true)
 }
 
+/// The file of the history of which something is to be shown.
+#[tactic(auto, unfolding(crate::specs::Words::viewed))]
+fn viewed_argument<'a>(alloc: Global) -> Arg<'a>
+    ensures rule { rule_of result ≡ viewed }
+    ensures local { result.global ≡ false }
+{
+    Arg::new(alloc, "viewed")
+        .value_name("HISTORY")
+        .help("A history, as `run --history` writes it, or a journal")
+        .action(ArgAction::Set)
+        .required(true)
+}
+
+/// The name of a report that is to be shown.
+#[tactic(auto, unfolding(crate::specs::Words::report))]
+fn report_argument<'a>(alloc: Global) -> Arg<'a>
+    ensures rule { rule_of result ≡ report }
+    ensures local { result.global ≡ false }
+{
+    Arg::new(alloc, "report")
+        .value_name("REPORT")
+        .help("The name of a report; without it all are listed")
+        .action(ArgAction::Set)
+}
+
+/// The option that names a version by its number.
+#[tactic(auto, unfolding(crate::specs::Words::at))]
+fn at_option<'a>(alloc: Global) -> Arg<'a>
+    ensures rule { rule_of result ≡ at }
+    ensures local { result.global ≡ false }
+{
+    Arg::new(alloc, "at")
+        .long("at")
+        .value_name("VERSION")
+        .help("The version by its number; without it the last one")
+        .action(ArgAction::Set)
+}
+
 /// The files of the scripts that are to be run in threads.
 #[tactic(auto, unfolding(crate::specs::Words::scripts))]
 fn scripts_argument<'a>(alloc: Global) -> Arg<'a>
@@ -211,6 +264,16 @@ fn check_command<'a>(alloc: Global) -> Result<Command<'a>, AllocError>
     command_of(alloc, "check", about, VERDICTS, judged_argument(alloc))
 }
 
+/// The command that shows reports of a history.
+fn show_command<'a>(alloc: Global) -> Result<Command<'a>, AllocError>
+    ensures { IfOk result (λ c. app_of c ≡ show) }
+{
+    let about = "Shows a report, or all names, as a version of a history has them";
+    command_of(alloc, "show", about, VERSIONS, viewed_argument(alloc))?
+        .arg(report_argument(alloc))?
+        .arg(at_option(alloc))
+}
+
 /// The command that runs scripts in threads.
 fn threads_command<'a>(alloc: Global) -> Result<Command<'a>, AllocError>
     ensures { IfOk result (λ c. app_of c ≡ threads) }
@@ -260,7 +323,8 @@ fn command<'a>(alloc: Global) -> Result<Command<'a>, AllocError>
     let with_run = with_below(bare, run_command(alloc))?;
     let with_threads = with_below(with_run, threads_command(alloc))?;
     let with_check = with_below(with_threads, check_command(alloc))?;
-    with_check.subcommand(words_command(alloc))
+    let with_show = with_below(with_check, show_command(alloc))?;
+    with_show.subcommand(words_command(alloc))
 }
 
 /// Whether the value of a flag says that it was given.
@@ -273,7 +337,7 @@ fn is_given(value: Option<&str>) -> bool
     }
 }
 
-/// What the words that `clap` has taken ask for. It takes none without a command, no `check` without its file, and no `threads` without a script.
+/// What the words that `clap` has taken ask for. It takes none without a command, no `check` without its file, no `show` without its file, and no `threads` without a script.
 fn ordered<'a>(alloc: Global, matches: &ArgMatches<'a>) -> Result<Invocation<'a>, Fault>
     ensures { IfOk result (IsOrdered (subcommand_rows_of matches.now)) }
 {
@@ -291,6 +355,15 @@ fn ordered<'a>(alloc: Global, matches: &ArgMatches<'a>) -> Result<Invocation<'a>
                 numeric: check.get_str("numeric"),
                 history,
             }),
+            None => Err(Fault::Words),
+        },
+        Some(("show", show)) => match show.get_str("viewed") {
+            Some(history) => Ok(Invocation::Show(ShowWords {
+                numeric: show.get_str("numeric"),
+                version: show.get_str("at"),
+                history,
+                report: show.get_str("report"),
+            })),
             None => Err(Fault::Words),
         },
         Some(("threads", threads)) => match threads.get_strs("scripts") {

@@ -2,12 +2,12 @@ use Rattle.std.proofs.Common.{ap, codes, true, false, refl, ◌≡◌, ◌∙◌
 use Rattle.std.proofs.lemmas.Result.{IfOk-weaker}
 use Rattle.clap.specs.Words.{App, app_of, new_app}
 use Rattle.clap.specs.Simple.{app_of_fields}
-use Rattle.filing.specs.Words.{check, every_reply, from, history, journal, judged, numeric, program, run, scripts, threads, words}
+use Rattle.filing.specs.Words.{at, check, every_reply, from, history, journal, judged, numeric, program, report, run, scripts, show, threads, viewed, words}
 use Rattle.filing.proofs.Commands.{with_command, with_made}
 use Rattle.filing.proofs.words.command.Goals as goal
 
 pub returns : goal.returns
-unfolding numeric history from journal every_reply judged scripts run check threads words program
+unfolding numeric history from journal every_reply judged viewed report at scripts run check show threads words program
 returns c =
     let dated = λ (a : App). record a { top = record a.top { has_version = true } } in
     let wants = λ (a : App). record a { top = record a.top { subcommand_required = true } } in
@@ -20,5 +20,6 @@ returns c =
     let runs = with_made _ run _ _ _ c.in_ok-with_run.ensures top_is c.run_command.ensures refl in
     let threaded = with_made _ threads _ _ _ c.in_ok-with_threads.ensures runs c.threads_command.ensures refl in
     let checked = with_made _ check _ _ _ c.in_ok-with_check.ensures threaded c.check_command.ensures refl in
-    IfOk-weaker c.subcommand.result _ _ (λ r added. with_command _ words _ _ r added checked c.words_command.ensures refl)
+    let showing = with_made _ show _ _ _ c.in_ok-with_show.ensures checked c.show_command.ensures refl in
+    IfOk-weaker c.subcommand.result _ _ (λ r added. with_command _ words _ _ r added showing c.words_command.ensures refl)
     c.subcommand.ensures

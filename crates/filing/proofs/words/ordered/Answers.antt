@@ -1,7 +1,7 @@
 use Rattle.std.proofs.Common.{◌∙◌, ap, sym, codes, map, option_map, Some, List, Bor, ℕ}
 use Rattle.clap.specs.Words.{found_of, rows_of, subcommand_rows_of}
 use Rattle.clap.proofs.WalkLemmas.{first_value-rows, raw_values-rows}
-use Rattle.filing.proofs.Entered.{both_read, files_of_run, files_of_check, files_of_threads, refusals_entered}
+use Rattle.filing.proofs.Entered.{both_read, files_of_run, files_of_check, files_of_threads, refusals_entered, shown_entered}
 use Rattle.filing.proofs.words.ordered.Goals as goal
 
 pub returns-in-Some-run-default : goal.returns-in-Some-run-default
@@ -37,6 +37,21 @@ returns-in-Some c =
     met.is-check
     (c.get_str-in-Some.ensures ∙ first_value-rows found (codes "numeric"))
     (c.in-Some.ensures ∙ first_value-rows found (codes "judged"))
+
+pub returns-in-Some-get_str : goal.returns-in-Some-get_str
+returns-in-Some-get_str c =
+    let met = c.in-Some-show-default in
+    let found = found_of met.show.now in
+    shown_entered (subcommand_rows_of c.args.matches.now) met.field-0-0.now (rows_of found) (option_map (λ s. s.now) c.get_str-in-Some-get_str.result)
+    (option_map (λ s. s.now) c.get_str-in-Some-get_str-2.result)
+    (option_map (λ s. s.now) c.get_str-in-Some-get_str-3.result)
+    c.in-Some-get_str.history.now
+    (both_read _ _ _ _ _ (sym met.ensures.name) (sym met.ensures.rows))
+    met.is-show
+    (c.get_str-in-Some-get_str.ensures ∙ first_value-rows found (codes "numeric"))
+    (c.get_str-in-Some-get_str-2.ensures ∙ first_value-rows found (codes "at"))
+    (c.get_str-in-Some-get_str-3.ensures ∙ first_value-rows found (codes "report"))
+    (c.in-Some-get_str.ensures ∙ first_value-rows found (codes "viewed"))
 
 pub returns-in_ok-to_vec-in-Some-get_strs : goal.returns-in_ok-to_vec-in-Some-get_strs
 returns-in_ok-to_vec-in-Some-get_strs c =

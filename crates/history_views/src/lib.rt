@@ -1,0 +1,28 @@
+//! Views of histories: what a history made, without an entry of it kept.
+//!
+//! - `view`: what is seen of a history, entry by entry.
+//! - `viewer`: follows the lines of a history, and has a view look at each entry.
+//! - `viewed`: reads a history that way.
+//! - `sought`: the view that looks for a version.
+//! - `found`: finds a version in a history.
+//! - `report`: writes a report of a version that was found.
+//! - `named`: the view that looks for a version, and keeps the names of reports.
+//! - `listing`: lists the reports of a version.
+//! - `shown`: what came of what was asked for.
+//!
+//! It knows nothing of how a line is read and judged (`filing_cli`), of how a reply is written (`script_format`), of how a version holds its reports (`filing_version`), or of files.
+#![tactic(auto)]
+
+mod found;
+mod listing;
+mod named;
+mod report;
+mod shown;
+mod sought;
+mod view;
+mod viewed;
+mod viewer;
+
+pub use found::{FoundVersion, version_of_history};
+pub use listing::{FoundListing, listing_of_history};
+pub use shown::Shown;
