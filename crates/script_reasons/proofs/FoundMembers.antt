@@ -1,12 +1,12 @@
 -- Each member of an object is found in it by its name.
-use Rattle.std.proofs.Common.{◌≡◌, ◌∷◌, Bool, true, List, Option, Some, Less, Equal, Greater, String, string_bytes, is_some, ap, refl, sym, ◌∙◌, subst}
+use Rattle.std.proofs.Common.{◌≡◌, ◌∷◌, true, List, Option, Some, Less, Equal, Greater, String, string_bytes, is_some, ap, refl, subst}
 use Rattle.std.specs.Cmp.{Equal-is}
 use Rattle.std.specs.Ordering.{match_ordering}
 use Rattle.std.specs.declared.alloc.Global.{Global}
 use Rattle.std.specs.declared.cmp.Ordering.{Ordering}
 use Rattle.serde_json.specs.Data.{Data, Members, no_members, member}
 use Rattle.serde_json.specs.Find.{get_member}
-use Rattle.serde_json.specs.View.{view, members_view}
+use Rattle.serde_json.specs.View.{members_view}
 use Rattle.serde_json.specs.declared.value.Value.{Value}
 use Rattle.filing_model.specs.Common.Text.{Text, text_cmp}
 use Rattle.filing_model.proofs.Common.Texts.{text_eq-refl}

@@ -1,5 +1,5 @@
 -- The identifiers that are told stay among those of a line.
-use Rattle.std.proofs.Common.{◌≡◌, Bool, true, codes, List, Option, Some, Result, Ok, Err, OnOk, is_some, option_and_then, unwrap_or, ap, subst, sym, true≢false}
+use Rattle.std.proofs.Common.{◌≡◌, true, codes, List, Option, Some, Result, Ok, Err, OnOk, is_some, option_and_then, unwrap_or, ap, subst, sym, true≢false}
 use Rattle.serde_json.specs.Data.{Data, null, boolean, number, string, array, object, Members}
 use Rattle.serde_json.specs.Find.{as_object, get, get_member}
 use Rattle.filing_model.specs.Common.Text.{Text}

@@ -1,5 +1,5 @@
 -- Each refusal that a word tells has that word.
-use Rattle.std.proofs.Common.{◌≡◌, ◌∙◌, sym, refl, Bool, true, false, codes, Option, Some, None, IfSome, if◌then◌else◌}
+use Rattle.std.proofs.Common.{◌≡◌, ◌∙◌, sym, refl, true, false, codes, Option, Some, None, IfSome, if◌then◌else◌}
 use Rattle.filing_model.specs.Common.Text.{Text, text_eq}
 use Rattle.filing_model.proofs.Common.Texts.{text_same}
 use Rattle.script_reasons.specs.Refusals.{refusal_word, refusal_of_word}

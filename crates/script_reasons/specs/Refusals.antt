@@ -1,5 +1,5 @@
 -- Which lines of a script were refused, by their replies. The project's own.
-use Rattle.std.specs.Prelude.{ℕ, Bool, false, ◌&&◌, ◌==◌, codes, Option, None, Some, if◌then◌else◌, option_and_then}
+use Rattle.std.specs.Prelude.{ℕ, Bool, false, ◌==◌, codes, Option, None, Some, if◌then◌else◌, option_and_then}
 use Rattle.std.specs.List.{before_first, after_first}
 use Rattle.filing_model.specs.Common.Text.{Text, text_eq}
 use Rattle.filing_model.specs.Reading.JsonText.{json_of}

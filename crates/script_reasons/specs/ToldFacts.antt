@@ -8,7 +8,7 @@ use Rattle.filing_model.specs.Oim.Facts.{Names, RawFact, fit_of}
 use Rattle.filing_model.specs.Reading.JsonText.{json_of, without_mark}
 use Rattle.filing_model.specs.Reading.ReadFact.{raw_fact_of}
 use Rattle.filing_model.specs.declared.faults.Trouble.{Trouble}
-use Rattle.script_format.specs.ScriptLines.{Line, Load, Open, Ask, Commit, Close, Export, Asking, Add, line_of}
+use Rattle.script_format.specs.ScriptLines.{Line, Load, Ask, Asking, Add, line_of}
 use Rattle.script_reasons.specs.declared.reasons.Reason.{Reason}
 
 -- a report has a fact under this identifier

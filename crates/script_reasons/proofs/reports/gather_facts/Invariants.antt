@@ -1,4 +1,4 @@
-use Rattle.std.proofs.Common.{◌≡◌, is_some}
+use Rattle.std.proofs.Common.{is_some}
 use Rattle.serde_json.specs.Find.{get_member}
 use Rattle.serde_json.specs.View.{members_view}
 use Rattle.script_reasons.specs.ToldFacts.{KeepsTo}
