@@ -37,7 +37,11 @@ module _ (table : Table) (source source' : SourceState) (engine : EngineState) (
       → (h : History) × (IsHistoryFollowed table source source' engine h × SeeksNamedOn first n h)
       → (h : History) × (IsHistoryFollowed table source source' engine h × (text ≡ option_map listing (version_asked number h)))
   listed_at_end first n text first_is told lists (h, (followed, (same, (seeks, has)))) =
-      let is : found ≡ version_asked n.version.number h = told h followed.engine_is seeks in
-      (h, (followed,
-      lists (λ c there. names_of_found n.names n.version.number _ h c seeks has (sym is ∙ there))
-      ∙ ap (option_map listing) (is ∙ ap (λ k. version_asked k h) (same ∙ first_is))))
+      let is : found ≡ version_asked n.version.number h = told h followed.engine_is seeks in (
+        h,
+        (
+          followed,
+          lists (λ c there. names_of_found n.names n.version.number _ h c seeks has (sym is ∙ there))
+              ∙ ap (option_map listing) (is ∙ ap (λ k. version_asked k h) (same ∙ first_is)),
+        ),
+      )

@@ -1,22 +1,19 @@
 -- The names of the reports of a repository, after one entry more, and the list of the reports by their names.
-use Rattle.std.proofs.Common.{◌≡◌, ◌∙◌, ap, sym, refl, subst, T, Bool, true, false, cond, List, [], ◌∷◌, ◌++◌, map, Option, Some, None, is_some, option_map, unwrap_or, true≢false}
-use Rattle.std.specs.Option.{option_map_or}
-use Rattle.std.specs.FinMap.Entries.{find, is_sorted}
-use Rattle.filing_model.specs.Common.Text.{Text, text_cmp, text_eq}
-use Rattle.filing_model.specs.Common.TextMap.{TextMap, get, insert, keys}
+use Rattle.std.proofs.Common.{◌≡◌, ◌∙◌, ap, sym, refl, subst, Bool, true, false, cond, ◌∷◌, Option, Some, None, is_some, option_map, true≢false}
+use Rattle.filing_model.specs.Common.Text.{Text, text_eq}
+use Rattle.filing_model.specs.Common.TextMap.{TextMap, get, insert}
 use Rattle.filing_model.specs.Oim.Reports.{Report}
 use Rattle.filing_model.specs.Sessions.Repository.{Repository, report_at}
 use Rattle.filing_model.specs.Sessions.Replies as reply
 use Rattle.filing_model.specs.Sessions.Replies.{Reply}
 use Rattle.filing_model.specs.Histories.History.{Step, Entry, History, calls_of, repository}
-use Rattle.filing_model.specs.Histories.Lawful.{IsLawful, IsNext}
+use Rattle.filing_model.specs.Histories.Lawful.{IsNext}
 use Rattle.filing_model.specs.Histories.Versions.{counts}
 use Rattle.filing_model.specs.declared.kind.Kind.TheVariants.{Amend}
 use Rattle.filing_model.proofs.Common.TextMaps.{get-insert}
 use Rattle.filing_laws.proofs.Agreement.RunsAlike.{run_leaves_names}
-use Rattle.filing_laws.proofs.Lists.WithOneFact.{names_at}
 use Rattle.filing_laws.proofs.Touching.EntryCases.{EntryCase, Quiet, Accepted, Passed, entry_case, quiet_repository}
-use Rattle.history_views.specs.Names.{HasNames, name_in, name_loaded, name_told}
+use Rattle.history_views.specs.Names.{HasNames, name_loaded, name_told}
 
 -- ---- one entry more
 
