@@ -1,4 +1,5 @@
 """Cases of files: what is taken as a journal, what is cut off, what is refused, and paths."""
+import json
 import os
 import stat
 import subprocess
@@ -144,6 +145,23 @@ for _name, _tail in TAILS.items():
         expect("the warning of threads", done.stderr, warning if len(tail) > 1 else b"")
         # A review in threads takes no lock, and so is no entry.
         holds(threads, LINES + GATE)
+
+
+@case("what is taken can be read again, however deep the links of a fact nest, added or loaded")
+def _(folder):
+    info = '{"documentType":"https://xbrl.org/2021/xbrl-json","namespaces":{"ex":"http://e.org/t"}}'
+    for depth in range(116, 128):
+        links = '{"a":' * depth + "1" + "}" * depth
+        fact = '{"value":"x","dimensions":{"concept":"ex:A"},"links":%s}' % links
+        bare, full = ('{"documentInfo":%s,"facts":{%s}}' % (info, facts) for facts in ("", '"f1":%s' % fact))
+        for name, report, added in ("added", bare, fact), ("object", full, FACT), ("text", json.dumps(full), FACT):
+            script = f'["load","r1",{report}]\n["open","s","amend"]\n["add","s","r1","f2",{added}]\n["commit","s"]\n'
+            path = folder / f"{name}-{depth}"
+            run = Run(path, script.encode())
+            deep = b"filing: line %d nests too deep for the journal\n" % (3 if name == "added" else 1)
+            expect("how it ends", (run.status, run.told) in ((0, b""), (1, deep)), True)
+            Run(path).ends()
+            judged(path.read_bytes(), folder)
 
 
 @case("a batch that is staged and opened counts")
