@@ -42,10 +42,11 @@ impl Explainer {
     fn reasons(
         &self,
         alloc: Global,
+        number: u64,
         line: &[u8],
         reply: &str,
     ) -> Result<Option<String>, AllocError> {
-        let Some(reasons) = explain(alloc, self.lines, line, &self.table, reply)? else {
+        let Some(reasons) = explain(alloc, number, line, &self.table, reply)? else {
             return Ok(None);
         };
         let mut text = String::new(alloc);
@@ -54,12 +55,12 @@ impl Explainer {
     }
 
     /// Tells why a line was refused, if it was.
-    fn tell(&mut self, alloc: Global, line: &[u8], reply: &str) {
-        let Ok(Some(text)) = self.reasons(alloc, line, reply) else {
+    fn tell(&mut self, alloc: Global, number: u64, line: &[u8], reply: &str) {
+        let Ok(Some(text)) = self.reasons(alloc, number, line, reply) else {
             return;
         };
         if self.refused == 0 {
-            self.first_refused = self.lines;
+            self.first_refused = number;
         }
         self.refused = self.refused.saturating_add(1);
         let _ = eprint!(&self.rt; "{text}");
@@ -79,10 +80,10 @@ impl Explainer {
 impl Observes for Explainer {
     ghost sees = { looks_on };
 
-    fn observe(&mut self, alloc: Global, line: &[u8], reply: &str) {
+    fn observe(&mut self, alloc: Global, number: u128, line: &[u8], reply: &str) {
         self.lines = self.lines.saturating_add(1);
         if self.explains {
-            self.tell(alloc, line, reply);
+            self.tell(alloc, number as u64, line, reply);
         }
     }
 }

@@ -1,6 +1,6 @@
 //! `Observed`: a machine whose lines are shown to an observer, with their replies.
 
-ghost use Rattle.std.specs.Prelude.{ℕ, List};
+ghost use Rattle.std.specs.Prelude.{◌≡◌, ℕ, List};
 ghost use Rattle.filing_cli.specs.Observed.{KeepsSeen, RepliesSeen, keeps_nothing, keeps_twice, looks_at_nothing};
 
 use line_io::{DurableMachine, Failed, Machine};
@@ -11,8 +11,8 @@ pub trait Observes {
     /// The observer before, a line that is not blank, its reply without a line feed, and the observer after.
     ghost sees: { Self → List ℕ → List ℕ → Self → Type 0 };
 
-    /// Looks at a line and its reply.
-    fn observe(&mut self, alloc: Global, line: &[u8], reply: &str)
+    /// Looks at a line, which has this number among all lines of the script, from 1, and at its reply.
+    fn observe(&mut self, alloc: Global, number: u128, line: &[u8], reply: &str)
         ensures { sees self.old line.now reply.now self.new };
 }
 
@@ -23,7 +23,7 @@ pub(crate) struct Unobserved;
 impl Observes for Unobserved {
     ghost sees = { looks_at_nothing };
 
-    fn observe(&mut self, _alloc: Global, _line: &[u8], _reply: &str) {}
+    fn observe(&mut self, _alloc: Global, _number: u128, _line: &[u8], _reply: &str) {}
 }
 
 /// A machine, and what is shown its lines with their replies.
@@ -33,12 +33,22 @@ pub(crate) struct Observed<M: Drop, O: Drop> {
     pub(crate) observer: O,
 }
 
+impl<M: Drop, O: Observes + Drop> Observed<M, O> {
+    /// Shows a line beside its reply.
+    fn show(&mut self, alloc: Global, number: u128, line: &[u8], reply: &str)
+        ensures machine { self.new.machine ≡ self.old.machine }
+        ensures saw { O.sees self.old.observer line.now reply.now self.new.observer }
+    {
+        self.observer.observe(alloc, number, line, reply);
+    }
+}
+
 impl<M: Machine + Drop, O: Observes + Drop> Machine for Observed<M, O> {
     ghost replies = { RepliesSeen M.replies O.sees };
 
-    fn answer(&mut self, alloc: Global, line: &[u8]) -> Result<String, AllocError> {
-        let reply = self.machine.answer(alloc, line)?;
-        self.observer.observe(alloc, line, &reply);
+    fn answer(&mut self, alloc: Global, number: u128, line: &[u8]) -> Result<String, AllocError> {
+        let reply = self.machine.answer(alloc, number, line)?;
+        self.show(alloc, number, line, &reply);
         Ok(reply)
     }
 }
@@ -54,9 +64,9 @@ impl<M: DurableMachine + Drop, O: Observes + Drop> DurableMachine for Observed<M
 
     ghost has_failed = { λ m. M.has_failed m.machine };
 
-    fn answer(&mut self, alloc: Global, line: &[u8]) -> Result<String, AllocError> {
-        let reply = self.machine.answer(alloc, line)?;
-        self.observer.observe(alloc, line, &reply);
+    fn answer(&mut self, alloc: Global, number: u128, line: &[u8]) -> Result<String, AllocError> {
+        let reply = self.machine.answer(alloc, number, line)?;
+        self.show(alloc, number, line, &reply);
         Ok(reply)
     }
 

@@ -158,7 +158,7 @@ impl<T: TakesSteps + Drop> ScriptMachine<T> {
 impl<T: TakesSteps + Drop> Machine for ScriptMachine<T> {
     ghost replies = { AnswersLine T.has_taken };
 
-    fn answer(&mut self, alloc: Global, line: &[u8]) -> Result<String, AllocError> {
+    fn answer(&mut self, alloc: Global, _number: u128, line: &[u8]) -> Result<String, AllocError> {
         self.answer_line(alloc, line)
     }
 }

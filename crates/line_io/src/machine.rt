@@ -10,8 +10,8 @@ pub trait Machine {
     /// The machine before, a line that is not blank, its reply without a line feed, and the machine after.
     ghost replies: { Self → List ℕ → List ℕ → Self → Type 0 };
 
-    /// Answers a line. Where memory is refused, nothing is said of the machine, which is asked nothing more: it may have taken a step for whose reply there is no memory.
-    fn answer(&mut self, alloc: Global, line: &[u8]) -> Result<String, AllocError>
+    /// Answers a line, which has this number among all lines of the source, from 1. Where memory is refused, nothing is said of the machine, which is asked nothing more: it may have taken a step for whose reply there is no memory.
+    fn answer(&mut self, alloc: Global, number: u128, line: &[u8]) -> Result<String, AllocError>
         ensures { IfOk result (λ reply. replies self.old line.now (string_bytes reply) self.new) };
 }
 
@@ -32,8 +32,8 @@ pub trait DurableMachine {
     /// Keeping has failed.
     ghost has_failed: { Self → Type 0 };
 
-    /// Answers a line. Where memory is refused, the machine is asked nothing more, but to keep what it did.
-    fn answer(&mut self, alloc: Global, line: &[u8]) -> Result<String, AllocError>
+    /// Answers a line, which has this number among all lines of the source, from 1. Where memory is refused, the machine is asked nothing more, but to keep what it did.
+    fn answer(&mut self, alloc: Global, number: u128, line: &[u8]) -> Result<String, AllocError>
         ensures replies { IfOk result (λ reply. replies self.old line.now (string_bytes reply) self.new) }
         ensures starves { OnErr result (starves self.old line.now self.new) };
 

@@ -12,7 +12,12 @@ use std::alloc::{AllocError, Global};
 pub(crate) trait Mode<M> {
     ghost conduct: { Conduct M };
 
-    fn answer(machine: &mut M, alloc: Global, line: &[u8]) -> Result<String, AllocError>
+    fn answer(
+        machine: &mut M,
+        alloc: Global,
+        number: u128,
+        line: &[u8],
+    ) -> Result<String, AllocError>
         ensures replies { IfOk result (λ reply. conduct.replies machine.old line.now (string_bytes reply) machine.new) }
         ensures starves { OnErr result (conduct.starves machine.old line.now machine.new) };
 
@@ -32,8 +37,13 @@ impl<M: Machine> Mode<M> for Plain {
 
     ghost keeps_on = { record { nothing = λ m. refl; twice = λ a b c p q. q ∙ p } };
 
-    fn answer(machine: &mut M, alloc: Global, line: &[u8]) -> Result<String, AllocError> {
-        machine.answer(alloc, line)
+    fn answer(
+        machine: &mut M,
+        alloc: Global,
+        number: u128,
+        line: &[u8],
+    ) -> Result<String, AllocError> {
+        machine.answer(alloc, number, line)
     }
 
     fn keep(_machine: &mut M) -> Result<(), Failed> {
@@ -49,8 +59,13 @@ impl<M: DurableMachine> Mode<M> for Durable {
 
     ghost keeps_on = { record { nothing = M.keeps_nothing; twice = M.keeps_twice } };
 
-    fn answer(machine: &mut M, alloc: Global, line: &[u8]) -> Result<String, AllocError> {
-        machine.answer(alloc, line)
+    fn answer(
+        machine: &mut M,
+        alloc: Global,
+        number: u128,
+        line: &[u8],
+    ) -> Result<String, AllocError> {
+        machine.answer(alloc, number, line)
     }
 
     fn keep(machine: &mut M) -> Result<(), Failed> {

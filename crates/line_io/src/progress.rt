@@ -37,7 +37,7 @@ fn answer_line<M, D: Mode<M>, W: Sink>(
     if is_blank(line) {
         return Ok(());
     }
-    let Ok(reply) = D::answer(machine, alloc, line) else {
+    let Ok(reply) = D::answer(machine, alloc, number, line) else {
         return Err(ScriptFault::NoMemory(number));
     };
     let Ok(()) = outbox.send::<M, D, W>(machine, sink, reply.as_bytes()) else {

@@ -15,7 +15,7 @@ use crate::source::Source;
 use std::alloc::{AllocError, Global};
 
 // So many bytes are read at once.
-const PIECE: usize = 65536;
+const PIECE: usize = 262144;
 
 // Room for a piece.
 fn new_buffer(alloc: Global) -> Result<Vec<u8>, AllocError>
