@@ -1,0 +1,4 @@
+-- ---- the versions along
+pub mod Places
+-- ---- the sessions that are shown
+pub mod ShownSessions

@@ -1,0 +1,128 @@
+//! The versions that a picture shows, and where each begins.
+
+ghost use Rattle.std.specs.Prelude.{◌≡◌, ◌+◌, ◌*◌, ◌≤◌, ◌^◌, map, option_map, IfOk, OnOk};
+ghost use Rattle.session_pictures.specs.Columns.{columns, count_below, is_at, touching_end, versions_of, versions_of_end, with_number, with_numbers};
+ghost use Rattle.session_pictures.specs.Picture.{along, bar_end, bar_start, cell, end_inset};
+ghost use Rattle.session_pictures.specs.Told.{end_in, told_in};
+
+use crate::told::{Ending, SessionEnd, ToldSession};
+use std::alloc::{AllocError, Global};
+
+/// How wide a version is.
+pub(crate) const CELL: u128 = 24;
+/// How far into a version an opening stands.
+const OPENING: u128 = 12;
+/// How far into a version an end stands that makes none.
+const ENDING: u128 = 18;
+
+/// How many numbers at the front are below this one.
+fn count_below(number: u64, columns: &[u64]) -> usize
+    ensures { result ≡ count_below number columns.now }
+{
+    let mut place = 0;
+    while place < columns.len() && columns[place] < number {
+        place += 1;
+    }
+    place
+}
+
+/// Whether a number stands at a place.
+fn is_at(number: u64, place: usize, columns: &[u64]) -> bool
+    ensures { result ≡ is_at number place columns.now }
+{
+    match columns.get(place) {
+        Some(found) => *found == number,
+        None => false,
+    }
+}
+
+/// Puts a number in its place, unless it is there.
+fn add_number(columns: &mut Vec<u64>, number: u64) -> Result<(), AllocError>
+    ensures { OnOk result (columns.new.items ≡ with_number number columns.old.items) }
+{
+    let place = count_below(number, columns);
+    if is_at(number, place, columns) {
+        return Ok(());
+    }
+    columns.insert(place, number)?;
+    Ok(())
+}
+
+/// The number of the version that touched what a session had read, where it ended so.
+pub(crate) fn touching_end(ended: &Option<SessionEnd>) -> Option<u64>
+    ensures { result ≡ touching_end (option_map end_in ended.now) }
+{
+    match ended {
+        Some(end) => end.ending.touching(),
+        None => None,
+    }
+}
+
+/// Puts the versions of an end in their places.
+fn add_end(columns: &mut Vec<u64>, ended: &Option<SessionEnd>) -> Result<(), AllocError>
+    ensures { OnOk result (columns.new.items ≡ with_numbers (versions_of_end (option_map end_in ended.now)) columns.old.items) }
+{
+    let Some(end) = ended else {
+        return Ok(());
+    };
+    add_number(columns, end.version)?;
+    match end.ending.touching() {
+        Some(number) => add_number(columns, number),
+        None => Ok(()),
+    }
+}
+
+/// Puts the versions of a session in their places.
+fn add_session(columns: &mut Vec<u64>, session: &ToldSession) -> Result<(), AllocError>
+    ensures { OnOk result (columns.new.items ≡ with_numbers (versions_of (told_in session.now)) columns.old.items) }
+{
+    add_number(columns, session.opened_at)?;
+    add_end(columns, &session.ended)
+}
+
+/// The versions of sessions, rising, each once.
+pub(crate) fn columns_of(alloc: Global, sessions: &[ToldSession]) -> Result<Vec<u64>, AllocError>
+    ensures { IfOk result (λ cs. cs.items ≡ columns (map told_in sessions.now)) }
+{
+    let mut columns = Vec::new(alloc);
+    for session in sessions {
+        add_session(&mut columns, session)?;
+    }
+    Ok(columns)
+}
+
+/// Where a version begins.
+pub(crate) fn along(columns: &[u64], number: u64) -> u128
+    ensures along { result ≡ along columns.now number }
+    ensures bounded { result ≤ cell * 2 ^ 64 }
+{
+    CELL * (count_below(number, columns) as u128)
+}
+
+/// Where the bar of a session begins.
+pub(crate) fn bar_start(columns: &[u64], session: &ToldSession) -> u128
+    ensures { result ≡ bar_start columns.now (told_in session.now) }
+{
+    along(columns, session.opened_at) + OPENING
+}
+
+/// How far into a version an end stands.
+fn end_inset(ending: Ending) -> u128
+    ensures inset { result ≡ end_inset ending }
+    ensures bounded { result ≤ 18 }
+{
+    match ending {
+        Ending::Committed => 0,
+        Ending::Conflict(_) | Ending::Closed | Ending::Disallowed => ENDING,
+    }
+}
+
+/// Where it ends.
+pub(crate) fn bar_end(columns: &[u64], ended: &Option<SessionEnd>) -> u128
+    ensures { result ≡ bar_end columns.now (option_map end_in ended.now) }
+{
+    match ended {
+        Some(end) => along(columns, end.version) + end_inset(end.ending),
+        None => CELL * (columns.len() as u128),
+    }
+}

@@ -1,0 +1,83 @@
+//! Elements that rows and the legend share.
+
+ghost use Rattle.std.specs.Prelude.{◌≡◌, ◌++◌, codes, decimal, string_bytes, OnOk};
+ghost use Rattle.session_pictures.specs.Picture.{from_above, from_below, kind_style, kind_word, mark};
+
+use crate::told::Ending;
+use filing_model::Kind;
+use std::alloc::AllocError;
+
+/// Appends the beginning of a group of elements as seen from a point.
+pub(crate) fn push_group(out: &mut String, x: u128, y: u128) -> Result<(), AllocError>
+    ensures { OnOk result (string_bytes out.new ≡ string_bytes out.old
+        ++ (codes "<g transform=\"translate(" ++ (decimal x ++ (codes "," ++ (decimal y ++ codes ")\">"))))) }
+{
+    write!(out, "<g transform=\"translate({x},{y})\">")
+}
+
+/// Appends the end of a group.
+pub(crate) fn push_group_end(out: &mut String) -> Result<(), AllocError>
+    ensures { OnOk result (string_bytes out.new ≡ string_bytes out.old ++ codes "</g>\n") }
+{
+    out.push_str("</g>\n")
+}
+
+/// The word of a kind.
+pub(crate) fn kind_word(kind: Kind) -> &'static str
+    ensures { result.now ≡ kind_word kind }
+{
+    match kind {
+        Kind::Review => "review",
+        Kind::Amend => "amend",
+    }
+}
+
+/// How a bar of a kind is drawn.
+pub(crate) fn kind_style(kind: Kind) -> &'static str
+    ensures { result.now ≡ kind_style kind }
+{
+    match kind {
+        Kind::Review => "fill=\"#ffffff\" stroke-dasharray=\"3,2\"",
+        Kind::Amend => "fill=\"#c8c8c8\"",
+    }
+}
+
+/// The mark of an end.
+pub(crate) fn mark(ending: Ending) -> &'static str
+    ensures { result.now ≡ mark ending }
+{
+    match ending {
+        Ending::Committed => "<rect x=\"-4\" y=\"6\" width=\"8\" height=\"8\"/>",
+        Ending::Conflict(_) => {
+            "<g stroke=\"#000000\" stroke-width=\"2\"><line x1=\"-5\" y1=\"5\" x2=\"5\" y2=\"15\"/><line x1=\"-5\" y1=\"15\" x2=\"5\" y2=\"5\"/></g>"
+        }
+        Ending::Closed => "<line y1=\"3\" y2=\"17\" stroke=\"#000000\" stroke-width=\"3\"/>",
+        Ending::Disallowed => {
+            "<g stroke=\"#000000\"><rect x=\"-4\" y=\"6\" width=\"8\" height=\"8\" fill=\"#ffffff\"/><line x1=\"-4\" y1=\"14\" x2=\"4\" y2=\"6\"/></g>"
+        }
+    }
+}
+
+/// An arrow's head alone.
+pub(crate) const FROM_NOWHERE: &str =
+    "<polygon points=\"-4,-14 4,-14 0,-6\" fill=\"#ffffff\" stroke=\"#000000\"/>";
+
+/// Appends an arrow from so far above.
+pub(crate) fn push_from_above(out: &mut String, length: u128) -> Result<(), AllocError>
+    ensures { OnOk result (string_bytes out.new ≡ string_bytes out.old ++ from_above length) }
+{
+    write!(
+        out,
+        "<line y1=\"-{length}\" y2=\"-6\" stroke=\"#000000\"/><polygon points=\"-4,-14 4,-14 0,-6\"/>"
+    )
+}
+
+/// Appends an arrow from so far below.
+pub(crate) fn push_from_below(out: &mut String, length: u128) -> Result<(), AllocError>
+    ensures { OnOk result (string_bytes out.new ≡ string_bytes out.old ++ from_below length) }
+{
+    write!(
+        out,
+        "<line y1=\"{length}\" y2=\"6\" stroke=\"#000000\"/><polygon points=\"-4,14 4,14 0,6\"/>"
+    )
+}
