@@ -5,5 +5,9 @@ pub mod Viewed
 -- What is shown of a version.
 pub mod Shown
 pub mod Listing
+-- What is told of the sessions of a history.
+pub mod Log
+-- What is kept of them on the way.
+pub mod LogKept
 -- The names of reports that are kept on the way through a history.
 pub mod Names
