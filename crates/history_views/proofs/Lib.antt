@@ -5,3 +5,6 @@ pub mod NumberedVersions
 pub mod NamesKept
 pub mod Listings
 pub mod FoundVersions
+-- ---- sessions
+pub mod Logs
+pub mod FoundLogs

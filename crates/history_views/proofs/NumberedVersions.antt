@@ -13,7 +13,7 @@ use Rattle.history_views.specs.Versions.{IsSought, version_at}
 
 -- ---- places of a list with one more at its end
 
-seam : {X : Type 0} (xs : List X) (x : X) → slice_get (xs ++ x ∷ []) (length xs) ≡ Some x
+pub seam : {X : Type 0} (xs : List X) (x : X) → slice_get (xs ++ x ∷ []) (length xs) ≡ Some x
 seam [] x = refl
 seam (y ∷ ys) x = seam ys x
 
@@ -22,7 +22,7 @@ front [] ys n x is = let none : None ≡ Some x = is in cc
 front (z ∷ zs) ys zero x is = is
 front (z ∷ zs) ys (suc n) x is = front zs ys n x is
 
-elsewhere : {X : Type 0} (xs : List X) (x : X) (n : ℕ) → (n ≡ length xs → ⊥) → slice_get (xs ++ x ∷ []) n ≡ slice_get xs n
+pub elsewhere : {X : Type 0} (xs : List X) (x : X) (n : ℕ) → (n ≡ length xs → ⊥) → slice_get (xs ++ x ∷ []) n ≡ slice_get xs n
 elsewhere [] x zero apart = absurd (apart refl)
 elsewhere [] x (suc n) apart = refl
 elsewhere (y ∷ ys) x zero apart = refl

@@ -8,6 +8,8 @@
 //! - `report`: writes a report of a version that was found.
 //! - `named`: the view that looks for a version, and keeps the names of reports.
 //! - `listing`: lists the reports of a version.
+//! - `session_log`: the view that keeps what is told of sessions.
+//! - `log`: tells of the sessions of a history, a line each.
 //! - `shown`: what came of what was asked for.
 //!
 //! It knows nothing of how a line is read and judged (`filing_cli`), of how a reply is written (`script_format`), of how a version holds its reports (`filing_version`), or of files.
@@ -15,8 +17,10 @@
 
 mod found;
 mod listing;
+mod log;
 mod named;
 mod report;
+mod session_log;
 mod shown;
 mod sought;
 mod view;
@@ -25,4 +29,5 @@ mod viewer;
 
 pub use found::{FoundVersion, version_of_history};
 pub use listing::{FoundListing, listing_of_history};
+pub use log::{FoundLog, log_of_history};
 pub use shown::Shown;
