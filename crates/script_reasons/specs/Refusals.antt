@@ -1,6 +1,7 @@
 -- Which lines of a script were refused, by their replies. The project's own.
-use Rattle.std.specs.Prelude.{ℕ, Bool, false, ◌==◌, codes, Option, None, Some, if◌then◌else◌, option_and_then}
+use Rattle.std.specs.Prelude.{ℕ, Bool, true, false, ◌==◌, codes, Option, None, Some, if◌then◌else◌, option_and_then}
 use Rattle.std.specs.List.{before_first, after_first}
+use Rattle.std.specs.Option.{option_map_or}
 use Rattle.filing_model.specs.Common.Text.{Text, text_eq}
 use Rattle.filing_model.specs.Reading.JsonText.{json_of}
 use Rattle.script_format.specs.ScriptLines.{text_at}
@@ -59,3 +60,22 @@ refusal_in line reply =
     if text_eq (word_of reply) (codes "none")
     then (if is_removal line then Some refused.NotThere else None)
     else refusal_of_word (word_of reply)
+
+-- whether a refusal tells that the line itself is malformed or out of place. The others tell what the repository had: a fact or a report that is there or not, duplicates, a conflict
+abbrev pub is_mistake : Refusal → Bool
+is_mistake refused.BadLine = true
+is_mistake refused.BadReport = true
+is_mistake refused.BadFact = true
+is_mistake refused.NameInUse = true
+is_mistake refused.NoSession = true
+is_mistake refused.NoReport = true
+is_mistake refused.ReadOnly = true
+is_mistake refused.NameTaken = false
+is_mistake refused.Disallowed = false
+is_mistake refused.Taken = false
+is_mistake refused.Conflict = false
+is_mistake refused.NotThere = false
+
+-- so does a reply, by its word
+abbrev pub tells_mistake : Text → Bool
+tells_mistake reply = option_map_or is_mistake (refusal_of_word (word_of reply)) false

@@ -54,6 +54,14 @@ fn no_utf8(alloc: Global, line: &[u8], place: usize) -> Result<String, AllocErro
     )
 }
 
+/// The column at which the reading of a line that is no JSON stopped, and why.
+fn stop_in(alloc: Global, line: &[u8], text: &str) -> Result<(u64, String), AllocError>
+    ensures { IfOk result (λ r. IsColumnOf line.now r.0) }
+{
+    let JsonFault { place, said } = json_fault(alloc, text)?;
+    Ok((column_of(line, place), said))
+}
+
 /// What is wrong with a line that is UTF-8, with the column at which its reading stopped.
 fn text_fault(alloc: Global, line: &[u8], text: &str) -> Result<(Option<u64>, String), AllocError>
     ensures { IfOk result (λ r. IfSome r.0 (IsStopOf line.now)) }
@@ -61,8 +69,8 @@ fn text_fault(alloc: Global, line: &[u8], text: &str) -> Result<(Option<u64>, St
     match json_value(alloc, line)? {
         Some(value) => Ok((None, line_fault(alloc, &value)?)),
         None => {
-            let JsonFault { place, said } = json_fault(alloc, text)?;
-            Ok((Some(column_of(line, place)), said))
+            let (column, said) = stop_in(alloc, line, text)?;
+            Ok((Some(column), said))
         }
     }
 }
@@ -79,6 +87,22 @@ pub(crate) fn bad_line(alloc: Global, line: &[u8]) -> Result<(Option<u64>, Strin
         Err(fault) => {
             let place = fault.valid_up_to();
             Ok((Some(column_of(line, place)), no_utf8(alloc, line, place)?))
+        }
+    }
+}
+
+/// Where a line of any kind stops to be JSON, in words, with the column; none of a line that is JSON.
+pub fn reading_stop(alloc: Global, line: &[u8]) -> Result<Option<(u64, String)>, AllocError>
+    ensures { IfOk result (λ o. IfSome o (λ r. IsStopOf line.now r.0)) }
+{
+    if json_value(alloc, line)?.is_some() {
+        return Ok(None);
+    }
+    match from_utf8(line) {
+        Ok(text) => Ok(Some(stop_in(alloc, line, text)?)),
+        Err(fault) => {
+            let place = fault.valid_up_to();
+            Ok(Some((column_of(line, place), no_utf8(alloc, line, place)?)))
         }
     }
 }

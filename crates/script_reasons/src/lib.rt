@@ -1,6 +1,6 @@
 //! Why a line of a script was refused, in words for people.
 //!
-//! - `refusal`: the words of replies that refuse, and whether a reply is one.
+//! - `refusal`: the words of replies that refuse, whether a reply is one, and whether it tells of a mistake in the script.
 //! - `refusal_laws`: the laws of these words.
 //! - `reasons`: what is told of one line, and its text.
 //! - `explaining`: the reasons of a line by its reply.
@@ -39,7 +39,8 @@ mod states;
 mod tests;
 mod told;
 
+pub use bad_line::reading_stop;
 pub use explaining::explain;
 pub use reasons::{Reason, Reasons, push_reasons};
-pub use refusal::{Refusal, refusal_in};
+pub use refusal::{Refusal, refusal_in, tells_mistake};
 pub use refusal_laws::{words_tell_refusals, words_tell_replies};

@@ -1,7 +1,7 @@
 //! `Refusal`: the words of replies by which lines are refused.
 
 ghost use Rattle.std.specs.Prelude.{◌≡◌, IfOk, IfSome};
-ghost use Rattle.script_reasons.specs.Refusals.{is_removal, refusal_in, refusal_of_word, refusal_word, word_of};
+ghost use Rattle.script_reasons.specs.Refusals.{is_mistake, is_removal, refusal_in, refusal_of_word, refusal_word, tells_mistake, word_of};
 
 use filing_model::is_same_text;
 use oim_report::json_value;
@@ -44,6 +44,26 @@ impl Refusal {
             Refusal::Taken => "taken",
             Refusal::Conflict => "conflict",
             Refusal::NotThere => "none",
+        }
+    }
+
+    /// Whether it tells that the line itself is malformed or out of place, and not what the repository had.
+    fn is_mistake(self) -> bool
+        ensures { result ≡ is_mistake self }
+    {
+        match self {
+            Refusal::BadLine
+            | Refusal::BadReport
+            | Refusal::BadFact
+            | Refusal::NameInUse
+            | Refusal::NoSession
+            | Refusal::NoReport
+            | Refusal::ReadOnly => true,
+            Refusal::NameTaken
+            | Refusal::Disallowed
+            | Refusal::Taken
+            | Refusal::Conflict
+            | Refusal::NotThere => false,
         }
     }
 }
@@ -118,5 +138,15 @@ pub fn refusal_in(alloc: Global, line: &[u8], reply: &str) -> Result<Option<Refu
         Ok(Some(Refusal::NotThere))
     } else {
         Ok(None)
+    }
+}
+
+/// Whether a reply tells, by its word, that its line is malformed or out of place: `bad-line`, `bad-report`, `bad-fact`, `name-in-use`, `no-session`, `no-report` and `read-only` do. It takes no memory.
+pub fn tells_mistake(reply: &str) -> bool
+    ensures { result ≡ tells_mistake reply.now }
+{
+    match refusal_of_word(word_of(reply)) {
+        Some(refusal) => refusal.is_mistake(),
+        None => false,
     }
 }

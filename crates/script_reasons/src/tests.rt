@@ -96,3 +96,32 @@ fn other_encodings_are_named(rt: HostRuntime) -> Result<(), Fail> {
     }
     Ok(())
 }
+
+/// Seven words tell of a mistake in the script; others, and answers, do not.
+#[test]
+fn mistakes_are_told_by_their_words(rt: HostRuntime) -> Result<(), Fail> {
+    for reply in [
+        "[\"bad-line\"]",
+        "[\"bad-report\",\"not-json\"]",
+        "[\"bad-fact\",\"no-concept\"]",
+        "[\"name-in-use\"]",
+        "[\"no-session\"]",
+        "[\"no-report\"]",
+        "[\"read-only\"]",
+    ] {
+        assert!(rt; tells_mistake(reply));
+    }
+    for reply in [
+        "[\"none\"]",
+        "[\"taken\"]",
+        "[\"name-taken\"]",
+        "[\"conflict\",3,[\"report\",\"bad-line\"]]",
+        "[\"disallowed\",\"bad-line\",\"inconsistent\",[\"a\"]]",
+        "[\"staged\"]",
+        "[\"committed\",4]",
+        "[]",
+    ] {
+        assert!(rt; !tells_mistake(reply));
+    }
+    Ok(())
+}
