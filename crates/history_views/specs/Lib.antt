@@ -11,3 +11,7 @@ pub mod Log
 pub mod LogKept
 -- The names of reports that are kept on the way through a history.
 pub mod Names
+-- The places where two versions may differ, kept on the way through a history.
+pub mod Placed
+-- What differs between two versions of a history.
+pub mod Differing
