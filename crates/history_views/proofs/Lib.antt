@@ -8,3 +8,7 @@ pub mod FoundVersions
 -- ---- sessions
 pub mod Logs
 pub mod FoundLogs
+-- ---- differences
+pub mod PlacesKept
+pub mod PlacesCover
+pub mod PlacedRuns

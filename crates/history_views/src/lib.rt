@@ -10,15 +10,19 @@
 //! - `listing`: lists the reports of a version.
 //! - `session_log`: the view that keeps what is told of sessions.
 //! - `log`: tells of the sessions of a history, a line each.
+//! - `placed`: the view that looks for two versions, and keeps the places where they may differ.
+//! - `differing`: what differs between two versions.
 //! - `shown`: what came of what was asked for.
 //!
-//! It knows nothing of how a line is read and judged (`filing_cli`), of how a reply is written (`script_format`), of how a version holds its reports (`filing_version`), or of files.
+//! It knows nothing of how a line is read and judged (`filing_cli`), of how a reply is written (`script_format`), of how a version holds its reports (`filing_version`), of how two versions are compared (`version_differences`), or of files.
 #![tactic(auto)]
 
+mod differing;
 mod found;
 mod listing;
 mod log;
 mod named;
+mod placed;
 mod report;
 mod session_log;
 mod shown;
@@ -27,6 +31,7 @@ mod view;
 mod viewed;
 mod viewer;
 
+pub use differing::{FoundDifference, difference_of_history};
 pub use found::{FoundVersion, version_of_history};
 pub use listing::{FoundListing, listing_of_history};
 pub use log::{FoundLog, log_of_history};
