@@ -111,7 +111,7 @@ fn decimals_shape(
 
 /// Tells each number in a value that is not whole. It stands in this member.
 #[cycle(whole)]
-pub(crate) fn not_whole(
+pub fn not_whole(
     alloc: Global,
     told: &mut Told,
     place: &str,

@@ -13,7 +13,7 @@ use std::sync::Arc;
 const DOCUMENT_TYPE: &str = "https://xbrl.org/2021/xbrl-json";
 
 /// Tells a document type that is missing or another one.
-fn type_fault(alloc: Global, told: &mut Told, found: Option<&Value>) -> Result<(), AllocError> {
+pub fn type_fault(alloc: Global, told: &mut Told, found: Option<&Value>) -> Result<(), AllocError> {
     match found {
         Some(Value::String(text)) if text.as_str() == DOCUMENT_TYPE => Ok(()),
         Some(value) => {
@@ -41,7 +41,7 @@ fn is_allowed(value: &Value) -> bool {
 }
 
 /// Tells what is wrong with features.
-fn features_fault(
+pub fn features_fault(
     alloc: Global,
     told: &mut Told,
     features: Option<&Value>,
@@ -138,7 +138,7 @@ fn names_in(
 }
 
 /// The names that documentInfo declares; none where they are refused, and tells why.
-fn names_of(
+pub fn names_of(
     alloc: Global,
     told: &mut Told,
     namespaces: Option<&Value>,
@@ -171,7 +171,7 @@ fn members_faults(
 }
 
 /// Tells all that is wrong with a report beside its facts, and gives the names that it declares, where they are in order.
-pub(crate) fn info_faults(
+pub fn info_faults(
     alloc: Global,
     told: &mut Told,
     report: &Value,

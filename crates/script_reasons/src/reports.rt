@@ -23,7 +23,7 @@ use std::str::from_utf8;
 use std::sync::Arc;
 
 /// What is wrong with a fact of a report, as it is read and by these names, where they are in order: something where it is refused, and nothing else.
-fn told_of_fact(alloc: Global, names: Option<&Names>, fact: &Value) -> Result<Told, AllocError>
+pub fn told_of_fact(alloc: Global, names: Option<&Names>, fact: &Value) -> Result<Told, AllocError>
     ensures { IfOk result (λ t. nat_lt 0 (vec_len t.said)
         ≡ is_refused (option_map (λ n. n.now) names.entry) (view fact.now)) }
 {
@@ -68,7 +68,7 @@ fn gather_facts(
 }
 
 /// What is wrong with the facts of a report as a whole.
-fn told_of_facts(alloc: Global, facts: &Value) -> Result<Told, AllocError> {
+pub fn told_of_facts(alloc: Global, facts: &Value) -> Result<Told, AllocError> {
     let mut told = Told::new(alloc);
     let kind = kind_of(facts);
     told.tell(format!(in alloc; "\"facts\" is {kind}, not an object")?)?;
@@ -113,7 +113,7 @@ fn row_and_column(text: &str, place: usize) -> (u64, u64) {
 }
 
 /// The bytes without one byte order mark before them.
-fn without_mark(bytes: &[u8]) -> &[u8]
+pub fn without_mark(bytes: &[u8]) -> &[u8]
     ensures { result.now ≡ without_mark bytes.now }
 {
     match bytes {
@@ -123,7 +123,7 @@ fn without_mark(bytes: &[u8]) -> &[u8]
 }
 
 /// What is wrong with the text of a report that is no JSON.
-fn told_of_text(alloc: Global, bytes: &[u8]) -> Result<Told, AllocError> {
+pub fn told_of_text(alloc: Global, bytes: &[u8]) -> Result<Told, AllocError> {
     let mut told = Told::new(alloc);
     if let Ok(text) = from_utf8(bytes) {
         let JsonFault { place, said } = json_fault(alloc, text)?;

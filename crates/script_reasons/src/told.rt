@@ -10,13 +10,16 @@ pub(crate) const MOST: usize = 100;
 
 /// What was found so far. What is found beyond the hundredth is counted.
 #[derive(Drop)]
-pub(crate) struct Told {
-    pub(crate) said: Vec<String>,
-    pub(crate) more: u64,
+pub struct Told {
+    /// What is wrong, first what a reply tells.
+    pub said: Vec<String>,
+    /// How much more is wrong.
+    pub more: u64,
 }
 
 impl Told {
-    pub(crate) fn new(alloc: Global) -> Told
+    /// Nothing yet.
+    pub fn new(alloc: Global) -> Told
         ensures { vec_len result.said ≡ 0 }
     {
         Told {
@@ -26,7 +29,7 @@ impl Told {
     }
 
     /// Adds one thing that is wrong.
-    pub(crate) fn tell(&mut self, said: String) -> Result<(), AllocError>
+    pub fn tell(&mut self, said: String) -> Result<(), AllocError>
         ensures { OnOk result (0 < vec_len self.new.said) }
     {
         if self.said.len() < MOST {
