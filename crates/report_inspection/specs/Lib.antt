@@ -1,0 +1,13 @@
+-- ---- every fault of a report, and what was read beside them
+pub mod EachFault
+-- ---- the cells of more than one fact
+pub mod Cells
+pub mod Runs
+-- ---- the whole
+pub mod Inspections
+pub mod Heads
+pub mod Found
+-- ---- the laws
+pub mod FaultLaws
+-- ---- its lines
+pub mod Lines
