@@ -1,0 +1,210 @@
+//! Each fact of a report by itself.
+
+ghost use Rattle.std.specs.Prelude.{◌≡◌, codes, length, None, Some, IfOk, IfSome, OnOk, IsTrue, is_some, option_map, unwrap_or};
+ghost use Rattle.filing_model.specs.Common.Faults.{fact_trouble};
+ghost use Rattle.filing_model.specs.Common.Try.{Fails, Gives};
+ghost use Rattle.filing_model.specs.Reading.JsonText.{pairs};
+ghost use Rattle.json.specs.Value.{members_view as read_members, value_view};
+ghost use Rattle.serde_json.specs.Data.{no_members};
+ghost use Rattle.serde_json.specs.Find.{get};
+ghost use Rattle.serde_json.specs.Read.{of_members};
+ghost use Rattle.filing_model.specs.Reading.ReadReport.{WrongShape};
+ghost use Rattle.serde_json.specs.View.{view};
+ghost use Rattle.oim_report.specs.Borrowed.{IsInRange, are_in_range, data_of, members_at, read_object};
+ghost use Rattle.oim_report.specs.Readings.{same};
+ghost use Rattle.report_inspection.specs.EachFault.{fact_judged, fact_members, member_fact, member_faults, members_of};
+ghost use Rattle.report_inspection.specs.Found.{Takes, TakesEach, TakesFacts, places_behind};
+ghost use Rattle.report_inspection.specs.Inspections.{AddsFaults, TellsFault};
+
+use crate::fault::{Fault, push_told};
+use filing_model::Trouble;
+use oim_fact::{Fact, Names, fit};
+use oim_report::{ReportFault, copied, raw_fact_from};
+use script_reasons::{told_of_fact, told_of_facts};
+use serde_json::Value;
+use std::alloc::{AllocError, Global};
+use std::collections::BTreeMap;
+use std::sync::Arc;
+
+/// The facts that were read, and what is wrong with others.
+#[derive(Drop)]
+pub(crate) struct Found {
+    pub(crate) facts: Vec<(String, Arc<Fact>)>,
+    pub(crate) faults: Vec<Fault>,
+}
+
+/// A fact by these names; none where no names are known.
+fn judged(alloc: Global, names: &Option<Names>, value: Value) -> Result<Option<Fact>, Trouble>
+    ensures { Gives fact_trouble same result (fact_judged names.now (view value)) }
+{
+    let raw = raw_fact_from(alloc, value)?;
+    let Some(names) = names else {
+        return Ok(None);
+    };
+    match fit(names, raw) {
+        Ok(fact) => Ok(Some(fact)),
+        Err(fault) => Err(Trouble::Fit(fault)),
+    }
+}
+
+/// An owned copy of a value.
+fn owned_copy(alloc: Global, value: &json::Value<'_>) -> Result<Value, AllocError>
+    requires { IsInRange value.now }
+    ensures { IfOk result (λ v. view v ≡ data_of value.now) }
+{
+    match copied(alloc, value)? {
+        Some(value) => Ok(value),
+        None => unreachable!(),
+    }
+}
+
+/// Tells what is wrong with the fact under this identifier.
+#[tactic(auto, using(crate::proofs::TakenFacts::no_fact))]
+fn tell_fact(
+    alloc: Global,
+    faults: &mut Vec<Fault>,
+    names: &Option<Names>,
+    id: &str,
+    value: &json::Value<'_>,
+    trouble: Trouble,
+) -> Result<(), AllocError>
+    requires range { IsInRange value.now }
+    requires refused { Fails (fact_trouble trouble) (fact_judged names.now (data_of value.now)) }
+    ensures none { OnOk result (member_fact names.now (id.now, data_of value.now) ≡ None) }
+    ensures faults { OnOk result (AddsFaults (member_faults names.now (id.now, data_of value.now))
+        faults.old.items faults.new.items) }
+{
+    if let Trouble::NoMemory = trouble {
+        return Err(AllocError);
+    }
+    let told = told_of_fact(alloc, names.as_ref(), &owned_copy(alloc, value)?)?;
+    let fault = ReportFault::BadFact(String::from_str(alloc, id)?, trouble);
+    push_told(alloc, faults, fault, told)
+}
+
+impl Found {
+    /// Takes the fact under this identifier, or tells what is wrong with it.
+    fn take(
+        &mut self,
+        alloc: Global,
+        names: &Option<Names>,
+        id: &str,
+        value: &json::Value<'_>,
+    ) -> Result<(), AllocError>
+        requires { IsInRange value.now }
+        ensures { OnOk result (Takes names.now (id.now, data_of value.now) self.old self.new) }
+    {
+        match judged(alloc, names, owned_copy(alloc, value)?) {
+            Ok(Some(fact)) => {
+                let id = String::from_str(alloc, id)?;
+                self.facts.push((id, Arc::new(alloc, fact)?))?;
+            }
+            Ok(None) => {}
+            Err(trouble) => tell_fact(alloc, &mut self.faults, names, id, value, trouble)?,
+        }
+        Ok(())
+    }
+}
+
+/// The members in byte order of their names, of which the last of a name stays.
+fn in_order<'a, 'b>(
+    alloc: Global,
+    members: &'b Vec<(&'a str, json::Value<'a>)>,
+) -> Result<BTreeMap<&'a str, &'b json::Value<'a>>, AllocError>
+    requires { IsTrue (is_some (of_members (read_members members.now.items) no_members)) }
+    ensures members { IfOk result (λ m. of_members (read_members members.now.items) no_members
+        ≡ Some (members_at (places_behind m.entries))) }
+    ensures range { IfOk result (λ m. IsTrue (are_in_range (places_behind m.entries))) }
+{
+    let mut places = BTreeMap::new(alloc);
+    for member in members {
+        drop(places.insert(member.0, &member.1)?);
+    }
+    Ok(places)
+}
+
+/// Takes each fact of these members, and counts them.
+fn take_members<'a>(
+    alloc: Global,
+    found: &mut Found,
+    names: &Option<Names>,
+    members: &Vec<(&'a str, json::Value<'a>)>,
+) -> Result<u64, AllocError>
+    requires { IsTrue (is_some (of_members (read_members members.now.items) no_members)) }
+    ensures count { IfOk result (λ n. n ≡ length (pairs (unwrap_or (of_members (read_members members.now.items) no_members) no_members))) }
+    ensures takes { OnOk result (TakesEach names.now
+        (pairs (unwrap_or (of_members (read_members members.now.items) no_members) no_members)) found.old found.new) }
+{
+    let places = in_order(alloc, members)?;
+    let count = places.len() as u64;
+    for (id, value) in places {
+        found.take(alloc, names, id, value)?;
+    }
+    Ok(count)
+}
+
+/// What stands at this name.
+fn part_of<'a, 'b>(value: &'b json::Value<'a>, name: &str) -> Option<&'b json::Value<'a>>
+    requires { IsInRange value.now }
+    ensures data { option_map (λ v. data_of v.now) result ≡ get name.now (data_of value.now) }
+    ensures range { IfSome result (λ v. IsInRange v.now) }
+{
+    value.get(name)
+}
+
+/// The members of an object as they were read.
+fn members_in<'a, 'b>(value: &'b json::Value<'a>) -> Option<&'b Vec<(&'a str, json::Value<'a>)>>
+    ensures { option_map (λ v. read_members v.now.items) result ≡ read_object (value_view value.now) }
+{
+    match value {
+        json::Value::Object(members) => Some(members),
+        _ => None,
+    }
+}
+
+/// Tells that `facts` is no object.
+fn tell_shape(alloc: Global, found: &mut Found, facts: &json::Value<'_>) -> Result<(), AllocError>
+    requires { IsInRange facts.now }
+    ensures faults { OnOk result (TellsFault (Some WrongShape) found.old.faults.items found.new.faults.items) }
+    ensures facts { OnOk result (found.new.facts ≡ found.old.facts) }
+{
+    let facts = owned_copy(alloc, facts)?;
+    let told = told_of_facts(alloc, &facts)?;
+    drop(facts);
+    push_told(alloc, &mut found.faults, ReportFault::WrongShape, told)
+}
+
+/// Takes each fact of what stands at `facts`, and counts them; tells that it is no object.
+fn take_value(
+    alloc: Global,
+    found: &mut Found,
+    names: &Option<Names>,
+    facts: &json::Value<'_>,
+) -> Result<u64, AllocError>
+    requires { IsInRange facts.now }
+    ensures count { IfOk result (λ n. n ≡ length (members_of (Some (data_of facts.now)))) }
+    ensures takes { OnOk result (TakesFacts names.now (Some (data_of facts.now)) found.old found.new) }
+{
+    let Some(members) = members_in(facts) else {
+        tell_shape(alloc, found, facts)?;
+        return Ok(0);
+    };
+    take_members(alloc, found, names, members)
+}
+
+/// Takes each fact of a report, and counts them; tells that `facts` is no object.
+pub(crate) fn take_facts(
+    alloc: Global,
+    found: &mut Found,
+    names: &Option<Names>,
+    value: &json::Value<'_>,
+) -> Result<u64, AllocError>
+    requires { IsInRange value.now }
+    ensures count { IfOk result (λ n. n ≡ length (fact_members (data_of value.now))) }
+    ensures takes { OnOk result (TakesFacts names.now (get (codes "facts") (data_of value.now)) found.old found.new) }
+{
+    match part_of(value, "facts") {
+        None => Ok(0),
+        Some(facts) => take_value(alloc, found, names, facts),
+    }
+}

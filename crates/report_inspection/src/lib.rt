@@ -1,0 +1,37 @@
+//! Every fault and every duplicate of a report, where a load is told the first.
+//!
+//! - `inspection`: what an inspection tells, and `inspect`.
+//! - `fault`: a fault of a report with its reasons.
+//! - `info`: what `documentInfo` declares, each check by itself.
+//! - `declared`: the checks of `documentInfo`.
+//! - `facts`: each fact by itself.
+//! - `cell`: a cell as it is told.
+//! - `cells`: the cells of more than one fact.
+//! - `warning`: what is no fault, and may be meant otherwise.
+//! - `lines`: the lines of an inspection.
+//! - `words`: the words in them.
+//! - `fault_laws`: the laws of the faults.
+//!
+//! It knows nothing of versions, of sessions, of how a line of a script is read, or of files.
+#![tactic(auto)]
+
+mod cell;
+mod cells;
+mod declared;
+mod facts;
+mod fault;
+mod fault_laws;
+mod info;
+mod inspection;
+mod lines;
+#[cfg(test)]
+mod tests;
+mod warning;
+mod words;
+
+pub use cell::Cell;
+pub use fault::Fault;
+pub use fault_laws::{facts_have_faults_where_refused, first_fault_is_the_readings};
+pub use inspection::{Inspection, inspect};
+pub use lines::{push_cell, push_fault, push_inspection, push_summary, push_warning};
+pub use warning::{Warning, WarningKind};
