@@ -83,7 +83,8 @@ impl Observes for Explainer {
     fn observe(&mut self, alloc: Global, number: u128, line: &[u8], reply: &str) {
         self.lines = self.lines.saturating_add(1);
         if self.explains {
-            self.tell(alloc, number as u64, line, reply);
+            let number = u64::try_from(number).unwrap_or(u64::MAX);
+            self.tell(alloc, number, line, reply);
         }
     }
 }
