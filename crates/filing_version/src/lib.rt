@@ -8,6 +8,7 @@
 //! - `puts`: the puts of a change, one by one.
 //! - `fact_entries`: the facts of a report, one by one.
 //! - `got`: what stands at an identifier.
+//! - `same_facts`: whether two facts are the same.
 //! - `laws`: how long the pages of a report are, which no other call tells.
 //!
 //! It knows nothing of sessions, of the history or of devices.
@@ -20,6 +21,7 @@ mod got;
 pub mod laws;
 mod put_record;
 mod puts;
+mod same_facts;
 mod stamped_report;
 mod version;
 
@@ -30,4 +32,5 @@ pub use filing_index::Ids;
 pub use got::Got;
 pub use put_record::PutRecord;
 pub use puts::{Put, Puts};
+pub use same_facts::are_same_facts;
 pub use version::RepoVersion;

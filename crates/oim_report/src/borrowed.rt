@@ -207,7 +207,7 @@ pub fn owned(alloc: Global, value: json::Value<'_>) -> Result<Value, AllocError>
 }
 
 /// An owned copy of the member of this name, where there is one.
-pub(crate) fn owned_at(
+pub fn owned_at(
     alloc: Global,
     value: &json::Value<'_>,
     name: &str,

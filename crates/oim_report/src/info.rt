@@ -22,8 +22,8 @@ use std::sync::Arc;
 /// The document type of a report (xBRL-JSON 1.0), as `document_type` has it.
 const DOCUMENT_TYPE: &str = "https://xbrl.org/2021/xbrl-json";
 
-/// Whether `documentInfo` has the right document type.
-fn has_document_type(info: &Value) -> bool
+/// Whether `documentInfo` has the document type of a report.
+pub fn has_document_type(info: &Value) -> bool
     ensures { result ≡ has_document_type (view info.now) }
 {
     let Some(value) = info.get("documentType") else {
@@ -80,8 +80,8 @@ pub fn allowed_of_word(word: &str) -> Option<Allowed>
     }
 }
 
-/// The allowed duplicates that the member `features` declares.
-pub(crate) fn allowed(info: &Value) -> Result<Allowed, ReportFault>
+/// The allowed duplicates that the member `features` of `documentInfo` declares: all, where it declares none.
+pub fn allowed_of_info(info: &Value) -> Result<Allowed, ReportFault>
     ensures { Gives report_fault same result
         (allowed_of_features (get (codes "features") (view info.now))) }
 {
@@ -143,7 +143,7 @@ fn bound(alloc: Global, info: &Value) -> Result<Vec<(String, String)>, ReportFau
 }
 
 /// The names that `documentInfo` declares, by this numeric table.
-pub(crate) fn names(
+pub fn names_of_info(
     alloc: Global,
     info: &Value,
     table: &Arc<NumericTable>,

@@ -37,14 +37,14 @@ mod report_text;
 mod table;
 mod values;
 
-pub use borrowed::{copied, number, owned, text_value};
+pub use borrowed::{copied, number, owned, owned_at, text_value};
 pub use declared_value::with_allowed;
 pub use entries::Entries;
 pub use fact::{dimensions, dimensions_from, raw_fact, raw_fact_from};
 pub use fact_text::{push_dims, push_fact, push_raw, write_fact, write_raw};
 pub use fault::ReportFault;
 pub use filing_model::{TableFault, Trouble};
-pub use info::{allowed_of_word, allowed_word};
+pub use info::{allowed_of_info, allowed_of_word, allowed_word, has_document_type, names_of_info};
 pub use info_laws::{
     each_set_info_is_an_info, each_set_report_is_read_back, each_set_value_is_declared,
 };

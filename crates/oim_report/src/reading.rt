@@ -18,7 +18,7 @@ ghost use Rattle.oim_report.specs.Readings.{declared_by, of_declared, report_of_
 use crate::borrowed::{owned_at, text_value};
 use crate::facts::{facts, facts_in_text};
 use crate::fault::ReportFault;
-use crate::info::{allowed, document_info, info_text, names};
+use crate::info::{allowed_of_info, document_info, info_text, names_of_info};
 use crate::report::{Report, ReportParts};
 use crate::values::{take_member, without_mark};
 use filing_model::Allowed;
@@ -85,8 +85,8 @@ fn declaration(
     ensures info { IfOk result (λ d. IsInfo d.info d.names.prefixes d.allowed) }
 {
     let document_info = document_info(value)?;
-    let allowed = allowed(&document_info)?;
-    let names = names(alloc, &document_info, table)?;
+    let allowed = allowed_of_info(&document_info)?;
+    let names = names_of_info(alloc, &document_info, table)?;
     let info = info_text(alloc, &document_info)?;
     Ok(Declared {
         info,

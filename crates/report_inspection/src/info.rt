@@ -14,11 +14,12 @@ ghost use Rattle.report_inspection.specs.EachFault.{allowed_declared, fault_in, 
 ghost use Rattle.report_inspection.specs.Heads.{IsHead};
 ghost use Rattle.report_inspection.specs.Inspections.{AddsFaults};
 
-use crate::declared::{allowed, has_document_type, names};
 use crate::fault::{Fault, push_told};
 use filing_model::Allowed;
 use oim_fact::{Names, NumericTable};
-use oim_report::{ReportFault, copied, whole_text};
+use oim_report::{
+    ReportFault, allowed_of_info, copied, has_document_type, names_of_info, owned_at, whole_text,
+};
 use script_reasons::{Told, features_fault, info_faults, names_of, not_whole, type_fault};
 use serde_json::{Map, Value};
 use std::alloc::{AllocError, Global};
@@ -30,21 +31,6 @@ pub(crate) struct Head {
     pub(crate) faults: Vec<Fault>,
     pub(crate) names: Option<Names>,
     pub(crate) allowed: Allowed,
-}
-
-/// An owned copy of the member of this name, where there is one.
-pub(crate) fn owned_at(
-    alloc: Global,
-    value: &json::Value<'_>,
-    name: &str,
-) -> Result<Option<Value>, AllocError>
-    requires { IsInRange value.now }
-    ensures { IfOk result (λ o. option_map view o ≡ get name.now (data_of value.now)) }
-{
-    match value.get(name) {
-        Some(member) => copied(alloc, member),
-        None => Ok(None),
-    }
 }
 
 /// Tells a document type that is missing or another one.
@@ -69,7 +55,7 @@ fn check_features(
     ensures allowed { IfOk result (λ o. o ≡ value_in (allowed_declared (view info.now))) }
     ensures faults { OnOk result (AddsFaults (fault_in (allowed_declared (view info.now))) faults.old.items faults.new.items) }
 {
-    match allowed(info) {
+    match allowed_of_info(info) {
         Ok(allowed) => Ok(Some(allowed)),
         Err(fault) => {
             let mut told = Told::new(alloc);
@@ -90,7 +76,7 @@ fn check_names(
     ensures names { IfOk result (λ o. o ≡ value_in (declared_names (arc_value table.now) (view info.now))) }
     ensures faults { OnOk result (AddsFaults (fault_in (declared_names (arc_value table.now) (view info.now))) faults.old.items faults.new.items) }
 {
-    match names(alloc, info, table) {
+    match names_of_info(alloc, info, table) {
         Ok(names) => Ok(Some(names)),
         Err(fault) => {
             let mut told = Told::new(alloc);

@@ -3,7 +3,6 @@
 //! - `inspection`: what an inspection tells, and `inspect`.
 //! - `fault`: a fault of a report with its reasons.
 //! - `info`: what `documentInfo` declares, each check by itself.
-//! - `declared`: the checks of `documentInfo`.
 //! - `facts`: each fact by itself.
 //! - `cell`: a cell as it is told.
 //! - `cells`: the cells of more than one fact.
@@ -17,7 +16,6 @@
 
 mod cell;
 mod cells;
-mod declared;
 mod facts;
 mod fault;
 mod fault_laws;

@@ -11,9 +11,9 @@ use crate::cell::Cell;
 use crate::fault::Fault;
 use crate::inspection::Inspection;
 use crate::warning::Warning;
-use crate::words::{class_word, fault_word, kind_word};
+use crate::words::{fault_word, kind_word};
 use oim_report::{ReportFault, push_comma, push_dims, push_quoted};
-use script_format::push_word;
+use script_format::{class_word, push_word};
 use std::alloc::{AllocError, Global};
 
 /// Appends what each line begins with.

@@ -1,64 +1,12 @@
-//! The words for classes, faults and warnings.
+//! The words for faults and warnings.
 
 ghost use Rattle.std.specs.Prelude.{◌≡◌, option_map};
 ghost use Rattle.oim_report.specs.Faults.{report_fault};
-ghost use Rattle.script_format.specs.ReplyText.{class_word, dim_fault_word, fact_fault_word, trouble_word};
 ghost use Rattle.report_inspection.specs.Lines.{fault_word, kind_word};
 
 use crate::warning::WarningKind;
-use filing_model::{Class, DimFault, FactFault, Trouble};
 use oim_report::ReportFault;
-
-/// The word of a class.
-pub(crate) fn class_word(class: Class) -> &'static str
-    ensures { result.now ≡ class_word class }
-{
-    match class {
-        Class::Empty => "empty",
-        Class::Single => "single",
-        Class::Complete => "complete",
-        Class::Consistent => "consistent",
-        Class::Inconsistent => "inconsistent",
-        Class::Mixed => "mixed",
-    }
-}
-
-fn dim_fault_word(fault: DimFault) -> &'static str
-    ensures { result.now ≡ dim_fault_word fault }
-{
-    match fault {
-        DimFault::NameTwice => "name-twice",
-        DimFault::NullCore => "null-core",
-        DimFault::NoConcept => "no-concept",
-        DimFault::TooLong => "too-long",
-        DimFault::NoMemory => "",
-    }
-}
-
-fn fact_fault_word(fault: FactFault) -> &'static str
-    ensures { result.now ≡ fact_fault_word fault }
-{
-    match fault {
-        FactFault::UnboundPrefix => "unbound-prefix",
-        FactFault::Misplaced => "misplaced",
-        FactFault::NotANumber => "not-a-number",
-        FactFault::TooLarge => "too-large",
-        FactFault::DecimalsOutOfRange => "decimals-out-of-range",
-    }
-}
-
-/// The word of the fault in it. Want of memory has none.
-fn trouble_word(fault: Trouble) -> &'static str
-    ensures { result.now ≡ trouble_word fault }
-{
-    match fault {
-        Trouble::WrongShape => "wrong-shape",
-        Trouble::NotWhole => "not-whole",
-        Trouble::Dims(fault) => dim_fault_word(fault),
-        Trouble::Fit(fault) => fact_fault_word(fault),
-        Trouble::NoMemory => "",
-    }
-}
+use script_format::trouble_word;
 
 /// The word of a fault, where it is one.
 pub(crate) fn fault_word(fault: &ReportFault) -> Option<&'static str>

@@ -23,7 +23,7 @@ pub use line::{
 pub use line_outcome::{LineOutcome, classify_line};
 pub use load::{Loaded, load_of_line, report_in};
 pub use texts::{
-    bad_fact_reply, bad_line_reply, bad_report_reply, exported_reply, exported_reply_of,
-    name_in_use_reply, no_session_reply, push_asked, push_later, push_number, push_reply,
-    push_word, reply_text,
+    bad_fact_reply, bad_line_reply, bad_report_reply, class_word, exported_reply,
+    exported_reply_of, name_in_use_reply, no_session_reply, push_asked, push_later, push_number,
+    push_reply, push_word, reply_text, trouble_word,
 };

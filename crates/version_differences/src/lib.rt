@@ -1,6 +1,5 @@
 //! What differs between two versions of a repository.
 //!
-//! - `same_facts`: whether two facts are the same.
 //! - `places`: where two versions may differ.
 //! - `lines`: the text of each line of a difference.
 //! - `report_lines`: the lines of one report.
@@ -15,7 +14,6 @@ mod laws;
 mod lines;
 mod places;
 mod report_lines;
-mod same_facts;
 
 pub use difference::difference_text;
 pub use laws::{each_difference_makes_the_other, each_line_is_told_of_both};

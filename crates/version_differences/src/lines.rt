@@ -9,7 +9,7 @@ ghost use Rattle.script_format.specs.ReplyText.{word_text};
 ghost use Rattle.version_differences.specs.Differences.{NewReport, NoReport, Declared, Added, Removed, declared_lines, fact_lines};
 ghost use Rattle.version_differences.specs.LineText.{line_text, lines_text};
 
-use crate::same_facts::are_same_facts;
+use filing_version::are_same_facts;
 use oim_fact::{Allowed, Fact};
 use oim_report::{allowed_word, push_fact, push_quoted};
 use script_format::push_word;

@@ -6,7 +6,7 @@ ghost use Rattle.script_format.specs.ReplyText.{class_word, dim_fault_word, fact
 use filing_model::{Class, DimFault, FactFault, Trouble};
 
 /// The word of a class.
-pub(super) fn class_word(class: Class) -> &'static str
+pub fn class_word(class: Class) -> &'static str
     ensures { result.now ≡ class_word class }
 {
     match class {
@@ -44,7 +44,7 @@ fn fact_fault_word(fault: FactFault) -> &'static str
 }
 
 /// The word of the fault in it. Want of memory has none.
-pub(super) fn trouble_word(fault: Trouble) -> &'static str
+pub fn trouble_word(fault: Trouble) -> &'static str
     ensures { result.now ≡ trouble_word fault }
 {
     match fault {
