@@ -7,6 +7,10 @@ pub mod Runs
 pub mod Inspections
 pub mod Heads
 pub mod Found
+-- ---- what is warned of
+pub mod MemberNames
+pub mod KeptFacts
+pub mod Warnings
 -- ---- the laws
 pub mod FaultLaws
 -- ---- its lines

@@ -4,6 +4,7 @@ ghost use Rattle.std.specs.Prelude.{◌≡◌, codes, length, None, Some, IfOk, 
 ghost use Rattle.filing_model.specs.Common.Faults.{fact_trouble};
 ghost use Rattle.filing_model.specs.Common.Try.{Fails, Gives};
 ghost use Rattle.filing_model.specs.Reading.JsonText.{pairs};
+ghost use Rattle.json.specs.Find.{get as get_read};
 ghost use Rattle.json.specs.Value.{members_view as read_members, value_view};
 ghost use Rattle.serde_json.specs.Data.{no_members};
 ghost use Rattle.serde_json.specs.Find.{get};
@@ -15,6 +16,7 @@ ghost use Rattle.oim_report.specs.Readings.{same};
 ghost use Rattle.report_inspection.specs.EachFault.{fact_judged, fact_members, member_fact, member_faults, members_of};
 ghost use Rattle.report_inspection.specs.Found.{Takes, TakesEach, TakesFacts, places_behind};
 ghost use Rattle.report_inspection.specs.Inspections.{AddsFaults, TellsFault};
+ghost use Rattle.report_inspection.specs.KeptFacts.{kept_of, members_seen};
 
 use crate::fault::{Fault, push_told};
 use filing_model::Trouble;
@@ -107,7 +109,7 @@ impl Found {
 }
 
 /// The members in byte order of their names, of which the last of a name stays.
-fn in_order<'a, 'b>(
+pub(crate) fn in_order<'a, 'b>(
     alloc: Global,
     members: &'b Vec<(&'a str, json::Value<'a>)>,
 ) -> Result<BTreeMap<&'a str, &'b json::Value<'a>>, AllocError>
@@ -115,6 +117,7 @@ fn in_order<'a, 'b>(
     ensures members { IfOk result (λ m. of_members (read_members members.now.items) no_members
         ≡ Some (members_at (places_behind m.entries))) }
     ensures range { IfOk result (λ m. IsTrue (are_in_range (places_behind m.entries))) }
+    ensures read { IfOk result (λ m. members_seen m.entries ≡ kept_of (read_members members.now.items)) }
 {
     let mut places = BTreeMap::new(alloc);
     for member in members {
@@ -144,16 +147,19 @@ fn take_members<'a>(
 }
 
 /// What stands at this name.
-fn part_of<'a, 'b>(value: &'b json::Value<'a>, name: &str) -> Option<&'b json::Value<'a>>
+pub(crate) fn part_of<'a, 'b>(value: &'b json::Value<'a>, name: &str) -> Option<&'b json::Value<'a>>
     requires { IsInRange value.now }
     ensures data { option_map (λ v. data_of v.now) result ≡ get name.now (data_of value.now) }
     ensures range { IfSome result (λ v. IsInRange v.now) }
+    ensures read { option_map (λ v. value_view v.now) result ≡ get_read name.now (value_view value.now) }
 {
     value.get(name)
 }
 
 /// The members of an object as they were read.
-fn members_in<'a, 'b>(value: &'b json::Value<'a>) -> Option<&'b Vec<(&'a str, json::Value<'a>)>>
+pub(crate) fn members_in<'a, 'b>(
+    value: &'b json::Value<'a>,
+) -> Option<&'b Vec<(&'a str, json::Value<'a>)>>
     ensures { option_map (λ v. read_members v.now.items) result ≡ read_object (value_view value.now) }
 {
     match value {

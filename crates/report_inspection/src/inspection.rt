@@ -1,12 +1,14 @@
 //! `inspect`: all that is to be told of a report.
 
-ghost use Rattle.std.specs.Prelude.{◌≡◌, ◌≤◌, ◌∷◌, [], false, IfOk};
+ghost use Rattle.std.specs.Prelude.{◌≡◌, ◌≤◌, ◌∷◌, [], false, map, IfOk};
 ghost use Rattle.std.specs.Arc.{arc_value};
+ghost use Rattle.json.specs.Value.{value_view};
 ghost use Rattle.serde_json.specs.Data.{depth};
 ghost use Rattle.serde_json.specs.Read.{max_depth};
 ghost use Rattle.filing_model.specs.Reading.ReadReport.{NotJson};
 ghost use Rattle.oim_report.specs.Borrowed.{IsInRange, data_of};
 ghost use Rattle.report_inspection.specs.Inspections.{AreFaults, IsInspection, TellsOf};
+ghost use Rattle.report_inspection.specs.Warnings.{AreOf, told};
 
 use crate::cell::Cell;
 use crate::cells::{are_allowed, cells_of};
@@ -14,6 +16,7 @@ use crate::facts::{Found, take_facts};
 use crate::fault::{Fault, push_told};
 use crate::info::{Head, head_in};
 use crate::warning::Warning;
+use crate::warnings::warnings_of;
 use filing_model::Allowed;
 use json::Scratch;
 use oim_fact::NumericTable;
@@ -32,7 +35,7 @@ pub struct Inspection {
     pub faults: Vec<Fault>,
     /// Its cells of more than one fact, in the order of their dimension sets; of the facts that can be read.
     pub cells: Vec<Cell>,
-    /// What is no fault, and may be meant otherwise.
+    /// What is no fault, and may be meant otherwise, each once. First of the report, then of each fact in byte order of the identifiers: in byte order the names that stand twice, then the members that are not read, then decimals beside null. Then the concepts that the table lacks, and then the numbers at other URIs.
     pub warnings: Vec<Warning>,
     /// Whether a load of it would be answered `loaded`, under a name that is free.
     pub would_load: bool,
@@ -78,7 +81,8 @@ fn inspect_value(
 ) -> Result<Inspection, AllocError>
     requires range { IsInRange value.now }
     requires shallow { depth (data_of value.now) ≤ max_depth }
-    ensures { IfOk result (TellsOf (arc_value table.now) asked (data_of value.now)) }
+    ensures told { IfOk result (TellsOf (arc_value table.now) asked (data_of value.now)) }
+    ensures warned { IfOk result (λ i. AreOf (value_view value.now) (map told i.warnings.items)) }
 {
     let Head {
         faults,
@@ -92,12 +96,13 @@ fn inspect_value(
     let count = take_facts(alloc, &mut found, &names, value)?;
     let Found { facts, faults } = found;
     let cells = cells_of(alloc, asked.unwrap_or(allowed), facts)?;
+    let warnings = warnings_of(alloc, value, &names, table)?;
     let would_load = faults.is_empty() && are_allowed(&cells);
     Ok(Inspection {
         facts: count,
         faults,
         cells,
-        warnings: Vec::new(alloc),
+        warnings,
         would_load,
     })
 }

@@ -7,8 +7,14 @@
 //! - `cell`: a cell as it is told.
 //! - `cells`: the cells of more than one fact.
 //! - `warning`: what is no fault, and may be meant otherwise.
+//! - `warnings`: all that is warned of in a report.
+//! - `part_names`: the names that are warned of in a report, and in one fact.
+//! - `repeats`: names that stand more than once in an object.
+//! - `known_names`: the members that are known.
+//! - `concepts`: concepts that the numeric table lacks.
 //! - `lines`: the lines of an inspection.
 //! - `words`: the words in them.
+//! - `plain`: the same as lines for people.
 //! - `fault_laws`: the laws of the faults.
 //!
 //! It knows nothing of versions, of sessions, of how a line of a script is read, or of files.
@@ -16,15 +22,21 @@
 
 mod cell;
 mod cells;
+mod concepts;
 mod facts;
 mod fault;
 mod fault_laws;
 mod info;
 mod inspection;
+mod known_names;
 mod lines;
+mod part_names;
+mod plain;
+mod repeats;
 #[cfg(test)]
 mod tests;
 mod warning;
+mod warnings;
 mod words;
 
 pub use cell::Cell;
@@ -32,4 +44,5 @@ pub use fault::Fault;
 pub use fault_laws::{facts_have_faults_where_refused, first_fault_is_the_readings};
 pub use inspection::{Inspection, inspect};
 pub use lines::{push_cell, push_fault, push_inspection, push_summary, push_warning};
+pub use plain::push_plain;
 pub use warning::{Warning, WarningKind};

@@ -27,7 +27,7 @@ fn push_head(out: &mut String, word: &str, file: &str) -> Result<(), AllocError>
 }
 
 /// The identifier of the fact that a fault is of, where it is of one.
-fn fault_id(fault: &ReportFault) -> Option<&str>
+pub(crate) fn fault_id(fault: &ReportFault) -> Option<&str>
     ensures { option_map (λ t. t.now) result ≡ option_and_then fault_id (report_fault fault.now) }
 {
     match fault {
@@ -226,7 +226,7 @@ fn is_disallowed(cell: &Cell) -> bool
 }
 
 /// How many cells may not stand.
-fn disallowed(cells: &[Cell]) -> usize
+pub(crate) fn disallowed(cells: &[Cell]) -> usize
     ensures { result ≡ disallowed cells.now }
 {
     let mut count = 0;

@@ -51,7 +51,8 @@ does not load
 ["fault","f",null,"alias-twice","the URI \"u\" has two prefixes, \"a\" and \"b\""]
 ["fault","f",null,"not-whole","\"documentInfo\" has the number 1.5, which is not whole"]
 ["fault","f",null,"wrong-shape","\"facts\" is true or false, not an object"]
-["inspected","f",0,0,5,0,0]
+["warning","f","not-read",null,"size"]
+["inspected","f",0,0,5,0,1]
 does not load
 > {"documentInfo":{"documentType":"https://xbrl.org/2021/xbrl-json","features":7,"namespaces":{"a":5,"b":null}},"facts":{"f1":{"dimensions":{"concept":"a:b"},"value":"x"}}}
 ["fault","f",null,"wrong-shape","\"features\" is a number, not an object"]
@@ -69,7 +70,8 @@ does not load
 ["fault","f","c","wrong-shape","there is no dimension \"concept\""]
 ["fault","f","d","misplaced","the concept \"ex:Text\" takes no unit, since it is not numeric: the numeric table has no line \"http://e.org/t Text\""]
 ["fault","f","e","wrong-shape","it is a number, not an object"]
-["inspected","f",5,0,5,0,0]
+["warning","f","not-in-table","d","http://e.org/t Text"]
+["inspected","f",5,0,5,0,1]
 does not load
 > {"documentInfo":{"documentType":"https://xbrl.org/2021/xbrl-json","namespaces":{"ex":"http://e.org/t","o":"http://e.org/o"}},"facts":{"a":{"dimensions":{"concept":"ex:Assets"},"value":"1","decimals":99},"b":{"dimensions":{"concept":"ex:Assets"},"value":"1e5"},"c":{"dimensions":{"concept":"ex:Assets"},"value":"123456789012345678901"}}}
 ["fault","f","a","decimals-out-of-range","\"decimals\" is 99, not within -20 to 15"]
@@ -168,9 +170,95 @@ does not load
 ["inspected","f",3,0,2,0,0]
 does not load
 > {"documentInfo":{"documentType":"https://xbrl.org/2021/xbrl-json","namespaces":{"ex":"http://e.org/t","o":"http://e.org/o"}},"facts":{"a":{"dimensions":{"concept":"ex:Assets","entity":"e","period":"2024"},"value":"x"},"a":{"dimensions":{"concept":"ex:Assets","entity":"e","period":"2024"},"value":"5"}}}
-["inspected","f",1,0,0,0,0]
+["warning","f","name-twice",null,"a"]
+["inspected","f",1,0,0,0,1]
 loads
 > {"documentInfo":{"documentType":"https://xbrl.org/2021/xbrl-json"},"facts":{"a":1},"facts":{}}
-["inspected","f",0,0,0,0,0]
+["warning","f","name-twice",null,"facts"]
+["inspected","f",0,0,0,0,1]
 loads
+> {"documentInfo":{"documentType":"https://xbrl.org/2021/xbrl-json","features":{"xbrl:allowedDuplicates":"all"},"namespaces":{"ex":"http://e.org/t"},"taxonomy":["t.xsd"],"linkTypes":{"n":"http://e.org/n"},"linkGroups":{"g":"http://e.org/g"},"baseURL":"http://e.org/"},"facts":{"a":{"value":"7","decimals":0,"dimensions":{"concept":"ex:Assets","unit":"u"},"links":{"n":{"g":["b"]}}},"b":{"value":null,"dimensions":{"concept":"ex:Text"}}}}
+["inspected","f",2,0,0,0,0]
+loads
+> {"facts":{},"documentInfo":{"documentType":"https://xbrl.org/2021/xbrl-json"},"documentInfo":7,"documentInfo":{"documentType":"https://xbrl.org/2021/xbrl-json"}}
+["warning","f","name-twice",null,"documentInfo"]
+["inspected","f",0,0,0,0,1]
+loads
+> {"documentInfo":{"namespaces":{"ex":"http://e.org/o","z":"http://e.org/z","ex":"http://e.org/t"},"documentType":"x","documentType":"https://xbrl.org/2021/xbrl-json","features":{"xbrl:allowedDuplicates":"none","xbrl:allowedDuplicates":"all"},"taxonomy":[1,{"q":2,"q":3}]},"facts":{"f1":{"value":"1","dimensions":{"concept":"ex:Assets","unit":"u"}}}}
+["warning","f","name-twice",null,"documentType"]
+["warning","f","name-twice",null,"ex"]
+["warning","f","name-twice",null,"q"]
+["warning","f","name-twice",null,"xbrl:allowedDuplicates"]
+["inspected","f",1,0,0,0,4]
+loads
+> {"documentInfo":{"documentType":"https://xbrl.org/2021/xbrl-json","namespaces":{"ex":"http://e.org/t"}},"facts":{"b":{"value":"1","value":"2","dimensions":{"concept":"ex:Assets","entity":"e","entity":"g"},"links":{"n":{"g":["x"],"g":["y"]}}},"a":{"dimensions":{"concept":"ex:Assets"},"value":"3","dimensions":{"concept":"ex:Assets","period":"2023"}}}}
+["warning","f","name-twice","a","dimensions"]
+["warning","f","name-twice","b","entity"]
+["warning","f","name-twice","b","g"]
+["warning","f","name-twice","b","value"]
+["inspected","f",2,0,0,0,4]
+loads
+> {"documentInfo":{"documentType":"https://xbrl.org/2021/xbrl-json","namespaces":{"ex":"http://e.org/t"}},"facts":{"c":{"value":"4","dimensions":{"concept":"ex:Assets"},"links":{"i":{"h":1,"h":2,"h":3},"j":[{"h":4,"h":5}]}}}}
+["warning","f","name-twice","c","h"]
+["inspected","f",1,0,0,0,1]
+loads
+> {"note":{"k":1,"k":2},"documentInfo":{"namspaces":{"ex":"http://e.org/t"},"documentType":"https://xbrl.org/2021/xbrl-json"},"facts":{},"author":"m"}
+["warning","f","not-read",null,"author"]
+["warning","f","not-read",null,"namspaces"]
+["warning","f","not-read",null,"note"]
+["inspected","f",0,0,0,0,3]
+loads
+> {"documentInfo":{"documentType":"https://xbrl.org/2021/xbrl-json","namespaces":{"ex":"http://e.org/t"}},"facts":{"y":{"value":"8","decimls":2,"dimensions":{"concept":"ex:Assets"},"unit":"u"},"x":{"value":"9","decimls":1,"decimls":0,"dimensions":{"concept":"ex:Assets","period":"2022"}}}}
+["warning","f","name-twice","x","decimls"]
+["warning","f","not-read","x","decimls"]
+["warning","f","not-read","y","decimls"]
+["warning","f","not-read","y","unit"]
+["inspected","f",2,0,0,0,4]
+loads
+> {"documentInfo":{"documentType":"https://xbrl.org/2021/xbrl-json","namespaces":{"ex":"http://e.org/t"}},"facts":{"a":{"value":"x","decimls":3,"size":{"s":1,"s":2},"dimensions":{"concept":"ex:Text"}},"a":{"value":"t","dimensions":{"concept":"ex:Text"}}}}
+["warning","f","name-twice",null,"a"]
+["inspected","f",1,0,0,0,1]
+loads
+> {"documentInfo":{"documentType":"https://xbrl.org/2021/xbrl-json","namespaces":{"ex":"http://e.org/t"}},"facts":{"p":{"value":null,"decimals":3,"dimensions":{"concept":"ex:Assets"}},"q":{"value":null,"decimals":null,"dimensions":{"concept":"ex:Assets","period":"2021"}},"r":{"value":"6","decimals":1,"dimensions":{"concept":"ex:Assets","period":"2020"}},"s":{"value":null,"decimals":-2,"dimensions":{"concept":"ex:Text"}}}}
+["warning","f","decimals-beside-null","p","decimals"]
+["warning","f","decimals-beside-null","s","decimals"]
+["inspected","f",4,0,0,0,2]
+loads
+> {"documentInfo":{"documentType":"https://xbrl.org/2021/xbrl-json","namespaces":{"ex":"http://e.org/t"}},"facts":{"p":{"decimals":5,"dimensions":{"concept":"ex:Assets"}}}}
+["fault","f","p","wrong-shape","there is no \"value\""]
+["inspected","f",1,0,1,0,0]
+does not load
+> {"documentInfo":{"documentType":"https://xbrl.org/2021/xbrl-json","namespaces":{"ex":"http://e.org/t","o":"http://e.org/o"}},"facts":{"m":{"value":"11","dimensions":{"concept":"ex:Staff","unit":"u"}},"l":{"value":"12","dimensions":{"concept":"ex:Staff","period":"2019","unit":"v"}},"k":{"value":"13","dimensions":{"concept":"ex:Staff"}},"n":{"value":"14","dimensions":{"concept":"ex:Assets","unit":"u"}}}}
+["fault","f","l","misplaced","the concept \"ex:Staff\" takes no unit, since it is not numeric: the numeric table has no line \"http://e.org/t Staff\""]
+["fault","f","m","misplaced","the concept \"ex:Staff\" takes no unit, since it is not numeric: the numeric table has no line \"http://e.org/t Staff\""]
+["warning","f","not-in-table","l","http://e.org/t Staff"]
+["inspected","f",4,0,2,0,1]
+does not load
+> {"documentInfo":{"documentType":"https://xbrl.org/2021/xbrl-json","namespaces":{"ex":"http://e.org/t","o":"http://e.org/o"}},"facts":{"i":{"value":"21","dimensions":{"concept":"o:Assets"}},"j":{"value":"t","dimensions":{"concept":"ex:Text"}}}}
+["warning","f","other-namespace","i","http://e.org/t Assets"]
+["inspected","f",2,0,0,0,1]
+loads
+> {"documentInfo":{"documentType":"https://xbrl.org/2021/xbrl-json","namespaces":{"ex":"http://e.org/t","o":"http://e.org/o"}},"facts":{"i":{"value":"22","dimensions":{"concept":"o:Assets"}},"j":{"value":"23","dimensions":{"concept":"ex:Assets"}}}}
+["inspected","f",2,0,0,0,0]
+loads
+> {"documentInfo":{"documentType":"https://xbrl.org/2021/xbrl-json","namespaces":{"ex":"http://e.org/t","o":"http://e.org/o"}},"facts":{"i":{"value":"all","dimensions":{"concept":"o:Assets"}},"j":{"value":"24","dimensions":{"concept":"o:Others"}}}}
+["inspected","f",2,0,0,0,0]
+loads
+> {"documentInfo":{"documentType":"https://xbrl.org/2021/xbrl-json","namespaces":{"o":"http://e.org/o"}},"facts":{"i":{"value":"25","dimensions":{"concept":"o:Assets"}}}}
+["inspected","f",1,0,0,0,0]
+loads
+> {"documentInfo":{"documentType":"https://xbrl.org/2021/xbrl-json","namespaces":{"p":"http://e.org/p","o":"http://e.org/o","ex":"http://e.org/t"}},"extra":0,"facts":{"h":{"value":"26","dimensions":{"concept":"p:Assets"}},"g":{"value":null,"decimals":4,"dimensions":{"concept":"o:Assets"}},"f":{"value":"27","dimensions":{"concept":"o:Assets","period":"2018"}},"e":{"value":"28","dimensions":{"concept":"o:Others","unit":"u"}}}}
+["fault","f","e","misplaced","the concept \"o:Others\" takes no unit, since it is not numeric: the numeric table has no line \"http://e.org/o Others\""]
+["warning","f","not-read",null,"extra"]
+["warning","f","decimals-beside-null","g","decimals"]
+["warning","f","not-in-table","e","http://e.org/o Others"]
+["warning","f","other-namespace","f","http://e.org/t Assets"]
+["warning","f","other-namespace","h","http://e.org/t Assets"]
+["inspected","f",4,0,1,0,5]
+does not load
+> {"documentInfo":{"documentType":"https://xbrl.org/2021/xbrl-json","namespaces":{"ex":"http://e.org/t","o":"http://e.org/t"}},"facts":{"d":{"value":"29","decimls":6,"dimensions":{"concept":"o:Staff","unit":"u"}}}}
+["fault","f",null,"alias-twice","the URI \"http://e.org/t\" has two prefixes, \"ex\" and \"o\""]
+["warning","f","not-read","d","decimls"]
+["inspected","f",1,0,1,0,1]
+does not load
 "#;

@@ -1,10 +1,12 @@
-use Rattle.std.proofs.Common.{◌≡◌, ◌∙◌, ◌+◌, ◌∷◌, [], ap, sym, subst, arith, drop}
-use Rattle.std.proofs.lemmas.List.{drop_all, drop_more}
+use Rattle.std.proofs.Common.{◌≡◌, ◌∙◌, ◌+◌, ◌∷◌, ap, sym, subst, arith, drop}
+use Rattle.std.proofs.lemmas.List.{drop_more}
 use Rattle.json.specs.Value.{value_view, members_view}
 use Rattle.serde_json.specs.Read.{of_members}
 use Rattle.oim_report.specs.Borrowed.{are_in_range, members_at}
 use Rattle.oim_report.proofs.OrderedMembers.{in_range-insert, member_turn, members_at-insert}
 use Rattle.report_inspection.specs.Found.{places_behind}
+use Rattle.report_inspection.specs.KeptFacts.{kept_after, members_seen}
+use Rattle.report_inspection.proofs.KeptPlaces.{put_seen}
 use Rattle.report_inspection.proofs.TakenFacts.{put_behind}
 use Rattle.report_inspection.proofs.facts.in_order.Goals as goal
 
@@ -30,4 +32,9 @@ loop-member-preserved c =
           ap (λ es. are_in_range (places_behind es)) c.in_ok-insert.ensures.entries
           ∙ ap are_in_range (put_behind l.places.entries x.0 _)
           ∙ in_range-insert (places_behind l.places.entries) x.0 x.1 turn.0 l.invariant.range;
+      read =
+          ap (λ es. kept_after (members_seen es) rest) c.in_ok-insert.ensures.entries
+          ∙ ap (λ es. kept_after es rest) (put_seen l.places.entries x.0 _)
+          ∙ ap (λ ys. kept_after (members_seen l.places.entries) (members_view ys)) (sym of_all)
+          ∙ l.invariant.read;
     }

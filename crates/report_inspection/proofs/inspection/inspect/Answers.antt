@@ -17,7 +17,7 @@ returns-in-Some c =
     (IsInspection (arc_value c.args.table.now) c.args.asked c.args.bytes.now)
     (λ i told. inspected (arc_value c.args.table.now) c.args.asked c.args.bytes.now (data_of c.in-Some.value) i
     (ap json_of (sym c.without_mark-text.ensures) ∙ sym c.in_ok-value.ensures.value ∙ ap (option_map data_of) c.in-Some.is) told)
-    c.inspect_value.ensures
+    c.inspect_value.ensures.told
 
 pub returns : goal.returns
 returns c =

@@ -1,0 +1,286 @@
+//! The concepts of a report, each a URI and a local name, and those of them that the numeric table lacks.
+
+ghost use Rattle.std.specs.Prelude.{IsTrue, OnOk};
+ghost use Rattle.report_inspection.specs.Warnings.{AreOfConcepts, Tells, is_of_concept};
+
+use crate::warning::{Warning, WarningKind, push_warned};
+use oim_fact::{Names, NumericTable};
+use oim_value::Decimal;
+use std::alloc::{AllocError, Global};
+use std::collections::{BTreeMap, BTreeSet};
+
+/// The most URIs at which a local name is looked for, so that the time stays near linear.
+const MOST_URIS: usize = 100;
+
+/// The first facts of a concept that have a unit, and that have a number as their value.
+#[derive(Clone, Copy)]
+struct FirstFacts<'a> {
+    with_unit: Option<&'a str>,
+    with_number: Option<&'a str>,
+}
+
+/// The concepts of facts, in byte order of their URIs and local names.
+#[derive(Drop)]
+struct Concepts<'n, 'a> {
+    facts: BTreeMap<(&'n str, &'a str), FirstFacts<'a>>,
+}
+
+/// The text of a dimension of a fact.
+fn dimension<'a>(fact: &json::Value<'a>, name: &str) -> Option<&'a str> {
+    fact.get("dimensions")?.get(name)?.as_str()
+}
+
+/// Whether the value of a fact is the text of a number.
+fn has_number(fact: &json::Value<'_>) -> bool {
+    match fact.get("value") {
+        Some(json::Value::String(text)) => Decimal::read(text).is_ok(),
+        _ => false,
+    }
+}
+
+/// The URI and the local name of a concept whose prefix is bound.
+fn expanded<'n, 'a>(names: &'n Names, concept: &'a str) -> Option<(&'n str, &'a str)> {
+    let (prefix, local) = concept.split_once(':')?;
+    Some((names.uri(prefix)?, local))
+}
+
+/// The first fact, where there was one; else this one, where it counts.
+fn first_of<'a>(first: Option<&'a str>, id: &'a str, counts: bool) -> Option<&'a str> {
+    if first.is_none() && counts {
+        Some(id)
+    } else {
+        first
+    }
+}
+
+/// Warns of a concept.
+#[tactic(auto, using(crate::proofs::ToldWarnings::one_concept))]
+fn push_concept(
+    alloc: Global,
+    warnings: &mut Vec<Warning>,
+    kind: WarningKind,
+    id: &str,
+    uri: &str,
+    local: &str,
+) -> Result<(), AllocError>
+    requires { IsTrue (is_of_concept kind) }
+    ensures { OnOk result (Tells AreOfConcepts warnings.old.items warnings.new.items) }
+{
+    let name = format!(in alloc; "{uri} {local}")?;
+    push_warned(alloc, warnings, kind, Some(id), &name)
+}
+
+/// Warns of a concept that has a unit and that the table lacks.
+#[tactic(auto, using(crate::proofs::ToldWarnings::no_concept))]
+fn warn_of_unit(
+    alloc: Global,
+    warnings: &mut Vec<Warning>,
+    table: &NumericTable,
+    concept: &(&str, &str),
+    facts: &FirstFacts<'_>,
+) -> Result<(), AllocError>
+    ensures { OnOk result (Tells AreOfConcepts warnings.old.items warnings.new.items) }
+{
+    let (uri, local) = *concept;
+    let Some(id) = facts.with_unit else {
+        return Ok(());
+    };
+    if table.has(uri, local) {
+        return Ok(());
+    }
+    push_concept(alloc, warnings, WarningKind::NotInTable, id, uri, local)
+}
+
+impl<'n, 'a> Concepts<'n, 'a> {
+    /// The first facts of a concept, which may have none.
+    fn first_facts(&self, uri: &'n str, local: &'a str) -> FirstFacts<'a> {
+        match self.facts.get(&(uri, local)) {
+            Some(facts) => *facts,
+            None => FirstFacts {
+                with_unit: None,
+                with_number: None,
+            },
+        }
+    }
+
+    /// Takes the concept of the fact under this identifier.
+    fn take(
+        &mut self,
+        names: &'n Names,
+        id: &'a str,
+        fact: &json::Value<'a>,
+    ) -> Result<(), AllocError> {
+        let Some(concept) = dimension(fact, "concept") else {
+            return Ok(());
+        };
+        let Some((uri, local)) = expanded(names, concept) else {
+            return Ok(());
+        };
+        let first = self.first_facts(uri, local);
+        let facts = FirstFacts {
+            with_unit: first_of(first.with_unit, id, dimension(fact, "unit").is_some()),
+            with_number: first_of(first.with_number, id, has_number(fact)),
+        };
+        drop(self.facts.insert((uri, local), facts)?);
+        Ok(())
+    }
+
+    /// Warns of each concept that has a unit and that the table lacks.
+    #[tactic(auto, using(crate::proofs::ToldWarnings::no_concept, crate::proofs::ToldWarnings::more_concepts))]
+    fn warn_of_units(
+        &self,
+        alloc: Global,
+        warnings: &mut Vec<Warning>,
+        table: &NumericTable,
+    ) -> Result<(), AllocError>
+        ensures { OnOk result (Tells AreOfConcepts warnings.old.items warnings.new.items) }
+    {
+        for (concept, facts) in &self.facts {
+            warn_of_unit(alloc, warnings, table, concept, facts)?;
+        }
+        Ok(())
+    }
+
+    /// Warns of a numeric concept that no fact has, beside a fact that has its local name.
+    #[tactic(auto, using(crate::proofs::ToldWarnings::no_concept))]
+    fn warn_of_other(
+        &self,
+        alloc: Global,
+        warnings: &mut Vec<Warning>,
+        table: &NumericTable,
+        id: &str,
+        uri: &'n str,
+        local: &'a str,
+    ) -> Result<(), AllocError>
+        ensures { OnOk result (Tells AreOfConcepts warnings.old.items warnings.new.items) }
+    {
+        if !table.has(uri, local) {
+            return Ok(());
+        }
+        if self.facts.contains_key(&(uri, local)) {
+            return Ok(());
+        }
+        push_concept(alloc, warnings, WarningKind::OtherNamespace, id, uri, local)
+    }
+
+    /// As `warn_of_other`, at each of these URIs.
+    #[tactic(auto, using(crate::proofs::ToldWarnings::no_concept, crate::proofs::ToldWarnings::more_concepts))]
+    fn warn_of_others(
+        &self,
+        alloc: Global,
+        warnings: &mut Vec<Warning>,
+        table: &NumericTable,
+        uris: &BTreeSet<&'n str>,
+        id: &str,
+        local: &'a str,
+    ) -> Result<(), AllocError>
+        ensures { OnOk result (Tells AreOfConcepts warnings.old.items warnings.new.items) }
+    {
+        for uri in uris {
+            self.warn_of_other(alloc, warnings, table, id, uri, local)?;
+        }
+        Ok(())
+    }
+
+    /// Warns where a concept has a number and the table lacks it, and has its local name at another of these URIs.
+    #[tactic(auto, using(crate::proofs::ToldWarnings::no_concept))]
+    fn warn_of_number(
+        &self,
+        alloc: Global,
+        warnings: &mut Vec<Warning>,
+        table: &NumericTable,
+        uris: &BTreeSet<&'n str>,
+        concept: &(&'n str, &'a str),
+        facts: &FirstFacts<'_>,
+    ) -> Result<(), AllocError>
+        ensures { OnOk result (Tells AreOfConcepts warnings.old.items warnings.new.items) }
+    {
+        let (uri, local) = *concept;
+        let Some(id) = facts.with_number else {
+            return Ok(());
+        };
+        if table.has(uri, local) {
+            return Ok(());
+        }
+        self.warn_of_others(alloc, warnings, table, uris, id, local)
+    }
+
+    /// As `warn_of_number`, of each concept.
+    #[tactic(auto, using(crate::proofs::ToldWarnings::no_concept, crate::proofs::ToldWarnings::more_concepts))]
+    fn warn_of_numbers(
+        &self,
+        alloc: Global,
+        warnings: &mut Vec<Warning>,
+        table: &NumericTable,
+        uris: &BTreeSet<&'n str>,
+    ) -> Result<(), AllocError>
+        ensures { OnOk result (Tells AreOfConcepts warnings.old.items warnings.new.items) }
+    {
+        for (concept, facts) in &self.facts {
+            self.warn_of_number(alloc, warnings, table, uris, concept, facts)?;
+        }
+        Ok(())
+    }
+}
+
+/// The concepts of these facts.
+fn concepts_of<'n, 'a>(
+    alloc: Global,
+    names: &'n Names,
+    facts: &BTreeMap<&'a str, &json::Value<'a>>,
+) -> Result<Concepts<'n, 'a>, AllocError> {
+    let mut concepts = Concepts {
+        facts: BTreeMap::new(alloc),
+    };
+    for (id, fact) in facts {
+        concepts.take(names, id, fact)?;
+    }
+    Ok(concepts)
+}
+
+/// The first URIs that a report binds, in the order of its text.
+fn bound_uris<'a>(
+    alloc: Global,
+    names: &'a Names,
+    report: &json::Value<'_>,
+) -> Result<BTreeSet<&'a str>, AllocError> {
+    let mut uris = BTreeSet::new(alloc);
+    let Some(json::Value::Object(namespaces)) = namespaces_of(report) else {
+        return Ok(uris);
+    };
+    for member in namespaces {
+        if uris.len() == MOST_URIS {
+            return Ok(uris);
+        }
+        if let Some(uri) = names.uri(member.0) {
+            drop(uris.insert(uri)?);
+        }
+    }
+    Ok(uris)
+}
+
+/// The member `namespaces` of `documentInfo`.
+fn namespaces_of<'a, 'b>(report: &'b json::Value<'a>) -> Option<&'b json::Value<'a>> {
+    report.get("documentInfo")?.get("namespaces")
+}
+
+/// Warns of concepts of these facts that the table lacks: of those with a unit, and of those with a number whose local name it has at another URI. Each kind comes in byte order of the URIs and the local names. None is warned of where the names of the report are not known.
+#[tactic(auto, using(crate::proofs::ToldWarnings::no_concept, crate::proofs::ToldWarnings::more_concepts))]
+pub(crate) fn warn_of_concepts<'a>(
+    alloc: Global,
+    warnings: &mut Vec<Warning>,
+    report: &json::Value<'_>,
+    facts: &BTreeMap<&'a str, &json::Value<'a>>,
+    names: &Option<Names>,
+    table: &NumericTable,
+) -> Result<(), AllocError>
+    ensures { OnOk result (Tells AreOfConcepts warnings.old.items warnings.new.items) }
+{
+    let Some(names) = names else {
+        return Ok(());
+    };
+    let concepts = concepts_of(alloc, names, facts)?;
+    concepts.warn_of_units(alloc, warnings, table)?;
+    let uris = bound_uris(alloc, names, report)?;
+    concepts.warn_of_numbers(alloc, warnings, table, &uris)
+}

@@ -1,0 +1,153 @@
+//! What is no fault of a report, and may be meant otherwise.
+
+ghost use Rattle.std.specs.Prelude.{◌≡◌, ◌++◌, map, IfOk, OnOk, Some, option_map};
+ghost use Rattle.json.specs.Value.{value_view};
+ghost use Rattle.oim_report.specs.Borrowed.{IsInRange};
+ghost use Rattle.report_inspection.specs.KeptFacts.{members_seen};
+ghost use Rattle.report_inspection.specs.MemberNames.{has_name};
+ghost use Rattle.report_inspection.specs.Warnings.{AreOf, AreOfFact, AreOfFacts, AreOfNames, AreOfReport, Tells, has_idle_decimals, kept_facts, kept_in, of_decimals, told};
+
+use crate::concepts::warn_of_concepts;
+use crate::facts::{in_order, members_in, part_of};
+use crate::part_names::{repeated_in_fact, repeated_in_report, unknown_in_fact, unknown_in_report};
+use crate::warning::{Warning, WarningKind, push_warned};
+use oim_fact::{Names, NumericTable};
+use std::alloc::{AllocError, Global};
+use std::collections::{BTreeMap, BTreeSet};
+
+/// Warns of each of these names.
+fn push_names(
+    alloc: Global,
+    warnings: &mut Vec<Warning>,
+    kind: WarningKind,
+    fact: Option<&str>,
+    names: &BTreeSet<&str>,
+) -> Result<(), AllocError>
+    ensures { OnOk result (Tells (AreOfNames kind (option_map (λ t. t.now) fact.entry) (has_name names.now))
+        warnings.old.items warnings.new.items) }
+{
+    for name in names.iter() {
+        push_warned(alloc, warnings, kind, fact, name)?;
+    }
+    Ok(())
+}
+
+/// Warns of the names in a report beside those in its facts.
+fn warn_of_report(
+    alloc: Global,
+    warnings: &mut Vec<Warning>,
+    report: &json::Value<'_>,
+) -> Result<(), AllocError>
+    ensures { OnOk result (Tells (AreOfReport (value_view report.now)) warnings.old.items warnings.new.items) }
+{
+    let repeated = repeated_in_report(alloc, report)?;
+    push_names(alloc, warnings, WarningKind::NameTwice, None, &repeated)?;
+    let unknown = unknown_in_report(alloc, report)?;
+    push_names(alloc, warnings, WarningKind::NotRead, None, &unknown)
+}
+
+/// Whether a fact has a number of decimals beside a value that is null.
+fn has_idle_decimals(fact: &json::Value<'_>) -> bool
+    ensures { result ≡ has_idle_decimals (value_view fact.now) }
+{
+    matches!(fact.get("value"), Some(json::Value::Null))
+        && matches!(fact.get("decimals"), Some(json::Value::Number(_)))
+}
+
+/// Warns of decimals beside null.
+fn warn_of_decimals(
+    alloc: Global,
+    warnings: &mut Vec<Warning>,
+    id: &str,
+    fact: &json::Value<'_>,
+) -> Result<(), AllocError>
+    ensures { OnOk result (map told warnings.new.items ≡ map told warnings.old.items
+        ++ of_decimals id.now (value_view fact.now)) }
+{
+    if !has_idle_decimals(fact) {
+        return Ok(());
+    }
+    push_warned(
+        alloc,
+        warnings,
+        WarningKind::DecimalsBesideNull,
+        Some(id),
+        "decimals",
+    )
+}
+
+/// Warns of the names in a fact, and of decimals beside null.
+fn warn_of_fact(
+    alloc: Global,
+    warnings: &mut Vec<Warning>,
+    id: &str,
+    fact: &json::Value<'_>,
+) -> Result<(), AllocError>
+    ensures { OnOk result (Tells (AreOfFact id.now (value_view fact.now)) warnings.old.items warnings.new.items) }
+{
+    let repeated = repeated_in_fact(alloc, fact)?;
+    push_names(alloc, warnings, WarningKind::NameTwice, Some(id), &repeated)?;
+    let unknown = unknown_in_fact(alloc, fact)?;
+    push_names(alloc, warnings, WarningKind::NotRead, Some(id), &unknown)?;
+    warn_of_decimals(alloc, warnings, id, fact)
+}
+
+/// Warns of each of these facts.
+fn warn_of_facts(
+    alloc: Global,
+    warnings: &mut Vec<Warning>,
+    facts: &BTreeMap<&str, &json::Value<'_>>,
+) -> Result<(), AllocError>
+    ensures { OnOk result (Tells (AreOfFacts (members_seen facts.now.entries)) warnings.old.items warnings.new.items) }
+{
+    for (id, fact) in facts {
+        warn_of_fact(alloc, warnings, id, fact)?;
+    }
+    Ok(())
+}
+
+/// The facts of an object.
+fn kept_in<'a, 'b>(
+    alloc: Global,
+    facts: &'b json::Value<'a>,
+) -> Result<BTreeMap<&'a str, &'b json::Value<'a>>, AllocError>
+    requires { IsInRange facts.now }
+    ensures { IfOk result (λ m. members_seen m.entries ≡ kept_in (value_view facts.now)) }
+{
+    match members_in(facts) {
+        Some(members) => in_order(alloc, members),
+        None => Ok(BTreeMap::new(alloc)),
+    }
+}
+
+/// The facts that a reading keeps, in byte order of the identifiers.
+fn kept_facts<'a, 'b>(
+    alloc: Global,
+    report: &'b json::Value<'a>,
+) -> Result<BTreeMap<&'a str, &'b json::Value<'a>>, AllocError>
+    requires { IsInRange report.now }
+    ensures { IfOk result (λ m. members_seen m.entries ≡ kept_facts (value_view report.now)) }
+{
+    match part_of(report, "facts") {
+        Some(facts) => kept_in(alloc, facts),
+        None => Ok(BTreeMap::new(alloc)),
+    }
+}
+
+/// What is warned of in a report, by its names where they are known.
+pub(crate) fn warnings_of(
+    alloc: Global,
+    report: &json::Value<'_>,
+    names: &Option<Names>,
+    table: &NumericTable,
+) -> Result<Vec<Warning>, AllocError>
+    requires { IsInRange report.now }
+    ensures { IfOk result (λ v. AreOf (value_view report.now) (map told v.items)) }
+{
+    let mut warnings = Vec::new(alloc);
+    warn_of_report(alloc, &mut warnings, report)?;
+    let facts = kept_facts(alloc, report)?;
+    warn_of_facts(alloc, &mut warnings, &facts)?;
+    warn_of_concepts(alloc, &mut warnings, report, &facts, names, table)?;
+    Ok(warnings)
+}
