@@ -27,6 +27,8 @@ mod report;
 mod session_log;
 mod shown;
 mod sought;
+#[cfg(test)]
+mod tests;
 mod view;
 mod viewed;
 mod viewer;
