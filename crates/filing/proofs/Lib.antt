@@ -1,8 +1,3 @@
--- ---- words
-mod Commands
-mod Program
-mod Entered
-mod Examples
--- ---- scripts and histories
 mod ScriptRuns
+mod NotedMistakes
 mod HistoryRuns

@@ -12,10 +12,18 @@ use Rattle.filing_cli.specs.declared.reopened.OpenHistoryFault.{OpenHistoryFault
 use Rattle.filing_cli.specs.declared.reopened.OpenHistoryFault.TheVariants as history
 use Rattle.journal_file.specs.declared.fault.FileFault.{FileFault}
 use Rattle.journal_file.specs.declared.fault.FileFault.TheVariants as file
+use Rattle.filing_words.specs.declared.fault.WordsFault.{WordsFault}
+use Rattle.filing_words.specs.declared.fault.WordsFault.TheVariants as words
 use Rattle.filing.specs.declared.fault.Fault.{Fault}
 use Rattle.filing.specs.declared.fault.Fault.TheVariants.{Words, TooManyScripts, Read, Write, TableLine, TableNotText, HistoryLine, JournalInUse, JournalLine, TooDeep, NoMemory}
 use Rattle.filing.specs.declared.misplaced.Misplaced.{Misplaced}
 use Rattle.filing.specs.declared.misplaced.Misplaced.TheVariants as misplaced
+
+-- words that were refused were told as such
+abbrev pub words_fault_of : WordsFault → Fault
+words_fault_of words.Refused = Words
+words_fault_of words.Write = Write
+words_fault_of words.NoMemory = NoMemory
 
 -- a script without an end is one that could not be read
 abbrev pub fault_of : ScriptFault → Fault
@@ -72,7 +80,7 @@ IsTableOf bytes (Err JournalInUse) = ⊥
 IsTableOf bytes (Err (JournalLine number)) = ⊥
 IsTableOf bytes (Err (TooDeep number)) = ⊥
 
--- 1 after a read or write fault, 2 where the words, the number of scripts or the numeric table were wrong, 3 where memory was wanted, 4 where a history that is gone on from departs
+-- 1 after a read or write fault, 2 where the words, the number of scripts or the numeric table were wrong, 3 where memory ran out, 4 where a history or a journal departs
 abbrev pub status_of : Fault → ℕ
 status_of Read = 1
 status_of Write = 1

@@ -1,3 +1,4 @@
 pub mod Faults
+pub mod Inspected
+pub mod Mistakes
 pub mod Runs
-pub mod Words

@@ -20,14 +20,9 @@ use Rattle.filing_cli.specs.HistoryRun.{verdict_text, verdict_status}
 use Rattle.filing_cli.specs.Recorded.{HasLines}
 use Rattle.filing_cli.specs.Resumed.{history_on, output_on}
 use Rattle.filing_cli.specs.declared.entry_file.EntryFile.{EntryFile}
-use Rattle.filing.specs.declared.explained.Explainer.{Explainer}
 use Rattle.history_views.specs.Versions.{version_asked}
 use Rattle.history_views.specs.declared.shown.Shown.{Shown}
 use Rattle.history_views.specs.declared.shown.Shown.TheVariants.{Written, NoReport, NoVersion}
-
--- of what an explainer sees nothing is said
-abbrev pub looks_on : Explainer → List ℕ → List ℕ → Explainer → Type 0
-looks_on before line reply after = Unit {0}
 
 -- a journal is kept and goes on, and has these lines
 pub record GoesOnWith {D : Type 0} (seen : D → List ℕ) (may_leave : D → List ℕ → Type 0) (has_failed : D → Bool)
@@ -127,15 +122,22 @@ IsShown found written written' Written = (text : Text) × ((found ≡ Some (Some
 IsShown found written written' NoReport = (found ≡ Some None) × (written' ≡ written)
 IsShown found written written' NoVersion = (found ≡ None) × (written' ≡ written)
 
--- the reader was read to its end, its lines are a lawful history, and this is what was shown of a text that the version which is asked for has in that history
-pub record ShowsVersion (table : Table) (number : Option ℕ) (text_of : Repository → Option Text)
-    (rest rest' written written' : Option (List ℕ)) (shown : Shown) : Type 0 where
+-- the reader was read to its end, its lines are a lawful history, and this is what was shown of a text that is found in that history
+pub record ShowsFound (table : Table) (found_in : History → Option (Option Text)) (rest rest' written written' : Option (List ℕ)) (shown : Shown)
+    : Type 0 where
   pub given : List ℕ
   pub gave : Consumes rest rest' given
   pub at_end : IsAtEnd rest'
   pub lawful : AreLawful table (spoken (lines_of given))
-  pub is_shown : IsShown
-      (option_map text_of (version_asked number (reverse (entries_on table (spoken (lines_of given)))))) written written' shown
+  pub is_shown : IsShown (found_in (reverse (entries_on table (spoken (lines_of given))))) written written' shown
+
+-- so of a text that the version which is asked for has
+abbrev pub ShowsVersion : Table → Option ℕ → (Repository → Option Text) → Option (List ℕ) → Option (List ℕ) → Option (List ℕ) → Option (List ℕ) → Shown → Type 0
+ShowsVersion table number text_of = ShowsFound table (λ h. option_map text_of (version_asked number h))
+
+-- so of a text that each history has, which is written
+abbrev pub AreShown : Table → (History → Text) → Option (List ℕ) → Option (List ℕ) → Option (List ℕ) → Option (List ℕ) → Type 0
+AreShown table text_of rest rest' written written' = ShowsFound table (λ h. Some (Some (text_of h))) rest rest' written written' Written
 
 -- some bytes were written and nothing else, as far as they are known
 abbrev pub WritesSome : Option (List ℕ) → Option (List ℕ) → Type 0

@@ -1,12 +1,13 @@
-//! `Explainer`: what tells on standard error why lines were refused.
+//! `Explainer`: what tells on standard error why lines were refused, and knows whether one was a mistake of the script.
 
-ghost use Rattle.filing.specs.Runs.{looks_on};
+ghost use Rattle.std.specs.Prelude.{◌≡◌, false, IfOk};
+ghost use Rattle.filing.specs.Mistakes.{notes, strict_status};
 
+use crate::unended::OpenSessions;
 use filing_cli::Observes;
 use oim_fact::NumericTable;
-use script_reasons::{explain, push_reasons};
+use script_reasons::{explain, push_reasons, tells_mistake};
 use std::alloc::{AllocError, Global};
-use std::io::IsTerminal;
 use std::sync::Arc;
 
 /// Looks at the lines of a script and at their replies, and tells why a line was refused, where that is asked for. What cannot be told, for want of memory or of a standard error, is let go: replies never see it.
@@ -15,27 +16,58 @@ pub(crate) struct Explainer {
     rt: HostRuntime,
     table: Arc<NumericTable>,
     explains: bool,
+    /// The path of its script, where there are several.
+    script: Option<String>,
+    /// Whether a reply told of a line that is malformed or out of place.
+    pub(crate) found_mistake: bool,
     /// How many lines it was shown. Blank ones are shown to nobody.
     lines: u64,
     refused: u64,
     first_refused: u64,
+    open: OpenSessions,
 }
 
 impl Explainer {
-    /// One that explains where that is asked for, or where standard error is a terminal.
+    /// One that explains, or that only knows of mistakes.
     pub(crate) fn new(
         rt: &HostRuntime,
         table: &Arc<NumericTable>,
         explains: bool,
-    ) -> Result<Explainer, AllocError> {
+    ) -> Result<Explainer, AllocError>
+        ensures { IfOk result (λ e. e.found_mistake ≡ false) }
+    {
         Ok(Explainer {
             rt: *rt,
             table: table.clone()?,
-            explains: explains || rt.stderr().is_terminal(),
+            explains,
+            script: None,
+            found_mistake: false,
             lines: 0,
             refused: 0,
             first_refused: 0,
+            open: OpenSessions::new(rt.alloc()),
         })
+    }
+
+    /// The same for one script of several, which it names before the first reason.
+    pub(crate) fn of_script(
+        rt: &HostRuntime,
+        table: &Arc<NumericTable>,
+        explains: bool,
+        path: &str,
+    ) -> Result<Explainer, AllocError>
+        ensures { IfOk result (λ e. e.found_mistake ≡ false) }
+    {
+        let mut explainer = Explainer::new(rt, table, explains)?;
+        explainer.script = Some(String::from_str(rt.alloc(), path)?);
+        Ok(explainer)
+    }
+
+    /// Names the script, if it has to.
+    fn tell_script(&self) {
+        if let Some(path) = &self.script {
+            let _ = eprintln!(&self.rt; "filing: in {path}:");
+        }
     }
 
     /// The lines that tell why a line was refused. None where it was not.
@@ -55,36 +87,61 @@ impl Explainer {
     }
 
     /// Tells why a line was refused, if it was.
-    fn tell(&mut self, alloc: Global, number: u64, line: &[u8], reply: &str) {
+    fn tell(&mut self, alloc: Global, number: u64, line: &[u8], reply: &str)
+        ensures { self.new.found_mistake ≡ self.old.found_mistake }
+    {
         let Ok(Some(text)) = self.reasons(alloc, number, line, reply) else {
             return;
         };
         if self.refused == 0 {
             self.first_refused = number;
+            self.tell_script();
         }
         self.refused = self.refused.saturating_add(1);
         let _ = eprint!(&self.rt; "{text}");
     }
 
-    /// Tells at the end of a run how many lines were refused.
+    /// Tells at the end of a run how many lines were refused, and which sessions were never ended.
     pub(crate) fn tell_end(&self) {
-        if self.refused > 0 {
-            let _ = eprintln!(&self.rt;
-                "filing: {} of {} lines were refused, the first is line {}",
-                self.refused, self.lines, self.first_refused
-            );
+        if self.refused == 0 && !self.open.is_empty() {
+            self.tell_script();
+        }
+        let _ = match self.refused {
+            0 => Ok(()),
+            1 => eprintln!(&self.rt;
+                "filing: 1 of {} lines was refused: line {}",
+                self.lines, self.first_refused
+            ),
+            refused => eprintln!(&self.rt;
+                "filing: {refused} of {} lines were refused, the first is line {}",
+                self.lines, self.first_refused
+            ),
+        };
+        self.open.tell(&self.rt);
+    }
+
+    /// The status of a run that ended without fault.
+    pub(crate) fn status(&self, is_strict: bool) -> u8
+        ensures { result ≡ strict_status is_strict self.now.found_mistake }
+    {
+        if is_strict && self.found_mistake {
+            5
+        } else {
+            0
         }
     }
 }
 
 impl Observes for Explainer {
-    ghost sees = { looks_on };
+    ghost sees = { notes };
 
     fn observe(&mut self, alloc: Global, number: u128, line: &[u8], reply: &str) {
+        self.found_mistake = self.found_mistake || tells_mistake(reply);
         self.lines = self.lines.saturating_add(1);
         if self.explains {
             let number = u64::try_from(number).unwrap_or(u64::MAX);
             self.tell(alloc, number, line, reply);
+            let _ = self.open.take(alloc, line, reply);
         }
     }
 }

@@ -5,6 +5,7 @@ ghost use Rattle.filing.specs.Faults.{status_of};
 use crate::misplaced::Misplaced;
 use filing_cli::{OpenHistoryFault, ScriptFault, ThreadsFault};
 use filing_model::TableFault;
+use filing_words::WordsFault;
 use journal::{DeviceFailed, NotAJournal};
 use journal_file::FileFault;
 use std::alloc::{AllocError, AllocFailed};
@@ -109,6 +110,21 @@ impl<T: Drop> From<AllocFailed<T>> for Fault {
 
     fn from(_error: AllocFailed<T>) -> Fault {
         Fault::NoMemory
+    }
+}
+
+impl From<WordsFault> for Fault {
+    ghost use Rattle.std.specs.Prelude.{◌≡◌};
+    ghost use Rattle.filing.specs.Faults.{words_fault_of};
+
+    ghost from_gives = { λ fault e. e ≡ words_fault_of fault };
+
+    fn from(fault: WordsFault) -> Fault {
+        match fault {
+            WordsFault::Refused => Fault::Words,
+            WordsFault::Write => Fault::Write,
+            WordsFault::NoMemory => Fault::NoMemory,
+        }
     }
 }
 

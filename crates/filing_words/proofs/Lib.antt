@@ -1,0 +1,4 @@
+mod BuiltCommands
+mod Program
+mod Entered
+mod Examples

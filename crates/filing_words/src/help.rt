@@ -1,0 +1,287 @@
+//! What `filing --help` says of how to begin, `--help` of each command of what it reads and writes, and `filing words` of refusals. It is shown as it stands, at most 80 columns wide; no code reads it.
+
+/// What `filing --help` says beside the commands.
+pub(crate) const BEGINNING: &str = r#"A script goes in, and a reply comes out for each of its lines:
+  filing run < script.jsonl > replies.jsonl
+  filing run --numeric concepts.txt --history history.jsonl < script.jsonl
+  filing check --numeric concepts.txt history.jsonl
+  filing show --numeric concepts.txt --at 4 history.jsonl r1
+  filing diff --numeric concepts.txt history.jsonl 3 4
+  filing log --numeric concepts.txt history.jsonl
+  filing inspect --numeric concepts.txt report.json
+
+With a journal, what is loaded and committed is kept from run to run:
+  filing run --journal office.jsonl < script.jsonl > replies.jsonl
+
+`filing run --help` has every line by an example, `filing words` every word by
+which a line is refused.
+
+The status is 0 where the script was read to its end, also where lines were
+refused; 1 after a fault in reading or writing; 2 where the words or the numeric
+table are wrong; 3 where memory ran out; 4 where a history or a journal departs,
+or a report that is inspected would be refused; 5 where `--strict` was given and
+a line was malformed or out of place."#;
+
+/// Every line by an example, and how reports and replies go in and out.
+pub(crate) const LINES: &str =
+    r#"Each line of the script is a JSON array and gets one reply line, in the same
+order. Blank lines get none. r1 and f1 stand for the names of a report and of a
+fact, s1 and v1 for names that you give to sessions.
+
+A report goes in, and comes out as it is now:
+  ["load","r1",REPORT]        REPORT is an object in xBRL-JSON 1.0, or a JSON
+                              string that holds the text of one
+  ["export","r1"]
+
+A session opens at the current version. Any number may be open at once:
+  ["open","v1","review"]      reads that version, and goes on reading it,
+                              whatever is committed meanwhile
+  ["open","s1","amend"]       reads that version with its own changes laid over
+
+It reads:
+  ["get","s1","r1","f1"]      the fact of an identifier
+  ["cell","s1","r1",{"concept":"ex:Name"}]
+                              the facts with exactly these dimensions: class,
+                              identifiers
+  ["page","s1","r1","ex:Name",true,null,100]
+                              the first 100 identifiers of a concept, whatever
+                              the period
+  ["page","s1","r1","ex:Name","2024","f7",100]
+                              of the period "2024" (null: of none), those after
+                              f7 (null: all), at most 1000. The reply ends in
+                              whether there are more
+  ["declared","s1","r1"]      the duplicates that the report allows
+
+It stages, where it was opened to amend, and nobody else sees it:
+  ["add","s1","r1","f1",{"value":"Acme","dimensions":{"concept":"ex:Name"}}]
+  ["remove","s1","r1","f1"]   to change a fact, remove it and add it
+  ["declare","s1","r1","none"]
+                              or complete, consistent, all
+
+It ends, and its name is free:
+  ["commit","s1"]             all that it staged becomes the next version, or
+                              nothing does
+  ["close","s1"]              nothing is left of it
+
+A commit is answered by one of
+  ["committed",4]             version 4 is the current one
+  ["conflict",3,["id","r1","f1"]]
+                              the commit or load numbered 3 touched what the
+                              session read. Open it again, read anew, and commit
+  ["disallowed","r1","inconsistent",["f1","f2"]]
+                              these facts would be duplicates that r1 does not
+                              allow
+  ["closed"]                  to a review
+
+Other refusals are a word: `filing words` has each.
+
+A report's file becomes a load line, a script runs, and replies are picked out
+again, by jq:
+  jq -c '["load","r1",.]' report.json > script.jsonl
+  jq -Rsc '["load","r1",.]' report.json > script.jsonl
+                              the same, with the text kept as it is
+  filing run --numeric concepts.txt < script.jsonl > replies.jsonl
+  filing run --history history.jsonl < script.jsonl > replies.jsonl
+                              and what `filing check` judges
+  jq -c 'select(.[0] == "conflict" or .[0] == "disallowed")' replies.jsonl
+  jq -r 'select(.[0] == "page") | .[1][]' replies.jsonl
+  jq 'select(.[0] == "report") | .[1]' replies.jsonl
+  grep '[^[:space:]]' script.jsonl | paste -d '\n' - replies.jsonl
+                              each line with its reply below it
+
+Without --numeric no concept is numeric, and a fact with a unit is refused as
+misplaced.
+
+A journal is a file from which a run goes on, and in which it keeps its steps. A
+load or a commit that passed is told once it is in the file, on the disk; with
+--every-reply so is every reply. Where the run was cut short, the file has at
+least what was told. One process at a time has it open, and the numeric table
+has to be the same each time. `filing check` judges it as any history.
+
+A history is gone on from by
+  filing run --from old.jsonl --history new.jsonl < script.jsonl
+which leaves old.jsonl as it is, and writes the whole history to new.jsonl.
+
+The file of --history grows beside its place while the script runs, and takes it
+once the script has ended without fault. A file that is there is replaced, with
+its rights, and a link is followed. A path that will not do is told at once,
+before the script is read, and is a fault at the end.
+
+With --explain, and on a terminal always, standard error has a reason for each
+line that was refused, how many were, and which sessions were never ended. With
+--strict the status is 5 where a reply is bad-line, bad-report, bad-fact,
+no-session, no-report, name-in-use or read-only."#;
+
+/// What `filing check --help` says of histories and verdicts.
+pub(crate) const VERDICTS: &str =
+    r#"A history has a line for each step of a script, with its session's number and
+its reply:
+  [null,["load","r1",REPORT],["loaded",1]]
+  [1,["open","amend"],["opened"]]
+  [1,["get","r1","f1"],["none"]]
+
+It is lawful where each reply is the one that the steps before it admit. One
+line tells the verdict:
+  ["lawful"]         status 0
+  ["departs",2]      status 4: it departs at the third line, blank lines aside.
+                     Another reply is due there, or its session is not open, or
+                     the line stands for no step
+
+With --explain, and on a terminal always, standard error has the number of the
+entries and the version that they make, or why the history departs.
+
+The numeric table has to be that of the run. The spaces in a line and the order
+of members are free."#;
+
+/// What `filing show --help` says of versions.
+pub(crate) const VERSIONS: &str =
+    r#"Each load and commit that is accepted makes a version: the numbers are those of
+["loaded",1] and ["committed",2], and version 0 is empty. A report of a version
+comes out in one line, as ["export","r1"] was answered when that version was the
+current one:
+  filing show --at 4 history.jsonl r1
+  filing show history.jsonl r1 | jq '.[1]'
+                              the last version, and the report alone
+
+Without a report there is a line for the version, and one for each of its
+reports in byte order of names: how many facts it has, and the duplicates that
+it allows:
+  ["version",4]
+  ["report","r1",120,"consistent"]
+
+The history is judged first: where it departs, nothing is shown, and the status
+is 4. It may be a journal. The numeric table has to be that of the run. The
+status is 2 where the history has no such version, or the version no such
+report."#;
+
+/// What `filing diff --help` says of differences.
+pub(crate) const DIFFERENCES: &str =
+    r#"What is laid over version FROM to make version TO comes as JSON lines, in byte
+order of the names of reports, and of identifiers:
+  ["report","r2"]             r2 is there now: `filing show` shows it
+  ["no-report","r2"]          r2 is not there any more, where TO is before FROM
+  ["declared","r1","none","all"]
+                              the duplicates that r1 allows, before and now
+  ["added","r1","f1",FACT]
+  ["removed","r1","f1",FACT]
+  ["changed","r1","f1",FACT,FACT]
+                              the fact before, and now
+
+Nothing is written where nothing differs:
+  filing diff history.jsonl 3 4
+  filing diff history.jsonl 3 4 r1
+                              of one report alone
+
+The history is judged first: where it departs, nothing is shown, and the status
+is 4. It may be a journal. The numeric table has to be that of the run. The
+status is 2 where the history has no such version, or neither version has that
+report."#;
+
+/// What `filing log --help` says of sessions.
+pub(crate) const SESSIONS: &str = r#"Each session has a line, in the order of their openings:
+  [1,"amend",4,["committed",6],2,null]
+  [2,"amend",4,["conflict",6,["id","r1","f1"]],1,1]
+  [3,"review",6,null,0,null]
+its number, what it was opened for, the version at its opening, the reply by
+which it ended (null: it did not), how many of its changes were staged, and of a
+conflict the session whose commit touched what it had read (null: a load did).
+
+With --svg the same comes as a picture: versions along, a bar for each session
+from its opening to its end, and an arrow from a commit to each session that it
+made conflict. A picture has at most 200 sessions; --first gives the number of
+the first one:
+  filing log --svg history.jsonl > sessions.svg
+  filing log --svg --first 201 history.jsonl > more.svg
+
+The history is judged first: where it departs, nothing is shown, and the status
+is 4. It may be a journal. The numeric table has to be that of the run."#;
+
+/// What `filing inspect --help` says of what is told of reports.
+pub(crate) const INSPECTIONS: &str =
+    r#"Each report is a file in xBRL-JSON 1.0, or - for standard input. All that a load
+would refuse comes as JSON lines, and not the first of it alone:
+  ["fault","a.json","f-7","wrong-shape","\"value\" is the number 5; .."]
+                              the fact (null: the report itself), the word by
+                              which `filing run` refuses it, and why
+  ["cell","a.json","inconsistent",{"concept":"ex:Name"},["f1","f2"],false]
+                              facts with the same dimensions: their class, and
+                              whether the report allows such duplicates
+  ["inspected","a.json",3000,200,50,12,0]
+                              at the end of each: facts, cells of more than one,
+                              faults, cells that are not allowed, and warnings
+
+What a load would take, though it may be meant otherwise, is a warning:
+  ["warning","a.json","not-read","f-7","decimls"]
+                              why, the fact (null: none), and the name
+  name-twice                  an object has the name twice: the last counts
+  not-read                    no reading looks at this member
+  decimals-beside-null        the decimals are dropped
+  not-in-table                a concept with a unit is not in the numeric table
+  other-namespace             a number has the local name of a concept of the
+                              table, which no fact has, in another namespace
+
+With --text the same comes as lines for people.
+
+`--as none` judges duplicates as if the report allowed none; so do `complete`,
+`consistent` and `all`.
+
+The status is 0 where `filing run` would answer ["loaded",..] to each report, as
+it is declared or with --as, 4 where it would refuse one, and 1 where a file
+could not be read: the others are inspected all the same."#;
+
+/// What `filing threads --help` says of several scripts.
+pub(crate) const THREADS: &str =
+    r#"Each script has a thread of its own, and all use one repository. Lines and
+replies are those of `filing run --help`, but
+  - names of sessions are each script's own: two scripts may both open "s1"
+  - ["export","r1"] is a bad line
+  - a session opened to review sees at least what its own script has loaded and
+    committed before
+
+Which script's step comes first is not said. The replies come script by script,
+in the order of the files:
+  filing threads --numeric concepts.txt load.jsonl anna.jsonl ben.jsonl
+
+With --explain, and on a terminal always, standard error has a reason for each
+line that was refused, script by script; --strict is that of `filing run`.
+
+With --journal the scripts go on from a journal, and what they made is in it
+before the first reply is written. With --from they go on from a history, which
+stays as it is, and with --history the whole history is written to a file once
+they have ended."#;
+
+/// Every word by which a line is refused.
+pub const REFUSALS: &str = r#"A line of a script is refused by
+  bad-line               no JSON, or none of the lines of `filing run --help`
+  bad-report             load: the report is; a word of the next list follows
+  bad-fact               add, cell: it is; a word of the last list follows
+  name-in-use            open: an open session has this name
+  no-session             no open session has this name
+  no-report              there is no report of this name
+  none                   remove: no fact has this identifier
+  read-only              a session that is to review changes nothing
+  taken                  add: a fact has this identifier
+  name-taken             load: a report has this name
+  conflict               commit: what the session read was touched since
+  disallowed             load, commit: duplicates that the report disallows
+
+A report is refused by
+  not-json               its text is no JSON
+  wrong-shape            a part of it is no object, or a prefix names no text
+  wrong-document-type    not https://xbrl.org/2021/xbrl-json
+  bad-policy             xbrl:allowedDuplicates is none of the four words
+  alias-twice            two prefixes have one URI
+  not-whole              a number in documentInfo is not whole
+  bad-fact               a fact is: its identifier and a word of the last list
+
+A fact, or the dimensions of a cell, are refused by
+  wrong-shape            value, dimensions, decimals or links is of a wrong kind
+  not-whole              decimals or a number in links is not whole
+  null-core              a dimension that is no taxonomy's is null
+  no-concept             there is no concept
+  too-long               a name or a value has more than 4096 bytes
+  unbound-prefix         a name has no prefix that the report binds
+  misplaced              unit or decimals at a fact that is not numeric
+  not-a-number           the value of a numeric fact is no decimal numeral
+  too-large              more than 20 digits before the point, or 15 behind it
+  decimals-out-of-range  decimals are not from -20 to 15"#;

@@ -1,0 +1,127 @@
+//! What the words of the command line ask for.
+
+/// What `run` was given.
+#[derive(Clone, Copy)]
+pub struct RunWords<'a> {
+    /// The file of a numeric table.
+    pub numeric: Option<&'a str>,
+    /// The file to which the history goes.
+    pub history: Option<&'a str>,
+    /// The file of a history to go on from.
+    pub from: Option<&'a str>,
+    /// The file of a journal.
+    pub journal: Option<&'a str>,
+    /// Whether each reply waits until its entry is in the journal.
+    pub every_reply: bool,
+    /// Whether it is told why lines are refused.
+    pub explain: bool,
+    /// Whether lines that are malformed or out of place give a status of their own.
+    pub strict: bool,
+}
+
+/// What `check` was given.
+#[derive(Clone, Copy)]
+pub struct CheckWords<'a> {
+    /// The file of a numeric table.
+    pub numeric: Option<&'a str>,
+    /// The file of the history.
+    pub history: &'a str,
+    /// Whether it is told why the history departs.
+    pub explain: bool,
+}
+
+/// What `show` was given.
+#[derive(Clone, Copy)]
+pub struct ShowWords<'a> {
+    /// The file of a numeric table.
+    pub numeric: Option<&'a str>,
+    /// The number of a version, as it was written.
+    pub version: Option<&'a str>,
+    /// The file of the history.
+    pub history: &'a str,
+    /// The name of a report.
+    pub report: Option<&'a str>,
+}
+
+/// What `diff` was given.
+#[derive(Clone, Copy)]
+pub struct DiffWords<'a> {
+    /// The file of a numeric table.
+    pub numeric: Option<&'a str>,
+    /// The file of the history.
+    pub history: &'a str,
+    /// The number of the version from which the difference leads, as it was written.
+    pub from: &'a str,
+    /// The number of the version to which it leads, as it was written.
+    pub to: &'a str,
+    /// The name of a report.
+    pub report: Option<&'a str>,
+}
+
+/// What `log` was given.
+#[derive(Clone, Copy)]
+pub struct LogWords<'a> {
+    /// The file of a numeric table.
+    pub numeric: Option<&'a str>,
+    /// The file of the history.
+    pub history: &'a str,
+    /// Whether the log is drawn.
+    pub svg: bool,
+    /// The number of the first session that is drawn, as it was written.
+    pub first: Option<&'a str>,
+}
+
+/// What `inspect` was given.
+#[derive(Drop)]
+pub struct InspectWords<'a> {
+    /// The file of a numeric table.
+    pub numeric: Option<&'a str>,
+    /// The files of the reports, in their order.
+    pub reports: Vec<&'a str>,
+    /// The duplicates that are allowed in place of those that a report declares, as they were written.
+    pub allowing: Option<&'a str>,
+    /// Whether lines for people are wanted, and not JSON.
+    pub text: bool,
+}
+
+/// What `threads` was given.
+#[derive(Drop)]
+pub struct ThreadsWords<'a> {
+    /// The file of a numeric table.
+    pub numeric: Option<&'a str>,
+    /// The file to which the history goes.
+    pub history: Option<&'a str>,
+    /// The file of a history to go on from.
+    pub from: Option<&'a str>,
+    /// The file of a journal.
+    pub journal: Option<&'a str>,
+    /// The files of the scripts, in their order.
+    pub scripts: Vec<&'a str>,
+    /// Whether it is told why lines are refused.
+    pub explain: bool,
+    /// Whether lines that are malformed or out of place give a status of their own.
+    pub strict: bool,
+}
+
+/// What the words of the command line ask for.
+#[derive(Drop)]
+pub enum Invocation<'a> {
+    /// Run the script that comes on standard input.
+    Run(RunWords<'a>),
+    /// Judge the history in a file.
+    Check(CheckWords<'a>),
+    /// Show a report as a version of the history in a file has it, or which reports it has.
+    Show(ShowWords<'a>),
+    /// Tell what differs between two versions of a history.
+    Diff(DiffWords<'a>),
+    /// Tell of the sessions of a history.
+    Log(LogWords<'a>),
+    /// Tell all that is wrong with reports, and their duplicates.
+    Inspect(InspectWords<'a>),
+    /// Run the scripts in some files, each in a thread of its own.
+    Threads(ThreadsWords<'a>),
+    /// Tell the words by which lines are refused.
+    Explain,
+    /// Help or the version was asked for, and it was shown.
+    Shown,
+}
