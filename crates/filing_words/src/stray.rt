@@ -2,7 +2,7 @@
 fn takes_next(word: &str) -> bool {
     word.starts_with('-')
         && word.split_once('=').is_none()
-        && !matches!(word, "--every-reply" | "--explain" | "--strict")
+        && !matches!(word, "--" | "--every-reply" | "--explain" | "--strict")
 }
 
 /// The first word after `run` that is neither an option nor the value of one. `run` takes none: who writes one means a script's file.
