@@ -8,7 +8,7 @@ pub fn number_of(rt: &impl Eprint, argument: &str, word: &str) -> Result<u64, Wo
         Ok(number) => Ok(number),
         Err(_) => {
             let _ = eprintln!(rt;
-                "error: invalid value '{word}' for '{argument}': it has to be a whole number\n\nFor more information, try '--help'."
+                "error: invalid value '{word}' for '{argument}': it has to be a whole number below 2^64\n\nFor more information, try '--help'."
             );
             Err(WordsFault::Refused)
         }
