@@ -112,6 +112,17 @@ for _block in (1, 7, 300):
             on_small_disk(folder, look)
 
 
+@case("a disk that is full, explained: the system's reason comes before the fault")
+def _(folder):
+    def look(disk):
+        lines = b'["open","s","review"]\n["close","s"]\n' * 5_000
+        done = subprocess.run([*words_of(disk / "j"), "--explain"], input=lines, capture_output=True, timeout=PATIENCE)
+        reason = f"filing: {disk / 'j'}: No space left on device (os error 28)\n".encode()
+        expect("what came", (done.returncode, done.stderr), (1, reason + WRITE_FAULT))
+
+    on_small_disk(folder, look)
+
+
 @case("a disk that is full before the journal is made, or opened")
 def _(folder):
     def look(disk):
