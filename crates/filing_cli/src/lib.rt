@@ -11,9 +11,9 @@
 //! - `entry_file`: a file of entries.
 //! - `recording`: an engine whose entries are written to one.
 //! - `recorded`: runs a script with that.
-//! - `durable`: keeps in the journal what was accepted before it is told.
+//! - `durable`: keeps in the journal what was accepted before it is reported.
 //! - `history`: writes a history, and has those of others judged.
-//! - `judge`: follows the lines of a history, and tells where they depart.
+//! - `judge`: follows the lines of a history, and reports where they depart.
 //! - `copier`: does so, and writes their entries to a file.
 //! - `copied`: reads a history that way.
 //!

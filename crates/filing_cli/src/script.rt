@@ -20,7 +20,7 @@ use std::sync::Arc;
 /// So many reads are made at most.
 pub const READS: u64 = 1 << 32;
 
-/// Runs a script from where what takes its steps left off, with no name in use, shows its lines and their replies to an observer, and gives both back.
+/// Runs a script from where the taker of its steps left off, with no name in use, shows its lines and their replies to an observer, and gives both back.
 pub(crate) fn run_observed<T: TakesSteps + Drop, O: Observes + Drop, R: Source, W: Sink>(
     alloc: Global,
     taker: T,

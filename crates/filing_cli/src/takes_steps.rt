@@ -37,7 +37,7 @@ pub(crate) trait TakesSteps {
     ghost stays: { (t : Self) → steps_on t t };
 }
 
-/// Takes a step of an engine. That no step more can be counted is told as want of memory.
+/// Takes a step of an engine. Where no further step can be counted, it reports out of memory.
 pub(crate) fn step_of_engine(
     engine: &mut Engine,
     alloc: Global,
@@ -67,7 +67,7 @@ fn step_of_core(
     core.step(alloc, session, step)
 }
 
-/// The text that tells what became of a step.
+/// The text that reports what became of a step.
 fn told(alloc: Global, outcome: Result<Reply, CoreFault>) -> Result<String, AllocError>
     ensures { IfOk result (λ text. IsTold outcome (string_bytes text)) }
 {

@@ -1,4 +1,4 @@
-//! How a cell that its report does not allow is told.
+//! How a cell that its report does not allow is reported.
 
 ghost use Rattle.std.specs.Prelude.{◌≡◌, IfOk};
 ghost use Rattle.filing_step.specs.Steps.{reply_of};
@@ -11,7 +11,7 @@ use filing_version::RepoVersion;
 use oim_fact::DimSet;
 use std::alloc::{AllocError, Global};
 
-/// The reply that tells a cell of a version: its report, its class, and its identifiers in byte order.
+/// The reply that reports a cell of a version: its report, its class, and its identifiers in byte order.
 pub(crate) fn disallowed(
     alloc: Global,
     version: &RepoVersion,

@@ -2,7 +2,7 @@
 
 use thiserror::Error;
 
-/// Why an engine did not take a step. None changes of which histories it is the engine.
+/// Why an engine did not take a step. After any of them it is the engine of the same histories as before.
 #[derive(Clone, Copy, Debug, PartialEq, Eq, Error)]
 pub enum EngineFault {
     #[error("the session is not open")]

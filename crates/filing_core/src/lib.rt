@@ -6,9 +6,9 @@
 //! - `fault`: why a step was not taken.
 //! - `prepared`: a load or a commit that is ready to be entered.
 //! - `sessions`: the open sessions by their numbers.
-//! - `outcome`: what a load or a commit is told, and the version that it makes.
+//! - `outcome`: the reply to a load or a commit, and the version that it makes.
 //! - `conflict`: what was touched of the things that a session read.
-//! - `disallowed`: how a cell that its report does not allow is told.
+//! - `disallowed`: how a cell that its report does not allow is reported.
 //! - `check`: histories of others, compared with a run of an engine.
 //! - `compared_replies`: whether two replies are the same.
 //! - `verdict`: whether entries are a lawful history.

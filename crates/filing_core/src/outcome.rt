@@ -1,4 +1,4 @@
-//! `Outcome`: what a load or a commit is told, and the version that it makes.
+//! `Outcome`: the reply to a load or a commit, and the version that it makes.
 
 ghost use Rattle.std.specs.Prelude.{◌≡◌, ◌+◌, ◌<◌, ◌^◌, None, true, IfOk};
 ghost use Rattle.std.specs.Arc.{arc_value};
@@ -101,7 +101,7 @@ fn change_outcome(
     }
 }
 
-/// Of a session's commit: a review is closed; an amendment is told its first conflict, or what its change makes disallowed, or passes.
+/// Of a session's commit: a review is closed; an amendment gets its first conflict as the reply, or what its change makes disallowed, or passes.
 pub(crate) fn commit_outcome(
     alloc: Global,
     current: &RepoVersion,

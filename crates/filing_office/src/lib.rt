@@ -7,14 +7,14 @@
 //! - `law`: an office begins with nothing.
 //! - `desk`: takes a step in any thread.
 //! - `roster`: how many desks there are.
-//! - `answer`: what a desk is told of a step.
+//! - `answer`: what a desk gets for a step.
 //! - `named_desk`: takes a desk's steps under the names that they are given.
-//! - `session_place`: where the session of a name stands.
+//! - `session_place`: where the session of a name is.
 //! - `steps`: takes a list of steps.
 //! - `outcome`: what becomes of each step.
 //! - `access`: whether the lock is taken for each step, or held over several.
 //! - `desk_task`: gives each desk a thread of its own for its task.
-//! - `run`: lets each desk do its work that way.
+//! - `run`: has each desk do its work that way.
 //! - `work`: a desk with its list of steps.
 //! - `fault`: why an office was not ended, and why desks were not run.
 //!

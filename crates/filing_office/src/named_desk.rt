@@ -57,7 +57,7 @@ fn ends(step: &Step) -> bool
     }
 }
 
-/// What a review is told by a step of its session.
+/// The reply that a review gives to a step of its session.
 fn reviewed(alloc: Global, review: &Review, step: &Step) -> Result<Reply, AllocError>
     ensures { IfOk result (λ r. reply_of r ≡ reviewed review.now (step_of step.now)) }
 {
@@ -174,7 +174,7 @@ impl<L: Ledger + Naming, M: Ledger> NamedDesk<L, M> {
         }
     }
 
-    /// Lets a name that is in use stand for the session of an answer.
+    /// Makes a name that is in use mean the session of an answer.
     fn set_session(&mut self, name: String, answer: &Answer<L>)
         requires used { IsSome (get self.old.state.names (string_bytes name)) }
         requires session { IsSome answer.now.session }
@@ -345,7 +345,7 @@ impl<L: Ledger + Naming, M: Ledger> NamedDesk<L, M> {
         }
     }
 
-    /// Takes a step, or says that memory is wanted.
+    /// Takes a step, or reports out of memory.
     fn go<A: Access<L, M>>(
         &mut self,
         access: &mut A,

@@ -15,7 +15,7 @@ pub enum Outcome<J: Naming> {
     NameInUse,
     /// The name is not in use; or it was, and somebody else ended its session. It is free.
     NoSession,
-    /// Memory was wanted. The steps after it were not taken.
+    /// Out of memory. The steps after it were not taken.
     NoMemory,
 }
 

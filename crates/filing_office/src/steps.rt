@@ -40,7 +40,7 @@ fn take_one<L: Ledger + Naming, M: Ledger, A: Access<L, M>, G: Gate>(
     goes_on
 }
 
-/// Takes steps of the desk at this place one after the other, up to the first want of memory. What becomes of each is put behind the outcomes of earlier steps, for which there is room; the gate is told of each by its place among these steps.
+/// Takes steps of the desk at this place one after the other, up to the first that runs out of memory. The outcome of each is put behind those of earlier steps, and there is room for it; the gate is called for each with its place among these steps.
 pub fn take_steps<L: Ledger + Naming, M: Ledger, A: Access<L, M>, G: Gate>(
     access: &mut A,
     gate: &G,

@@ -22,7 +22,7 @@ impl<J: Naming> Protocol<Edition, Known> for Published<J> {
     ghost first = { [] };
 }
 
-/// What entering and publishing tell.
+/// What entering and publishing report.
 pub struct Looks<J: Naming> {
     of: PhantomData<J>,
 }

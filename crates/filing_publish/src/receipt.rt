@@ -1,4 +1,4 @@
-//! `Receipt`: what a load or a commit is given that made a version.
+//! `Receipt`: what a load or a commit gets if it made a version.
 
 ghost use Rattle.std.specs.Prelude.{◌≡◌, ◌+◌, length};
 ghost use Rattle.filing_publish.specs.Lists.{IsLastCount};
@@ -7,7 +7,7 @@ use crate::edition::Edition;
 use crate::law::Naming;
 use std::marker::{Model, PhantomData};
 
-/// What a load or a commit is given that made a version. Contracts see the list of versions that ends with it.
+/// What a load or a commit gets if it made a version. Contracts see the list of versions that ends with it.
 #[derive(Drop)]
 pub struct Receipt<J: Naming> {
     pub(crate) edition: Edition,

@@ -26,7 +26,7 @@ pub struct ThreadsOnHistory {
     pub core: Option<Core>,
 }
 
-/// Runs scripts as `run_threads_watched` does, at an office that begins with these entries, oldest first: one desk takes their steps again, and then each script begins, with no name in use and a reviewer that has seen the last version. The core has the whole history, which begins with the lines of these entries. It is not given to the watch, nor is a step told to it that is taken again.
+/// Runs scripts as `run_threads_watched` does, at an office that begins with these entries, oldest first: one desk takes their steps again, and then each script begins, with no name in use and a reviewer that has seen the last version. The core has the whole history, which begins with the lines of these entries. The watch is not given it, and is not called for a step that is taken again.
 pub fn run_threads_on_history<W: Sink, R: Threads + Wait + Sync, V: Watch>(
     rt: &R,
     alloc: Global,

@@ -3,9 +3,9 @@
 //! - `batch`: takes a script's lines some at a time, and has each classified.
 //! - `script_task`: a script at its desk, in a thread: it has a batch classified, takes its steps in one locked batch, and appends the replies.
 //! - `office`: opens an office with a desk and a reviewer for each script, and hands the tasks to `run_tasks`.
-//! - `replies`: what the lines are told.
-//! - `written`: writes that, one script after the other, once all have ended.
-//! - `watch`: is told of each step, for whoever waits, and is given what is left at the end.
+//! - `replies`: the replies to the lines.
+//! - `written`: writes them, one script after the other, once all have ended.
+//! - `watch`: is called for each step, for whoever waits, and is given what is left at the end.
 //! - `threads`: the whole.
 //! - `entries`: entries of histories, and their lines.
 //! - `retaking`: takes the entries of a history again, at a desk.

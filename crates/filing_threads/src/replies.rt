@@ -1,4 +1,4 @@
-//! `Replies`: what the lines of a script are told, and how its run ended.
+//! `Replies`: the replies to the lines of a script, and how its run ended.
 
 ghost use Rattle.std.specs.Prelude.{◌≡◌, ◌++◌, IfOk, OnOk, string_bytes};
 ghost use Rattle.std.specs.Slice.Iter.{iter_rest};
@@ -15,13 +15,13 @@ use std::slice::Iter;
 pub(crate) enum Ending {
     /// Each line has its reply.
     Whole,
-    /// Memory was wanted for a step. The lines before it have their replies.
+    /// Out of memory for a step. The lines before it have their replies.
     StepStarved,
-    /// Memory was wanted while lines were classified. The lines before them have their replies.
+    /// Out of memory while lines were classified. The lines before them have their replies.
     LineStarved,
 }
 
-/// What the lines of a script are told.
+/// The replies to the lines of a script.
 #[derive(Drop)]
 pub(crate) struct Replies {
     /// The replies in the order of the lines, each ended by a line feed.
@@ -29,7 +29,7 @@ pub(crate) struct Replies {
     pub(crate) ending: Ending,
 }
 
-/// Appends the reply that an outcome is; nothing where memory was wanted. Whether there is one.
+/// Appends the reply that an outcome is; nothing where it is out of memory. Whether there is one.
 fn push_outcome<J: Naming>(text: &mut String, outcome: &Outcome<J>) -> Result<bool, AllocError>
     ensures { IfOk result (λ there. GrowsBy (outcome_text outcome.now) there (string_bytes text.old)
         (string_bytes text.new)) }
@@ -43,7 +43,7 @@ fn push_outcome<J: Naming>(text: &mut String, outcome: &Outcome<J>) -> Result<bo
     Ok(true)
 }
 
-/// Appends the reply to the next line: the one at once, or that of the next outcome. Whether it has one: it has not where that is want of memory, or where no outcome is left.
+/// Appends the reply to the next line: the one at once, or that of the next outcome. Whether it has one: it has none where that outcome is out of memory, or where no outcome is left.
 fn push_next<J: Naming>(
     text: &mut String,
     told: &Option<String>,
@@ -62,7 +62,7 @@ fn push_next<J: Naming>(
     }
 }
 
-/// Appends the replies of some lines, each ended by a line feed: those to lines that are replied to at once, and between them what became of the steps. It ends at the first step for which memory was wanted. Whether each line has its reply.
+/// Appends the replies of some lines, each ended by a line feed: those to lines that are replied to at once, and between them what became of the steps. It ends at the first step that ran out of memory. Whether each line has its reply.
 pub(crate) fn push_replies<J: Naming>(
     text: &mut String,
     told: &[Option<String>],

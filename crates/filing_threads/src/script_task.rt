@@ -22,7 +22,7 @@ pub(crate) struct ScriptTask<'a> {
     pub(crate) table: &'a Arc<NumericTable>,
 }
 
-/// Lets what became of steps go once the reviewer has learnt the receipts, each of which keeps a version. Where it cannot learn them, all is kept.
+/// Drops the outcomes of steps once the reviewer has learnt the receipts, each of which keeps a version. Where it cannot learn them, all are kept.
 fn let_go<L: Ledger + Naming, M: Ledger>(
     named_desk: &mut NamedDesk<L, M>,
     outcomes: &mut Vec<Outcome<L>>,

@@ -17,7 +17,7 @@ use std::sync::ledger::Blank;
 use std::sync::{Arc, Wait};
 use std::thread::Threads;
 
-/// As `run_threads`. Each step that is taken is told to the watch, which is also given what is left at the end.
+/// As `run_threads`. The watch is called for each step that is taken, and is also given what is left at the end.
 pub fn run_threads_watched<W: Sink, R: Threads + Wait + Sync, V: Watch>(
     rt: &R,
     alloc: Global,
@@ -47,7 +47,7 @@ pub fn run_threads_watched<W: Sink, R: Threads + Wait + Sync, V: Watch>(
     }
 }
 
-/// Runs scripts, from 1 to 16, each in a thread of its own with a desk and a reviewer of one office, and writes the replies of one script after the other. A script is answered as `run_script` answers one, but its reviews take no lock, names are its own, and an export is a bad line. Where memory is wanted for a step, the replies of that script end before it, all other replies are written, and the answer is `NoMemory`; where it is wanted otherwise, nothing is written behind the replies so far; after any other fault a front of the replies is written.
+/// Runs scripts, from 1 to 16, each in a thread of its own with a desk and a reviewer of one office, and writes the replies of one script after the other. A script is answered as `run_script` answers one, but its reviews take no lock, names are its own, and an export is a bad line. Where a step runs out of memory, the replies of that script end before it, all other replies are written, and the answer is `NoMemory`; where anything else runs out of memory, nothing is written behind the replies so far; after any other fault a prefix of the replies is written.
 pub fn run_threads<W: Sink, R: Threads + Wait + Sync>(
     rt: &R,
     alloc: Global,

@@ -1,4 +1,4 @@
-//! Who is told how far the desks are, and is given the core that they leave.
+//! Who learns how far the desks are, and is given the core that they leave.
 
 use std::mem::drop;
 
@@ -7,13 +7,13 @@ pub trait Watch: Sync {
     /// Called once for each step that a desk has taken, in that desk's thread.
     fn step_taken(&self);
 
-    /// Called with the core once all steps are taken, which nobody reads any more. Here its memory is given back; where the process ends soon, `std::mem::forget` leaves that to the system.
+    /// Called with the core, which nobody reads any more, once all steps are taken. Here its memory is freed; where the process ends soon, `std::mem::forget` leaves that to the system.
     fn done_with<T: Drop>(&self, remains: T) {
         drop(remains);
     }
 }
 
-/// Nobody. The memory of what is left is given back.
+/// Nobody. The memory of what is left is freed.
 pub struct Unwatched;
 
 impl Watch for Unwatched {

@@ -56,7 +56,7 @@ fn found_text(
     Ok(Some(difference_text(alloc, from, to, places, report)?))
 }
 
-/// Reads a history as `version_of_history` does, and gives what makes of its version of one number that of another, in lines: of all reports, or of the one of a name.
+/// Reads a history as `version_of_history` does, and gives the lines that turn its version of one number into that of another: for all reports, or for the one of a name.
 pub fn difference_of_history<R: Source>(
     alloc: Global,
     input: &mut R,
@@ -103,7 +103,7 @@ pub fn difference_of_history<R: Source>(
 }
 
 impl FoundDifference {
-    /// Writes the lines, or tells what is not there.
+    /// Writes the lines, or answers what is not there.
     pub fn write<W: Sink>(&self, output: &mut W) -> Result<Shown, ScriptFault>
         ensures { ShowsText (option_map (option_map string_bytes) self.now.text) result
             (W.state output.old) (W.state output.new) }

@@ -21,7 +21,7 @@ use std::sync::Arc;
 #[derive(Drop)]
 pub struct FoundVersion {
     pub verdict: Verdict,
-    /// What followed its lines, up to the departure. To give its memory back takes long, which whoever ends soon can leave to the system.
+    /// What followed its lines, up to the departure. Freeing it takes long, and a caller that ends soon can leave that to the system.
     pub engine: Engine,
     /// The version that was asked for; none where the history has no version of that number.
     pub version: Option<Arc<RepoVersion>>,

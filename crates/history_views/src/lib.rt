@@ -8,8 +8,8 @@
 //! - `report`: writes a report of a version that was found.
 //! - `named`: the view that looks for a version, and keeps the names of reports.
 //! - `listing`: lists the reports of a version.
-//! - `session_log`: the view that keeps what is told of sessions.
-//! - `log`: tells of the sessions of a history, a line each.
+//! - `session_log`: the view that keeps what is reported of sessions.
+//! - `log`: reports the sessions of a history, a line each.
 //! - `placed`: the view that looks for two versions, and keeps the places where they may differ.
 //! - `differing`: what differs between two versions.
 //! - `shown`: what came of what was asked for.

@@ -13,7 +13,7 @@ use filing_step::{Entry, Reply, Step};
 use std::alloc::{AllocError, Global};
 use text_map::{PagedValue, TextPages};
 
-/// What stands under the name of a report that is there.
+/// The value under the name of a report that is there.
 #[derive(Drop)]
 pub(crate) struct Loaded;
 

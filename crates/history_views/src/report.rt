@@ -42,7 +42,7 @@ fn exported_line(
 }
 
 impl FoundVersion {
-    /// Writes a report of the version, in a line, as an export replied it while the version was the current one; or tells what is not there.
+    /// Writes a report of the version, in a line, as an export replied it while the version was the current one; or answers what is not there.
     pub fn write_report<W: Sink>(
         &self,
         alloc: Global,

@@ -119,7 +119,7 @@ fn no_table(alloc: Global) -> Result<Arc<NumericTable>, AllocError> {
     Ok(Arc::new(alloc, table)?)
 }
 
-/// What a history answers, or what is not there. Of one that departs the place alone is told.
+/// What a history answers, or what is not there. Of one that departs the place alone is reported.
 fn answer_by<L: Ledger, K: Ledger>(
     alloc: Global,
     history: &String,
@@ -154,7 +154,7 @@ fn answer(alloc: Global, history: &String, question: Question<'_>) -> Result<Str
     answer_by::<Brand, Brand>(alloc, history, question, Blank::new(3), Blank::new(1))
 }
 
-/// The table as it is made anew: lines of a history stand behind `|`, a row that begins with `#` says what comes, one with `?` asks, and below it stands the answer.
+/// The table as it is made anew: lines of a history are behind `|`, a row that begins with `#` says what comes, one with `?` asks, and below it is the answer.
 #[test]
 fn each_question_is_answered(rt: HostRuntime) -> Result<(), Fail> {
     let alloc = rt.alloc();

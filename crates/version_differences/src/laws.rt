@@ -2,12 +2,12 @@
 
 ghost use Rattle.version_differences.specs.Laid.{EachDifferenceMakesTheOther, EachLineIsToldOfBoth};
 
-/// Laid over the one repository, the difference makes of each report that both have that of the other: its facts and its declared value.
+/// Laid over the one repository, the difference turns each report that both have into that of the other: its facts and its declared value.
 pub fn each_difference_makes_the_other()
     ensures { EachDifferenceMakesTheOther }
 {}
 
-/// Each line tells what is in the one and not in the other.
+/// Each line reports what is in the one and not in the other.
 #[tactic(auto, using(crate::proofs::ToldLines::each_line_is_told_of_both))]
 pub fn each_line_is_told_of_both()
     ensures { EachLineIsToldOfBoth }

@@ -6,7 +6,7 @@
 //! - `difference`: the lines of all reports.
 //! - `laws`: what a difference laid over the one version makes.
 //!
-//! It knows nothing of histories: which places are to be looked at is told by whoever followed one.
+//! It knows nothing of histories: whoever followed one says which places it looks at.
 #![tactic(auto)]
 
 mod difference;

@@ -163,7 +163,7 @@ fn push_changed(
     out.push_str("]\n")
 }
 
-/// Appends the line of what stands at an identifier, if that differs.
+/// Appends the line of an identifier, if its fact differs.
 pub(crate) fn push_fact_lines(
     out: &mut String,
     name: &str,

@@ -9,7 +9,7 @@ use std::alloc::{AllocError, Global};
 use std::marker::Model;
 use text_map::{NamedValue, PagedValue, TextPages};
 
-/// What stands at an identifier that is a place.
+/// The value at an identifier that is a place.
 #[derive(Drop)]
 pub(crate) struct Mark;
 

@@ -25,7 +25,7 @@ fn fact_of<'a>(version: &'a RepoVersion, name: &str, id: &str) -> Option<&'a Fac
     }
 }
 
-/// Appends the line of an identifier, if what stands there differs.
+/// Appends the line of an identifier, if its fact differs.
 fn push_id(
     out: &mut String,
     name: &str,
