@@ -1,6 +1,6 @@
 //! Calls that no script makes.
 //!
-//! A line that is no JSON is read as a report. `["prefixes",[PREFIX,URI],..]` makes the names of prefixes, `["dims",[NAME,TEXT],..]` dimensions; `["declare",WORD,TEXT]` sets a word in a text that may be no info of a report; and `["number",N]` is told the replies with this number of a version.
+//! A line that is no JSON is read as a report. `["prefixes",[PREFIX,URI],..]` makes the names of prefixes, `["dims",[NAME,TEXT],..]` dimensions; `["declare",WORD,TEXT]` sets a word in a text that may be no info of a report; and `["number",N]` gets the replies with this number of a version.
 
 use crate::lines::{is_end, push_line, read_numeric};
 use crate::question::{parts, text_at};
@@ -29,7 +29,7 @@ fn text_in(alloc: Global, pair: &Value, place: usize) -> Result<Option<String>, 
     }
 }
 
-/// What pairs are told as dimensions.
+/// The answer to pairs as dimensions.
 fn dims_answer(alloc: Global, pairs: &[Value]) -> Result<String> {
     let mut listed = Vec::new(alloc);
     for pair in pairs {
@@ -45,7 +45,7 @@ fn dims_answer(alloc: Global, pairs: &[Value]) -> Result<String> {
     }
 }
 
-/// What pairs are told as prefixes with their URIs.
+/// The answer to pairs as prefixes with their URIs.
 fn names_answer(alloc: Global, pairs: &[Value], table: &Arc<NumericTable>) -> Result<String> {
     let mut listed = Vec::new(alloc);
     for pair in pairs {
@@ -61,7 +61,7 @@ fn names_answer(alloc: Global, pairs: &[Value], table: &Arc<NumericTable>) -> Re
     }
 }
 
-/// What a call is told.
+/// The answer to a call.
 fn value_answer(alloc: Global, call: &Value, table: &Arc<NumericTable>) -> Result<String> {
     let pairs = parts(call).get(1..).unwrap_or(&[]);
     match text_at(call, 0) {
@@ -80,7 +80,7 @@ fn value_answer(alloc: Global, call: &Value, table: &Arc<NumericTable>) -> Resul
     }
 }
 
-/// What bytes are told as a report.
+/// The answer to bytes as a report.
 fn bytes_answer(alloc: Global, bytes: &[u8], table: &Arc<NumericTable>) -> Result<String> {
     match read_report(alloc, bytes, table) {
         Ok(report) => {
@@ -95,7 +95,7 @@ fn bytes_answer(alloc: Global, bytes: &[u8], table: &Arc<NumericTable>) -> Resul
     }
 }
 
-/// What a line is told.
+/// The answer to a line.
 fn line_answer(alloc: Global, line: &[u8], table: &Arc<NumericTable>) -> Result<String> {
     match json_value(alloc, line)? {
         Some(call) => {
@@ -119,7 +119,7 @@ impl Answers for Calls<'_> {
     }
 }
 
-/// Compares what calls are told.
+/// Compares the answers to calls.
 pub(crate) fn compare_calls<R: Files + Print + AllocGlobal>(rt: &R) -> Result<()> {
     let table = &read_numeric(rt, "worked")?;
     compare_rows(rt, "calls", &Calls { table })

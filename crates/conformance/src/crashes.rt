@@ -1,6 +1,6 @@
 //! Opens what a crash may leave of the journal of a worked script, at each call of its file.
 //!
-//! The script is stopped at each change and each sync. At a change the file is as it was, or has all of the change. At a sync it may be torn in any way since the sync before: that is each file which a crash at those changes may leave too. Each opens to a first part of the history that has all that was told, and so does what a crash leaves while it is opened.
+//! The script is stopped at each change and each sync. At a change the file is as it was, or has all of the change. At a sync it may be torn in any way since the sync before: that is each file which a crash at those changes may leave too. Each opens to a prefix of the history that has all that was answered, and so does what a crash leaves while it is opened.
 
 use crate::devices::{Done, Ended, Trial, Work, do_work};
 use crate::journals::{Keeping, engine_of};
@@ -33,7 +33,7 @@ const PIECE: usize = 1;
 // No script makes so many calls.
 const CALLS: u64 = 1000;
 
-/// A script that keeps a journal, what it is told and its history, and a script that goes on behind it.
+/// A script that keeps a journal, its replies and its history, and a script that goes on behind it.
 #[derive(Clone, Copy)]
 struct Course<'a> {
     table: &'a Arc<NumericTable>,
@@ -44,7 +44,7 @@ struct Course<'a> {
     every_reply: bool,
 }
 
-/// What a script was told that was stopped at a call of its file, and what is there then.
+/// The replies to a script that was stopped at a call of its file, and what is there then.
 #[derive(Drop)]
 struct Stop {
     told: Vec<u8>,
@@ -110,7 +110,7 @@ struct Crashes<'a> {
     tally: Tally,
 }
 
-/// What a script was told that has come to an end, and what it left.
+/// The replies to a script that has come to an end, and what it left.
 fn stop_of(
     alloc: Global,
     file: MemoryFile,
@@ -157,7 +157,7 @@ fn behind_entry<'a>(lines: &'a [u8], reply: &[u8]) -> Option<&'a [u8]> {
     lines.get(end..)?.get(1..)
 }
 
-/// How many first entries have to be in a journal that has told these replies.
+/// How many first entries have to be in a journal that has given these replies.
 fn entries_due(history: &[u8], told: &[u8], every_reply: bool) -> usize {
     let mut rest = history;
     let mut met = 0usize;
@@ -237,7 +237,7 @@ fn has_gone_on(
     Ok(has_all && is_history)
 }
 
-/// Goes on from a file that a crash may leave, and from the engine of the lines that it stands for.
+/// Goes on from a file that a crash may leave, and from the engine of the lines that it opens to.
 fn goes_on(alloc: Global, course: Course<'_>, found: &[u8], lines: &[u8]) -> Result<bool> {
     let keeping = Keeping {
         found,
@@ -260,7 +260,7 @@ fn goes_on(alloc: Global, course: Course<'_>, found: &[u8], lines: &[u8]) -> Res
 }
 
 impl Crashes<'_> {
-    /// Whether a script goes on from a file that stands for these lines. What an opening leaves depends on the lines alone, so that is tried once for the same.
+    /// Whether a script goes on from a file that opens to these lines. What an opening leaves depends on the lines alone, so that is tried once for the same.
     fn goes_on(&mut self, found: &[u8], lines: &[u8]) -> Result<bool> {
         if let Some(last) = &self.gone_on {
             if last.as_slice() == lines {

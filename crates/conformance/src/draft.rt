@@ -87,7 +87,7 @@ impl Draft {
         }
     }
 
-    /// One of the lines of a kind, in which the name at a place stands for each `%`, and its end.
+    /// One of the lines of a kind, in which the name at a place replaces each `%`, and its end.
     fn put(&mut self, pool: &Pool<'_>, when: When) -> Result<(), AllocError> {
         let Some(lines) = pool.lines(when) else {
             return Ok(());

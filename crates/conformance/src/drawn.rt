@@ -19,7 +19,7 @@ use std::rt::Files;
 use std::sync::Arc;
 use tally::Tally;
 
-// So many scripts that differ are told one by one.
+// So many scripts that differ are reported one by one.
 const TOLD: u64 = 10;
 
 // So many scripts of a large report are drawn, with numbers of their own from this one on.

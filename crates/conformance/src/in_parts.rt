@@ -1,4 +1,4 @@
-//! The steps of a history, taken by a core. A load or a commit is made ready and let go, then made ready once more and entered: that leaves the same history.
+//! The steps of a history, taken by a core. A load or a commit is made ready and dropped, then made ready once more and entered: that leaves the same history.
 
 ghost use Rattle.std.specs.Prelude.{◌≡◌, true};
 ghost use Rattle.filing_step.specs.Steps.{step_of};
@@ -44,7 +44,7 @@ pub(crate) fn asked(
     }
 }
 
-/// Takes a load or a commit in two parts, or makes it ready and lets it go. A version is to be made ready exactly where the reply tells of one.
+/// Takes a load or a commit in two parts, or makes it ready and drops it. A version is to be made ready exactly where the reply reports one.
 fn take_parts(
     alloc: Global,
     core: &mut Core,
@@ -73,7 +73,7 @@ fn take_parts(
     }
 }
 
-/// Takes the step of a line, or, where it is to be let go, makes ready what can be.
+/// Takes the step of a line, or, where it is to be dropped, makes ready what can be.
 fn take(
     alloc: Global,
     table: &Arc<NumericTable>,
@@ -97,12 +97,12 @@ fn take(
     }
 }
 
-/// What a step that is not taken leaves as it was, as far as it is told in numbers.
+/// What a step that is not taken leaves as it was, as far as numbers show it.
 fn state(core: &Core) -> (usize, u64) {
     (core.history().len(), core.current().number())
 }
 
-/// Takes the step of a line, once it was made ready and let go. Where it is not taken it changes nothing, and is taken again.
+/// Takes the step of a line, once it was made ready and dropped. Where it is not taken it changes nothing, and is taken again.
 fn take_line(alloc: Global, table: &Arc<NumericTable>, core: &mut Core, line: &[u8]) -> Result<()> {
     let before = state(core);
     take(alloc, table, core, line, true)?;

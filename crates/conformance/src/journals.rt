@@ -83,7 +83,7 @@ fn has_history(alloc: Global, file: &MemoryFile, history: &[u8]) -> Result<bool>
     Ok(lines.as_slice() == history)
 }
 
-/// Whether a script that keeps a journal is told these replies, and has this history in it. Nothing but want of memory stops it.
+/// Whether a script that keeps a journal gets these replies, and has this history in it. Nothing stops it but being out of memory.
 fn is_kept(
     alloc: Global,
     table: &Arc<NumericTable>,

@@ -1,6 +1,6 @@
 //! Offices: what their desks and reviewers are answered, in turn and in threads of their own.
 //!
-//! `stage` plays the acts of `data/offices.rows`, each sheet in an office of two desks and two reviewers: `acts` has their parts, `readers` what reviewers do, and `ends` how offices end. `lent` plays those of `data/lent.rows` on what a lock lends, without an office. `crowd` lets four desks take the steps of `rounds` in threads, and compares what `entered` says they were told with the history; at a `meeting` they wait for one another. `places` makes something of each value at its place.
+//! `stage` plays the acts of `data/offices.rows`, each sheet in an office of two desks and two reviewers: `acts` has their parts, `readers` what reviewers do, and `ends` how offices end. `lent` plays those of `data/lent.rows` on what a lock lends, without an office. `crowd` lets four desks take the steps of `rounds` in threads, and compares what `entered` says they were answered with the history; at a `meeting` they wait for one another. `places` makes something of each value at its place.
 
 mod acts;
 mod crowd;

@@ -1,4 +1,4 @@
-//! The lines of which scripts are drawn, as `drawn_lines.txt` and `meeting_lines.txt` have them: each behind the word of its kind and a space. A `%` in a line stands for the name of a session.
+//! The lines of which scripts are drawn, as `drawn_lines.txt` and `meeting_lines.txt` have them: each behind the word of its kind and a space. A `%` in a line means the name of a session.
 
 use crate::lines::is_end;
 use std::alloc::{AllocError, Global};

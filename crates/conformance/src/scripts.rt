@@ -1,6 +1,6 @@
 //! Scripts run over memory, their histories, and histories of others.
 //!
-//! A sheet's script is told its replies. Where a history is written with it, that has to be its own; then the number of its steps is told, and how its entries and the lines are judged. A sheet without a script is told how the lines of its history are judged. A marked one is also told of each history of which one reply is another. `in_parts` takes the steps of a history anew, and `journals` runs the script with a journal in memory.
+//! A sheet's script gets its replies. Where a history is written with it, that has to be its own; then the number of its steps is reported, and how its entries and the lines are judged. For a sheet without a script it is reported how the lines of its history are judged; for a marked one also how each history is of which one reply is another. `in_parts` takes the steps of a history anew, and `journals` runs the script with a journal in memory.
 
 use crate::devices::{Done, Ended, Trial, Work, do_work, push_verdict, verdict_on, written_in};
 use crate::in_parts::taken_in_parts;
@@ -36,7 +36,7 @@ fn replies_before(lines: &[u8], number: u128) -> usize {
     count
 }
 
-/// A fault is told behind what is written, but for want of memory, where just the replies before it are written.
+/// A fault is reported behind what is written, except where a script is out of memory and just the replies before that are written.
 fn push_fault(
     alloc: Global,
     sheet: &Sheet,
@@ -55,7 +55,7 @@ fn push_fault(
     Ok(push_line(told, fault.as_bytes())?)
 }
 
-/// Appends what is told of a core: its history, where one is written, its number of steps, and how its entries are judged.
+/// Appends what is reported of a core: its history, where one is written, its number of steps, and how its entries are judged.
 fn push_core(
     alloc: Global,
     table: &Arc<NumericTable>,
@@ -81,7 +81,7 @@ fn push_core(
     push_verdict(alloc, table, check_run(alloc, core.history())?, told)
 }
 
-/// What a script is told, and what is told of what it leaves.
+/// The replies to a script, and what is reported of what it leaves.
 fn told_of_script(
     alloc: Global,
     table: &Arc<NumericTable>,
@@ -126,7 +126,7 @@ fn with_line(
     Ok(all)
 }
 
-/// Appends what is told of a history of which each reply is changed in turn.
+/// Appends what is reported of a history of which each reply is changed in turn.
 fn push_changes(
     alloc: Global,
     table: &Arc<NumericTable>,
@@ -143,7 +143,7 @@ fn push_changes(
     Ok(())
 }
 
-/// What a sheet is told by a table.
+/// The answer to a sheet by a table.
 fn told_by(
     alloc: Global,
     table: &Arc<NumericTable>,

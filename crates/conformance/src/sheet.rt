@@ -1,6 +1,6 @@
-//! Sheets of a file NAME.rows: scripts under a title, with what they are told written beside them.
+//! Sheets of a file NAME.rows: scripts under a title, with the answers to them written beside them.
 //!
-//! A line that begins with `# ` begins a sheet and is its title. `=> ` stands before a reply, `-> ` before a line of a history, and `= ` before what else is told; `/` begins a script where there are several or none has a line, `: ` stands before the text of a numeric table of the sheet's own, as JSON, and `~` marks a sheet. Every other line is one of a script; behind `+ ` it has no end. `* [N,TEXT]` is so many times a text in a script, and `=* [N,TEXT]` in the replies.
+//! A line that begins with `# ` begins a sheet and is its title. `=> ` stands before a reply, `-> ` before a line of a history, and `= ` before what else is reported; `/` begins a script where there are several or none has a line, `: ` stands before the text of a numeric table of the sheet's own, as JSON, and `~` marks a sheet. Every other line is one of a script; behind `+ ` it has no end. `* [N,TEXT]` is so many times a text in a script, and `=* [N,TEXT]` in the replies.
 
 use crate::lines::{ends_in, is_end, push_line, read_data, same_lines};
 use crate::question::{number_at, text_at};
@@ -18,11 +18,11 @@ pub(crate) struct Sheet {
     pub(crate) table: Option<Vec<u8>>,
     /// The bytes of each script.
     pub(crate) scripts: Vec<Vec<u8>>,
-    /// What the scripts are told, one after the other.
+    /// The replies to the scripts, one after the other.
     pub(crate) replies: Vec<u8>,
     /// The lines of a history.
     pub(crate) history: Vec<u8>,
-    /// What else is told.
+    /// What else is reported.
     pub(crate) notes: Vec<u8>,
     pub(crate) is_marked: bool,
 }
@@ -117,7 +117,7 @@ impl Sheet {
         }
     }
 
-    /// All that is written of what it is told.
+    /// All that is written of the answer to it.
     fn written(&self, alloc: Global) -> Result<Vec<u8>, AllocError> {
         let mut written = Vec::from_slice(alloc, &self.replies)?;
         written.extend_from_slice(&self.history)?;
@@ -141,7 +141,7 @@ fn sheets_in(alloc: Global, file: &[u8]) -> Result<Vec<Sheet>, AllocError> {
 
 /// What answers sheets.
 pub(crate) trait Answers {
-    /// What a sheet is told: replies, then the lines of a history, then what else is told.
+    /// The answer to a sheet: replies, then the lines of a history, then what else is reported.
     fn told(&self, alloc: Global, sheet: &Sheet) -> Result<Vec<u8>>;
 }
 
@@ -153,7 +153,7 @@ fn line_at(alloc: Global, lines: &[u8], place: usize) -> Result<String, AllocErr
     }
 }
 
-/// Tells where what a sheet is told differs from what is written.
+/// Reports where the answer to a sheet differs from what is written.
 fn tell_difference<R: Print + AllocGlobal>(
     rt: &R,
     title: &str,
@@ -183,7 +183,7 @@ impl Seen {
         differing: 0,
     };
 
-    /// Compares what a sheet is told with what is written, and tells where it differs.
+    /// Compares the answer to a sheet with what is written, and reports where it differs.
     pub(crate) fn compare<R: Print + AllocGlobal>(
         &mut self,
         rt: &R,
@@ -208,7 +208,7 @@ impl Seen {
     }
 }
 
-/// Compares what sheets are told with what is written.
+/// Compares the answers to sheets with what is written.
 pub(crate) fn compare_sheets<A: Answers, R: Print + AllocGlobal>(
     rt: &R,
     by: &A,
@@ -228,7 +228,7 @@ pub(crate) fn read_sheets<R: Files + AllocGlobal>(rt: &R, name: &str) -> Result<
     Ok(sheets_in(rt.alloc(), &file)?)
 }
 
-/// Compares what the sheets of the file NAME.rows are told with what is written, and tells what differs.
+/// Compares the answers to the sheets of the file NAME.rows with what is written, and reports what differs.
 pub(crate) fn compare_rows<A: Answers, R: Files + Print + AllocGlobal>(
     rt: &R,
     name: &str,

@@ -1,4 +1,4 @@
-//! Runs worked scripts in threads, and compares what they are told with what is written beside them; and draws scripts, and looks for a schedule of their steps that explains what they are told.
+//! Runs worked scripts in threads, and compares their replies with what is written beside them; and draws scripts, and looks for a schedule of their steps that explains their replies.
 //!
 //! `runs` runs scripts in threads, and `judge` looks for a schedule that explains replies. The search knows nothing of threads.
 
@@ -24,10 +24,10 @@ use std::thread::Threads;
 // Each worked set of scripts is run so many times.
 const TURNS: u64 = 8;
 
-// So many drawn sets are run by the gate. Of more it is told how many no schedule of whole scripts explains.
+// So many drawn sets are run by the gate. Of more it is reported how many no schedule of whole scripts explains.
 const FEW: u64 = 12;
 
-/// What the scripts of a sheet are told that run at once. Where it is marked, the order of their steps is left open.
+/// The replies to the scripts of a sheet that run at once. Where it is marked, the order of their steps is left open.
 fn told_in_threads<R: AllocGlobal + Threads + Wait + Sync>(
     rt: &R,
     table: &Arc<NumericTable>,
@@ -40,7 +40,7 @@ fn told_in_threads<R: AllocGlobal + Threads + Wait + Sync>(
     Ok(replies)
 }
 
-/// Compares what the sheets of the file NAME.rows are told in threads, each so many times.
+/// Compares the answers to the sheets of the file NAME.rows in threads, each so many times.
 fn compare_in_threads<R: Print + AllocGlobal + Files + Threads + Wait + Sync>(
     rt: &R,
     table: &Arc<NumericTable>,
@@ -90,7 +90,7 @@ fn is_of_whole_scripts(order: &[usize]) -> bool {
     true
 }
 
-/// Runs the drawn set of this number in those of a seed, two or three scripts that meet in one report, and looks for a schedule that explains what it is told.
+/// Runs the drawn set of this number in those of a seed, two or three scripts that meet in one report, and looks for a schedule that explains its replies.
 fn try_set<R: Print + AllocGlobal + Threads + Wait + Sync>(
     rt: &R,
     table: &Arc<NumericTable>,

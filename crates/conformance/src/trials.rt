@@ -104,7 +104,7 @@ fn trial(wrong: Wrong, number: usize) -> Trial {
     trial
 }
 
-/// Whether a work ends with a fault or without, and what is written then is this. Want of memory ends the program.
+/// Whether a work ends with a fault or without, and what is written then is this. Being out of memory ends the program.
 fn comes_to(
     alloc: Global,
     given: &Given,

@@ -10,7 +10,7 @@ use script_reasons::{explain, push_reasons, tells_mistake};
 use std::alloc::{AllocError, Global};
 use std::sync::Arc;
 
-/// Looks at the lines of a script and at their replies, and tells why a line was refused, where that is asked for. What cannot be told, for want of memory or of a standard error, is let go: replies never see it.
+/// Looks at the lines of a script and at their replies, and reports why a line was refused, where that is asked for. What cannot be reported, out of memory or without a standard error, is dropped: replies never see it.
 #[derive(Drop)]
 pub(crate) struct Explainer {
     rt: HostRuntime,
@@ -18,7 +18,7 @@ pub(crate) struct Explainer {
     explains: bool,
     /// The path of its script, where there are several.
     script: Option<String>,
-    /// Whether a reply told of a line that is malformed or out of place.
+    /// Whether a reply reported a line that is malformed or out of place.
     pub(crate) found_mistake: bool,
     /// How many lines it was shown. Blank ones are shown to nobody.
     lines: u64,

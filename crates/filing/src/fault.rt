@@ -15,7 +15,7 @@ use std::process::ExitCode;
 /// Why the program ends with another status than 0.
 #[derive(Clone, Copy)]
 pub(crate) enum Fault {
-    /// The words were refused, and that was told.
+    /// The words were refused, and that was reported.
     Words,
     /// There are more scripts than threads may run.
     TooManyScripts,

@@ -23,7 +23,7 @@ pub(crate) enum Misplaced {
 }
 
 impl Misplaced {
-    /// What is told of it.
+    /// What is reported of it.
     fn reason(self) -> &'static str {
         match self {
             Misplaced::FolderMissing => "its folder is missing",

@@ -1,4 +1,4 @@
-//! `Named`: a file or a standard stream with the name by which its faults are told.
+//! `Named`: a file or a standard stream with the name by which its faults are reported.
 
 use std::fmt::Display;
 use std::io::{IsTerminal, Read, Result, Write};
@@ -41,7 +41,7 @@ impl Reasons {
     }
 }
 
-/// A reader or a writer whose faults are told by its name.
+/// A reader or a writer whose faults are reported by its name.
 #[derive(Drop)]
 pub(crate) struct Named<'a, T: Drop> {
     device: T,

@@ -24,7 +24,7 @@ pub(crate) struct Part {
     pub(crate) path: String,
 }
 
-/// Makes a file under a name that no other file has, in the folder of a path. One that is private is its owner's alone: so is first what is to replace another.
+/// Makes a file under a name that no other file has, in the folder of a path. A private file is its owner's alone, as one that is to replace another is at first.
 pub(crate) fn new_part(rt: &HostRuntime, path: &str, is_private: bool) -> Result<Part, Misplaced> {
     let run = process::id(rt.process());
     let mut options = OpenOptions::new();

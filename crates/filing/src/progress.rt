@@ -1,4 +1,4 @@
-//! How far long work is, told on standard error where that is a terminal: after two seconds, and then each ten. Replies never see it.
+//! How far long work is, printed on standard error where that is a terminal: after two seconds, and then each ten. Replies never see it.
 
 ghost use Rattle.std.specs.Prelude.{◌≡◌};
 
@@ -124,7 +124,7 @@ impl<R: Read + Drop> Watched<R> {
         }
     }
 
-    /// Counts bytes that were given, and tells of a long line that they end.
+    /// Counts bytes that were given, and reports a long line that they end.
     fn count(&mut self, bytes: &[u8])
         ensures { self.new.reader ≡ self.old.reader }
     {

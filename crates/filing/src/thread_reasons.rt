@@ -1,4 +1,4 @@
-//! Why lines of scripts in threads were refused, told once all have ended.
+//! Why lines of scripts in threads were refused, reported once all have ended.
 
 use crate::explained::Explainer;
 use crate::fault::Fault;

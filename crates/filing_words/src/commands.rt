@@ -86,7 +86,7 @@ fn diff_command<'a>(alloc: Global) -> Result<Command<'a>, AllocError>
         .arg(report_argument(alloc))
 }
 
-/// The command that tells of the sessions of a history.
+/// The command that prints the sessions of a history.
 fn log_command<'a>(alloc: Global) -> Result<Command<'a>, AllocError>
     ensures { IfOk result (λ c. app_of c ≡ log) }
 {

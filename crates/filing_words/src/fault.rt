@@ -5,7 +5,7 @@ use std::alloc::{AllocError, AllocFailed};
 /// Why words ask for nothing that can be done.
 #[derive(Clone, Copy, Debug, PartialEq, Eq)]
 pub enum WordsFault {
-    /// They were refused, and that was told.
+    /// They were refused, and that was reported.
     Refused,
     /// What they ask for could not be written.
     Write,

@@ -196,7 +196,7 @@ the first one:
 The history is judged first: where it departs, nothing is shown, and the status
 is 4. It may be a journal. The numeric table has to be that of the run."#;
 
-/// What `filing inspect --help` says of what is told of reports.
+/// What `filing inspect --help` says of inspections.
 pub(crate) const INSPECTIONS: &str =
     r#"Each report is a file in xBRL-JSON 1.0, or - for standard input. All that a load
 would refuse comes as JSON lines, and not the first of it alone:

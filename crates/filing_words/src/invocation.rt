@@ -13,7 +13,7 @@ pub struct RunWords<'a> {
     pub journal: Option<&'a str>,
     /// Whether each reply waits until its entry is in the journal.
     pub every_reply: bool,
-    /// Whether it is told why lines are refused.
+    /// Whether to print why lines are refused.
     pub explain: bool,
     /// Whether lines that are malformed or out of place give a status of their own.
     pub strict: bool,
@@ -26,7 +26,7 @@ pub struct CheckWords<'a> {
     pub numeric: Option<&'a str>,
     /// The file of the history.
     pub history: &'a str,
-    /// Whether it is told why the history departs.
+    /// Whether to print why the history departs.
     pub explain: bool,
 }
 
@@ -97,7 +97,7 @@ pub struct ThreadsWords<'a> {
     pub journal: Option<&'a str>,
     /// The files of the scripts, in their order.
     pub scripts: Vec<&'a str>,
-    /// Whether it is told why lines are refused.
+    /// Whether to print why lines are refused.
     pub explain: bool,
     /// Whether lines that are malformed or out of place give a status of their own.
     pub strict: bool,
@@ -114,7 +114,7 @@ pub enum Invocation<'a> {
     Show(ShowWords<'a>),
     /// Tell what differs between two versions of a history.
     Diff(DiffWords<'a>),
-    /// Tell of the sessions of a history.
+    /// Print the sessions of a history.
     Log(LogWords<'a>),
     /// Tell all that is wrong with reports, and their duplicates.
     Inspect(InspectWords<'a>),

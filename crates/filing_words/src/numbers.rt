@@ -2,7 +2,7 @@
 
 use crate::fault::WordsFault;
 
-/// The number that a word gives as the value of an argument. A word that is none is told as `clap` tells it.
+/// The number that a word gives as the value of an argument. A word that is none is reported as `clap` reports it.
 pub fn number_of(rt: &impl Eprint, argument: &str, word: &str) -> Result<u64, WordsFault> {
     match word.parse::<u64>() {
         Ok(number) => Ok(number),

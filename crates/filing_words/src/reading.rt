@@ -14,7 +14,7 @@ use clap::error::ErrorKind;
 use clap::{Command, Error};
 use std::{env, io};
 
-/// The words that the program was given. That some are no text is told as `clap` tells it.
+/// The words that the program was given. Words that are no text are reported as `clap` reports them.
 pub fn given_words(rt: &HostRuntime) -> Result<Vec<String>, WordsFault> {
     let args = match env::args(rt) {
         Ok(args) => args,
@@ -33,7 +33,7 @@ pub fn given_words(rt: &HostRuntime) -> Result<Vec<String>, WordsFault> {
     Ok(words)
 }
 
-/// Reads the words. What is refused is told as `clap` tells it.
+/// Reads the words. What is refused is reported as `clap` reports it.
 pub fn read_words<'a, R: Print + Eprint + AllocGlobal>(
     rt: &R,
     words: &'a [String],

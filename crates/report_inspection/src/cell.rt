@@ -1,4 +1,4 @@
-//! `Cell`: a cell of a report as it is told.
+//! `Cell`: a cell of a report as it is reported.
 
 ghost use Rattle.std.specs.Prelude.{◌≡◌, map, string_bytes};
 

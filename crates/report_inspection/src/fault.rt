@@ -11,7 +11,7 @@ use std::alloc::{AllocError, Global};
 /// What is wrong with a report, or with one of its facts alone.
 #[derive(Debug, Drop)]
 pub struct Fault {
-    /// What a load is told where it is the first.
+    /// What a load reports where it is the first.
     pub fault: ReportFault,
     /// What is wrong, in plain words.
     pub reasons: Vec<String>,
@@ -40,14 +40,14 @@ pub(crate) fn with_reasons(
     })
 }
 
-/// Whether it is a fault. Want of memory is none.
+/// Whether it is a fault. Out of memory is none.
 fn is_fault(fault: &ReportFault) -> bool
     ensures { result ≡ is_some (report_fault fault.now) }
 {
     !matches!(fault, ReportFault::NoMemory)
 }
 
-/// Tells one more fault. Want of memory is none.
+/// Reports one more fault. Out of memory is none.
 pub(crate) fn push_told(
     alloc: Global,
     faults: &mut Vec<Fault>,

@@ -2,7 +2,7 @@
 
 ghost use Rattle.report_inspection.specs.FaultLaws.{FactsHaveFaultsWhereRefused, FirstFaultIsTheReadings};
 
-/// The first fault that is told is the one that a reading is told; where there is none, the text is read as a report, of which the facts and the declared value are those that are told.
+/// The first fault that is reported is the one that a reading reports. Where there is none, the text is read as a report, whose facts and declared value are those that are reported.
 pub fn first_fault_is_the_readings()
     ensures { FirstFaultIsTheReadings }
 {}

@@ -1,4 +1,4 @@
-//! `inspect`: all that is to be told of a report.
+//! `inspect`: all that an inspection reports.
 
 ghost use Rattle.std.specs.Prelude.{◌≡◌, ◌≤◌, ◌∷◌, [], false, map, IfOk};
 ghost use Rattle.std.specs.Arc.{arc_value};
@@ -26,12 +26,12 @@ use std::alloc::{AllocError, Global};
 use std::str::from_utf8;
 use std::sync::Arc;
 
-/// All that is told of a report.
+/// All that an inspection reports.
 #[derive(Debug, Drop)]
 pub struct Inspection {
     /// How many facts it has, whether they can be read or not; of those under one identifier the last.
     pub facts: u64,
-    /// What is wrong with it, first what a load would be told.
+    /// What is wrong with it, first what a load would report.
     pub faults: Vec<Fault>,
     /// Its cells of more than one fact, in the order of their dimension sets; of the facts that can be read.
     pub cells: Vec<Cell>,
@@ -53,7 +53,7 @@ fn told_of_bytes(alloc: Global, bytes: &[u8]) -> Result<Told, AllocError> {
     Ok(told)
 }
 
-/// All that is told of bytes that are no JSON.
+/// All that is reported of bytes that are no JSON.
 fn no_json(alloc: Global, bytes: &[u8]) -> Result<Inspection, AllocError>
     ensures faults { IfOk result (λ i. AreFaults (NotJson ∷ []) i.faults.items) }
     ensures facts { IfOk result (λ i. i.facts ≡ 0) }
@@ -72,7 +72,7 @@ fn no_json(alloc: Global, bytes: &[u8]) -> Result<Inspection, AllocError>
     })
 }
 
-/// All that is told of a value.
+/// All that is reported of a value.
 fn inspect_value(
     alloc: Global,
     value: &json::Value<'_>,
@@ -107,9 +107,9 @@ fn inspect_value(
     })
 }
 
-/// All that is to be told of the text of a report, after one byte order mark, by this numeric table. Where an allowed value is asked for, it takes the place of the declared one.
+/// Inspects the text of a report, after one byte order mark, by this numeric table. Where an allowed value is asked for, it takes the place of the declared one.
 ///
-/// Each check of a reading is made, whatever the others say, and each fact is read by itself. Want of memory is an error, and tells nothing of the report.
+/// Each check of a reading is made, whatever the others say, and each fact is read by itself. Out of memory is an error, and says nothing of the report.
 pub fn inspect(
     alloc: Global,
     bytes: &[u8],

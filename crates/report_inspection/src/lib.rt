@@ -1,10 +1,10 @@
-//! Every fault and every duplicate of a report, where a load is told the first.
+//! Every fault and every duplicate of a report, where a load reports the first fault alone.
 //!
 //! - `inspection`: what an inspection tells, and `inspect`.
 //! - `fault`: a fault of a report with its reasons.
 //! - `info`: what `documentInfo` declares, each check by itself.
 //! - `facts`: each fact by itself.
-//! - `cell`: a cell as it is told.
+//! - `cell`: a cell as it is reported.
 //! - `cells`: the cells of more than one fact.
 //! - `warning`: what is no fault, and may be meant otherwise.
 //! - `warnings`: all that is warned of in a report.

@@ -1,4 +1,4 @@
-//! The names that are told of a report, and of one fact.
+//! The names that are warned of in a report, and in one fact.
 
 ghost use Rattle.std.specs.Prelude.{IfOk, OnOk};
 ghost use Rattle.json.specs.Value.{value_view};

@@ -1,4 +1,4 @@
-//! What is told of a report, as lines for people.
+//! What an inspection reports, as lines for people.
 
 use crate::cell::Cell;
 use crate::fault::Fault;
@@ -80,7 +80,7 @@ fn push_plain_warning(out: &mut String, file: &str, warning: &Warning) -> Result
     out.push_str("\n")
 }
 
-/// Appends what is told of a report as lines for people: its faults, its cells of more than one fact, its warnings, and how many of each there are.
+/// Appends an inspection as lines for people: its faults, its cells of more than one fact, its warnings, and how many of each there are.
 pub fn push_plain(out: &mut String, file: &str, inspection: &Inspection) -> Result<(), AllocError> {
     for fault in &inspection.faults {
         push_plain_fault(out, file, fault)?;

@@ -1,4 +1,4 @@
-//! What is told of reports: a table.
+//! What is reported of reports: a table.
 
 mod rows;
 
@@ -11,7 +11,7 @@ use std::alloc::{AllocError, Global};
 use std::sync::Arc;
 use std::test::Fail;
 
-/// What is told of a report, and at the end whether it would be loaded.
+/// What is reported of a report, and at the end whether it would be loaded.
 fn told(
     alloc: Global,
     report: &[u8],
@@ -38,7 +38,7 @@ fn report_of(row: &str) -> Option<(Option<Allowed>, &str)> {
     Some((allowed_of_word(word), report))
 }
 
-/// The table as it is made anew: a report stands behind `>`, before which a word asks for an allowed value, and below it what is told.
+/// The table as it is made anew: a report stands behind `>`, before which a word asks for an allowed value, and below it what is reported.
 #[test]
 fn each_row_is_told(rt: HostRuntime) -> Result<(), Fail> {
     let alloc = rt.alloc();
@@ -55,7 +55,7 @@ fn each_row_is_told(rt: HostRuntime) -> Result<(), Fail> {
     Ok(())
 }
 
-/// What is told of bytes that are no UTF-8.
+/// What is reported of bytes that are no UTF-8.
 #[test]
 fn other_encodings_are_told(rt: HostRuntime) -> Result<(), Fail> {
     let alloc = rt.alloc();

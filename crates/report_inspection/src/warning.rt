@@ -17,7 +17,7 @@ pub enum WarningKind {
     DecimalsBesideNull,
     /// A concept has a unit, and the numeric table lacks it.
     NotInTable,
-    /// A number stands under the local name of a numeric concept that no fact has, at another URI. The report binds the URI of that concept, as one of its first hundred.
+    /// A number has the local name of a numeric concept, at another URI. No fact has that concept, and the report binds its URI as one of its first hundred.
     OtherNamespace,
 }
 

@@ -4,7 +4,7 @@ use crate::question::text_at;
 use serde_json::Value;
 use std::alloc::{AllocError, Global};
 
-/// What is told of a range: which periods it has, and whether it was cut.
+/// What is reported of a range: which periods it has, and whether it was cut.
 fn range_words(thing: &Value) -> &'static str {
     let is_cut = !matches!(thing.get(5usize), None | Some(Value::Null));
     match (thing.get(3usize), is_cut) {
@@ -17,7 +17,7 @@ fn range_words(thing: &Value) -> &'static str {
     }
 }
 
-/// What is told behind the word of a reply.
+/// What is reported behind the word of a reply.
 fn detail_of(reply: &Value) -> &str {
     match (text_at(reply, 0), reply.get(2usize)) {
         ("bad-fact" | "cell" | "declared", _) => text_at(reply, 1),

@@ -23,7 +23,7 @@ use std::thread::Threads;
 /// How desks take their rounds.
 #[derive(Clone, Copy)]
 pub(crate) enum Way {
-    /// One step after the other, each with the session that the step before it was told.
+    /// One step after the other, each with the session that the step before it was answered.
     Steps,
     /// As a list of steps under a name, where each waits until all have a session open.
     Lists,
@@ -36,7 +36,7 @@ const LOAD: &str =
 // What the first desk adds first.
 const ADDED: &str = r#"["get","r1","f-0-0"]"#;
 
-/// Takes steps one after the other, each with the session that the step before it was told. Where one fails, there are fewer outcomes.
+/// Takes steps one after the other, each with the session that the step before it was answered. Where one fails, there are fewer outcomes.
 fn take_all<L: Ledger + Naming, M: Ledger, R: Wait + AllocGlobal>(
     rt: &R,
     office: &Office<L, M>,
@@ -147,7 +147,7 @@ fn desk_of<L: Ledger + Naming, M: Ledger>(
     Ok(desk)
 }
 
-/// What each desk was told, whose receipts a reviewer learns.
+/// What each desk was answered, whose receipts a reviewer learns.
 fn told_of_all<L: Ledger + Naming, M: Ledger>(
     alloc: Global,
     ran: &[Ran<L, M>],
@@ -161,7 +161,7 @@ fn told_of_all<L: Ledger + Naming, M: Ledger>(
     Ok(all)
 }
 
-/// The desks that come back, and what each was told.
+/// The desks that come back, and what each was answered.
 fn come_back<L: Ledger + Naming, M: Ledger>(
     alloc: Global,
     ran: Vec<Ran<L, M>>,
@@ -182,7 +182,7 @@ fn come_back<L: Ledger + Naming, M: Ledger>(
     }
 }
 
-/// Compares what desks were told with the history of their office, and writes what it made, which version a reviewer has learnt, and what it reads there of the first desk's.
+/// Compares what desks were answered with the history of their office, and writes what it made, which version a reviewer has learnt, and what it reads there of the first desk's.
 fn compare_end<J: Naming, R: Print + AllocGlobal>(
     rt: &R,
     core: &Core,
@@ -205,7 +205,7 @@ fn compare_end<J: Naming, R: Print + AllocGlobal>(
     Ok(())
 }
 
-/// Ends the office of desks that came back, and compares what they were told with the history.
+/// Ends the office of desks that came back, and compares what they were answered with the history.
 fn end_crowd<L: Ledger + Naming, M: Ledger, R: Wait + Print + AllocGlobal>(
     rt: &R,
     office: Office<L, M>,

@@ -1,4 +1,4 @@
-//! What a desk was told, beside the history of its office.
+//! What a desk was answered, beside the history of its office.
 
 use crate::offices::rounds::round_line;
 use filing_office::{Naming, Outcome};
@@ -7,7 +7,7 @@ use history_format::entry_text;
 use script_format::reply_text;
 use std::alloc::{AllocError, Global};
 
-/// The lines of the entries that a desk was told of, in order.
+/// The lines of the entries that were reported to a desk, in order.
 #[derive(Drop)]
 pub(crate) struct Told {
     sessions: Vec<Option<u64>>,
@@ -15,7 +15,7 @@ pub(crate) struct Told {
 }
 
 impl Told {
-    /// What a desk was told by outcomes, up to the first that is no answer.
+    /// What outcomes report to a desk, up to the first that is no answer.
     pub(crate) fn of<J: Naming>(
         alloc: Global,
         place: usize,
@@ -35,7 +35,7 @@ impl Told {
         Ok(Told { sessions, lines })
     }
 
-    /// Whether the entries of its sessions are those that it was told of, in order.
+    /// Whether the entries of its sessions are those that were reported to it, in order.
     pub(crate) fn is_entered(&self, alloc: Global, history: &[Entry]) -> Result<bool, AllocError> {
         let mut turn = 0usize;
         for entry in history {

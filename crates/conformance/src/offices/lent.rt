@@ -1,6 +1,6 @@
 //! Steps on what the lock of an office lends, without an office.
 //!
-//! An act `["step",SESSION,STEP]` is a step, as histories write it, of the session of that number, or of none. It is told the session of its entry, the reply, and the number of the receipt; or `["no-session"]`. At the end stands how many entries and versions there are.
+//! An act `["step",SESSION,STEP]` is a step, as histories write it, of the session of that number, or of none. It gets the session of its entry, the reply, and the number of the receipt; or `["no-session"]`. At the end stands how many entries and versions there are.
 
 ghost use Rattle.std.specs.Prelude.{◌≡◌, ◌<◌, ◌^◌};
 
@@ -23,7 +23,7 @@ fn number_text(alloc: Global, number: Option<u64>) -> Result<String, AllocError>
     }
 }
 
-/// What is told of an act.
+/// The answer to an act.
 fn told<J: Naming, R: Wait + AllocGlobal>(
     rt: &R,
     shared: &mut Shared<J>,
@@ -66,7 +66,7 @@ fn play_acts<J: Naming, R: Wait + AllocGlobal>(
     Ok(())
 }
 
-/// What is told of acts on a repository of their own.
+/// The answers to acts on a repository of their own.
 pub(crate) fn play_lent<J: Naming, R: Wait + AllocGlobal>(
     rt: &R,
     unopened_log: UnopenedLog,

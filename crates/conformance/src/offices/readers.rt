@@ -38,7 +38,7 @@ fn answered(alloc: Global, review: &Review, step: Step) -> Result<Reply> {
     }
 }
 
-/// The text of a reply, which is let go.
+/// The text of a reply, which is dropped.
 fn told(alloc: Global, reply: Reply) -> Result<String> {
     let told = reply_text(alloc, &reply);
     drop(reply);
@@ -123,7 +123,7 @@ impl<J: Naming> Readers<J> {
         }
     }
 
-    /// What is told of an act of a reviewer or a review: what the review is answered, or the number that the reviewer has seen then.
+    /// The answer to an act of a reviewer or a review: what the review is answered, or the number that the reviewer has seen then.
     pub(crate) fn act(&mut self, alloc: Global, act: &Value) -> Result<String> {
         let one = number_at(act, 1);
         match text_at(act, 0) {

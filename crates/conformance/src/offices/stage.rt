@@ -1,6 +1,6 @@
 //! Offices of two desks and two reviewers, from their opening to what goes on after their end.
 //!
-//! An act is a line of JSON, and each is told. `["step",DESK,STEP]` has a desk take a step, as histories write it, in the session of the answer before: the reply. `["leave"]` sets the last desk aside until the end, and `["lose"]` drops it. `["learn",REVIEWER,RECEIPT]` has a reviewer learn the receipt of that number among all that desks were given, `["review",REVIEWER]` opens a review, and `["seen",REVIEWER]` does neither: the number of the version that the reviewer has seen then. `["ask",REVIEW,STEP]` asks the review of that number: its reply. `["end"]` ends the office: how many entries and versions it made, or how many desks came. After it reviewers and reviews go on. All numbers are from 0.
+//! An act is a line of JSON, and each is answered. `["step",DESK,STEP]` has a desk take a step, as histories write it, in the session of the answer before: the reply. `["leave"]` sets the last desk aside until the end, and `["lose"]` drops it. `["learn",REVIEWER,RECEIPT]` has a reviewer learn the receipt of that number among all that desks were given, `["review",REVIEWER]` opens a review, and `["seen",REVIEWER]` does neither: the number of the version that the reviewer has seen then. `["ask",REVIEW,STEP]` asks the review of that number: its reply. `["end"]` ends the office: how many entries and versions it made, or how many desks came. After it reviewers and reviews go on. All numbers are from 0.
 
 ghost use Rattle.std.specs.Prelude.{◌≡◌, ◌<◌, ◌^◌};
 
@@ -33,7 +33,7 @@ fn taken<L: Ledger + Naming, M: Ledger, R: Wait + AllocGlobal>(
     readers.note(rt.alloc(), answer)
 }
 
-/// What is told of an act.
+/// The answer to an act.
 fn told<L: Ledger + Naming, M: Ledger, R: Wait + AllocGlobal>(
     rt: &R,
     office: &Office<L, M>,
@@ -115,7 +115,7 @@ fn play_in<L: Ledger + Naming, M: Ledger, R: Wait + AllocGlobal>(
     }
 }
 
-/// What is told of acts in an office of their own.
+/// The answers to acts in an office of their own.
 pub(crate) fn play<L: Ledger + Naming, M: Ledger, R: Wait + AllocGlobal>(
     rt: &R,
     blanks: Blanks,

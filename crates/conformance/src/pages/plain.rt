@@ -81,7 +81,7 @@ impl PlainPages {
         Ok(())
     }
 
-    /// Makes changes at once. The page of each is told by the pages as they are.
+    /// Makes changes at once. The pages as they are decide the page of each.
     pub(crate) fn change(
         &mut self,
         alloc: Global,

@@ -33,7 +33,7 @@ fn push_changes(changes: &mut Vec<Edit<Item>>, edit: &Value) -> Result<(), Alloc
     Ok(())
 }
 
-/// What is told of a line, if it asks.
+/// The answer to a line, if it asks.
 fn told(alloc: Global, kind: Kind, list: &mut List, line: &Value) -> Result<String> {
     let (one, two, three) = (number_at(line, 1), number_at(line, 2), number_at(line, 3));
     match text_at(line, 0) {
@@ -57,7 +57,7 @@ fn told(alloc: Global, kind: Kind, list: &mut List, line: &Value) -> Result<Stri
     Ok(String::new(alloc))
 }
 
-/// What is told of lines in turn.
+/// The answers to lines in turn.
 fn told_all(alloc: Global, kind: Kind, list: &mut List, lines: &[u8]) -> Result<String> {
     let mut all_told = String::new(alloc);
     for line in lines.split(is_end) {
@@ -71,7 +71,7 @@ fn told_all(alloc: Global, kind: Kind, list: &mut List, lines: &[u8]) -> Result<
 }
 
 impl Answers for Lists {
-    /// What is told of the lines of a sheet, of a list that is empty at first.
+    /// The answers to the lines of a sheet, of a list that is empty at first.
     fn told(&self, alloc: Global, sheet: &Sheet) -> Result<Vec<u8>> {
         let mut list = List::built(alloc, self.kind, Vec::new(alloc))?;
         let told = told_all(alloc, self.kind, &mut list, sheet.script());

@@ -1,8 +1,8 @@
 //! `explanation`: a search for a schedule of some scripts that explains their replies.
 //!
-//! A schedule is an order of all lines that keeps each script's own. It explains the replies where one script of all lines in that order, with sessions named apart, has the same. The search goes depth first, and leaves a schedule at the first reply that differs. What a line is told after others is found by running them all alone.
+//! A schedule is an order of all lines that keeps each script's own. It explains the replies where one script of all lines in that order, with sessions named apart, has the same. The search goes depth first, and leaves a schedule at the first reply that differs. The reply to a line after others is found by running them all alone.
 //!
-//! Only loads, openings and commits meet those of other scripts. Every other line is told the same wherever its own script has it, so that it is taken as soon as it can be, and no other line in its place. What can follow is known by how far each script is and at which versions its sessions were opened: where nothing could, this is not tried again.
+//! Only loads, openings and commits meet those of other scripts. Every other line gets the same reply wherever its own script has it, so that it is taken as soon as it can be, and no other line in its place. What can follow is known by how far each script is and at which versions its sessions were opened: where nothing could, this is not tried again.
 
 ghost use Rattle.std.specs.Prelude.{◌≡◌};
 
@@ -28,9 +28,9 @@ const PIECE: usize = 4096;
 /// How a line meets those of other scripts.
 #[derive(Clone, Copy, PartialEq, Eq)]
 enum Meeting {
-    /// It is told the same wherever its own script has it.
+    /// It gets the same reply wherever its own script has it.
     Never,
-    /// It is told by what others have made, and makes nothing.
+    /// Its reply depends on what others have made, and it makes nothing.
     Follows,
     /// It opens a session at the version that there is.
     Opens,
@@ -38,7 +38,7 @@ enum Meeting {
     Makes,
 }
 
-/// A line as a script of all lines has it, and what it is told.
+/// A line as a script of all lines has it, and its reply.
 #[derive(Drop)]
 struct Told<'a> {
     line: Vec<u8>,
@@ -65,7 +65,7 @@ pub(crate) enum Finding {
     Undecided,
 }
 
-/// How a line that begins with a word meets others, by what it is told.
+/// How a line that begins with a word meets others, by its reply.
 fn meeting_of(word: &str, reply: &[u8]) -> Meeting {
     match word {
         "load" if reply.starts_with(b"[\"loaded\"") => Meeting::Makes,
@@ -115,7 +115,7 @@ fn told_apart<'a>(
     })
 }
 
-/// The lines of scripts with what they are told, or none where there are not as many replies as lines.
+/// The lines of scripts with their replies, or none where there are not as many replies as lines.
 fn told_lines<'a>(
     alloc: Global,
     scripts: &[Vec<u8>],
@@ -180,7 +180,7 @@ impl<'a> Search<'a> {
         self.from..self.all.len()
     }
 
-    /// A line behind those that were taken, where it is told what it is told then.
+    /// A line behind those that were taken, where it gets its own reply there.
     fn taken_with(&self, alloc: Global, script: usize, told: &Told<'_>) -> Result<Option<Taken>> {
         let mut lines = match self.taken.last() {
             Some(last) => Vec::from_slice(alloc, &last.lines)?,

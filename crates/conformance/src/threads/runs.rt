@@ -39,7 +39,7 @@ fn written_in_threads<K: Ledger, R: AllocGlobal + Threads + Wait + Sync>(
     Ok(Vec::from_slice(rt.alloc(), sink.written())?)
 }
 
-/// What scripts are told that run in threads.
+/// The replies to scripts that run in threads.
 pub(crate) fn replies_in_threads<R: AllocGlobal + Threads + Wait + Sync>(
     rt: &R,
     table: &Arc<NumericTable>,
@@ -61,7 +61,7 @@ fn word_and_number(reply: &[u8]) -> Option<(&str, u64)> {
     }
 }
 
-/// The replies with `_` for the numbers of versions. Where not each from 1 on is told once, they stand behind.
+/// The replies with `_` for the numbers of versions. Where not each from 1 on comes once, they stand behind.
 pub(crate) fn without_numbers(alloc: Global, replies: &[u8]) -> Result<Vec<u8>, AllocError> {
     let (mut plain, mut numbers) = (Vec::new(alloc), Vec::new(alloc));
     for reply in replies.split(is_end) {

@@ -1,9 +1,9 @@
-//! Reports, each with what is told of it.
+//! Reports, each with what is reported of it.
 
 /// The numeric table of the rows.
 pub(super) const TABLE: &str = "http://e.org/t Assets\n";
 
-/// A report behind `>`, before which a word asks for an allowed value, and what is told.
+/// A report behind `>`, before which a word asks for an allowed value, and what is reported.
 pub(super) const ROWS: &str =
     r#"> {"documentInfo":{"documentType":"https://xbrl.org/2021/xbrl-json"},"facts":{}}
 ["inspected","f",0,0,0,0,0]
