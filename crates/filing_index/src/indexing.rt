@@ -18,7 +18,7 @@ use sorted_pages::{Edit, PageEntry, Paged};
 use std::alloc::{AllocError, Global};
 use text_map::{NamedValue, TextPages};
 
-/// What was made beside another thing. Where memory was refused, that is let go.
+/// What was made beside another thing. Where memory was refused, that is dropped.
 pub(crate) fn beside<A: Drop, B: Drop>(
     made: Result<A, AllocError>,
     other: B,

@@ -1,7 +1,7 @@
 //! The laws of the plain repository and its histories: what follows from the definitions alone.
 //!
 //! - `next_reply`: after a lawful history each step that may be taken has one reply that keeps it lawful.
-//! - `untouched`: a session whose reads nobody touched was told what it is told alone, at its opening and now.
+//! - `untouched`: a session whose reads nobody touched got the replies that it gets alone, at its opening and now.
 //! - `obeying`: a report obeys its allowed duplicates exactly where it has no disallowed cell.
 //! - `numbers`: the numbers of loads and commits rise by one, and tell what was touched since an opening.
 //! - `marks`: the stamps of ranges are the greatest of the marks that commits leave in them.

@@ -14,7 +14,7 @@ pub fn lawful_in_order_is_lawful()
     ensures { LawfulInOrderIsLawful }
 {}
 
-/// Whether two replies are equal can be told, and so can whether an entry may follow a lawful history: where it stands under the number of its step and has the one next reply.
+/// It can be decided whether two replies are equal, and whether an entry may follow a lawful history: it may where it stands under the number of its step and has the one next reply.
 pub fn each_next_entry_is_decided()
     ensures replies { EqualRepliesAreDecided }
     ensures entries { EachNextEntryIsDecided }

@@ -8,13 +8,13 @@ pub fn each_conflict_is_stamped()
     ensures { EachConflictIsStamped }
 {}
 
-/// What an untouched amendment has staged, removals of what was not there among it, makes of the repository as it is what its net change makes.
+/// All that an untouched amendment has staged, also removals of what was not there, makes of the current repository what its net change makes.
 #[tactic(auto, using(crate::proofs::Stamping::StampedVersions::each_staged_change_makes_the_copy))]
 pub fn each_staged_change_makes_the_copy()
     ensures { EachStagedChangeMakesTheCopy }
 {}
 
-/// From the version of a history an accepted load makes that of the history with its entry, a commit that passes does by what its session has staged, and every other entry leaves it.
+/// An accepted load turns the version of a history into that of the history with its entry. So does a commit that passes, by what its session has staged. Every other entry leaves it.
 #[tactic(auto, using(crate::proofs::Stamping::StampedVersions::each_load_makes_its_version, crate::proofs::Stamping::StampedVersions::each_commit_makes_its_version, crate::proofs::Stamping::StampedVersions::each_other_entry_leaves_the_version))]
 pub fn each_entry_makes_its_version()
     ensures loads { EachLoadMakesItsVersion }

@@ -67,7 +67,7 @@ impl Ready {
         }
     }
 
-    /// What the call is answered.
+    /// The reply to the call.
     pub fn reply(&self) -> &Reply
         ensures { reply_of result.now ≡ self.now.reply }
     {

@@ -28,7 +28,7 @@ fn told(ready: Ready) -> Reply
     reply
 }
 
-/// What a review that opens at a version is answered as its first call.
+/// The reply to the first call of a review that opens at a version.
 pub fn reply_at(alloc: Global, version: &Arc<RepoVersion>, call: Call) -> Result<Reply, AllocError>
     ensures { IfOk result (λ r. reply_of r
         ≡ (answer kind.Review (call_of call) (repository_in (arc_value version.now))).0) }

@@ -245,7 +245,7 @@ impl Session {
         self.call(Call::Cell(report, dims))
     }
 
-    /// The first identifiers, as many as the limit, of the facts with a concept and a period that passes the filter; those that are greater than one, where one is given.
+    /// The first identifiers, as many as the limit, of the facts with a concept and a period that passes the filter; only those greater than `after`, where it is given.
     pub fn page(
         &mut self,
         report: String,

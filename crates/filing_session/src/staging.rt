@@ -15,7 +15,7 @@ use std::marker::Model;
 use std::mem;
 use std::sync::Arc;
 
-/// What is staged, and a version that has some of it. What it does not have yet is applied to it all at once, when a cell or a page is read; what stands at an identifier is told by both. Contracts see the copy with all that is staged, and the change.
+/// What is staged, and a version that has some of it. What it does not have yet is applied to it all at once, when a cell or a page is read; what stands at an identifier is read from both. Contracts see the copy with all that is staged, and the change.
 #[derive(Drop)]
 pub(crate) struct Staging {
     /// The version of the opening, where the other one has some of what is staged.
@@ -188,7 +188,7 @@ impl Staging {
         let copy = match shared(&self.base)? {
             None => self.copy(alloc)?,
             Some(base) => {
-                // Where memory is wanted below, all that is staged is pending over the version of the opening.
+                // Where we run out of memory below, all that is staged is pending over the version of the opening.
                 let version = mem::replace(&mut self.version, base);
                 let pending = mem::replace(&mut self.pending, None);
                 self.base = None;

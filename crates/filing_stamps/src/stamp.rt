@@ -1,4 +1,4 @@
-//! What a touched fact leaves: stamps, which compare by what they stand for.
+//! What a touched fact leaves: stamps, which compare by what they mean.
 ghost use Rattle.std.specs.Prelude.{◌≡◌, refl, option_copied, option_map, IfOk, Some};
 ghost use Rattle.std.specs.Cmp.{eq_by_cmp_equiv, partial_equiv_from_equiv, partial_order_from_agreeing_total};
 ghost use Rattle.std.specs.Ordering.{eq_by_cmp, ordering_then};
@@ -17,7 +17,7 @@ use std::cmp::Ordering;
 use std::marker::Model;
 use text_map::{NamedValue, SoughtName};
 
-/// What a stamp stands for.
+/// What a stamp means.
 #[derive(Clone, Copy, Debug, PartialEq, Eq)]
 pub(crate) enum StampKind {
     /// An identifier.
@@ -179,7 +179,7 @@ impl<'a> Group<'a> {
 
 /// The number of the last touch of what a fact stands in.
 ///
-/// It compares by what it stands for, which is read from the fact. The number takes no part.
+/// It compares by what it means, which is read from the fact. The number takes no part.
 #[derive(Drop)]
 pub(crate) struct Stamp {
     kind: StampKind,

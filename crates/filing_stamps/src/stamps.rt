@@ -175,8 +175,8 @@ impl Stamps {
         self.greatest(&Among::of_group(StampKind::Cell, Group::of_cell(dims), all))
     }
 
-    /// The number of the last touch among the facts of a concept and a period, of identifiers greater than one, where
-    /// it is given, and not greater than another, where that is given; or 0.
+    /// The number of the last touch among the facts of a concept and a period, of identifiers greater than `after`,
+    /// where it is given, and not greater than `upto`, where that is given; or 0.
     pub fn of_range(
         &self,
         concept: &str,

@@ -33,7 +33,7 @@ impl Clone for PeriodFilter {
     }
 }
 
-/// What a page looks for: a concept, a period, and identifiers that are greater than one, where one is given.
+/// What a page looks for: a concept, a period, and identifiers greater than `after`, where it is given.
 #[derive(Drop)]
 pub struct PageQuery {
     pub concept: String,

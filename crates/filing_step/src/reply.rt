@@ -7,7 +7,7 @@ use oim_fact::{Allowed, Class, Fact, FactFault};
 use std::alloc::AllocError;
 use std::sync::Arc;
 
-/// What a step is answered.
+/// The reply to a step.
 #[derive(Drop)]
 pub enum Reply {
     NoReport,

@@ -7,7 +7,7 @@ use std::alloc::{AllocError, Global};
 use std::collections::BTreeMap;
 use std::marker::Model;
 
-/// The names that open sessions are given, with what stands for each of them. Contracts see a finite map from texts.
+/// The names that open sessions are given, with the value of each. Contracts see a finite map from texts.
 #[derive(Drop)]
 pub struct SessionNames<V: Drop> {
     by_name: BTreeMap<String, V>,
@@ -35,14 +35,14 @@ impl<V: Drop> SessionNames<V> {
         }
     }
 
-    /// What stands for a name. It takes no memory.
+    /// The value of a name. It takes no memory.
     pub fn get(&self, name: &str) -> Option<&V>
         ensures { option_copied result ≡ get self.now name.now }
     {
         self.by_name.get(name)
     }
 
-    /// Puts a name in use; one that is in use stands for another then, and that takes no memory.
+    /// Puts a name in use; one that is in use gets another value, and that takes no memory.
     pub fn insert(&mut self, name: String, value: V) -> Result<(), AllocError>
         ensures ok { OnOk result (self.new ≡ insert self.old (string_bytes name) value) }
         ensures err { OnErr result (self.new ≡ self.old) }

@@ -24,7 +24,7 @@ use text_map::{NamedValue, PagedValue, TextPages};
 /// A report whose facts stand in indexes, with the number of its load, that of the last commit that declared its value, and those of its parts. Contracts see these.
 #[derive(Drop)]
 pub(crate) struct StampedReport {
-    /// A copy of the report without its facts, which are those of the indexes: a fact that no version has any more is let go.
+    /// A copy of the report without its facts, which are those of the indexes: a fact that no version has any more is freed.
     header: Arc<Report>,
     facts: Facts,
     loaded: u64,

@@ -173,7 +173,7 @@ impl RepoVersion {
         Some(facts.cell(dims))
     }
 
-    /// The identifiers, in byte order, of the facts with a concept and a period that passes the filter; those that are greater than one, where one is given. None where the report is not there.
+    /// The identifiers, in byte order, of the facts with a concept and a period that passes the filter; only those greater than `after`, where it is given. None where the report is not there.
     pub fn query<'a>(
         &'a self,
         report: &str,
@@ -318,7 +318,7 @@ impl RepoVersion {
         version.into_with_change(alloc, change)
     }
 
-    /// The version as `with_part` has it, in the place of this one, which is let go.
+    /// The version as `with_part` has it, in the place of this one, which is dropped.
     fn into_with_copied_part(
         self,
         alloc: Global,
@@ -390,7 +390,7 @@ impl RepoVersion {
         Some(self.reports.get(report)?.allowed())
     }
 
-    /// In the version that a change made: the least report, and in it the least dimensions, whose cell it does not allow, among the cells of the facts that are put, and among all cells of a report for which a value is declared.
+    /// In the version that a change made: the least report with a disallowed cell, and the least dimensions of such a cell in it. It looks at the cells of the facts that are put, and at all cells of a report for which a value is declared.
     ///
     /// Where the version before obeyed, this decides the commit: it is the least of all.
     pub fn first_disallowed<'a>(&'a self, change: &'a Change) -> Option<(&'a str, &'a DimSet)>

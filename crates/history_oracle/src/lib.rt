@@ -8,7 +8,7 @@
 //! - `history`: what a history says of its sessions, and its repository.
 //! - `reads`: what a session has read.
 //! - `touched`: what a commit touches.
-//! - `conflicts`: the conflict that a commit is told.
+//! - `conflicts`: the conflict that a commit reports.
 //! - `next`: the next reply.
 //!
 //! It uses none of the code that keeps versions, sessions or stamps: it takes the types of steps and replies of `filing_step`, and the reports and facts of those.

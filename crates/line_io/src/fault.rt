@@ -12,7 +12,7 @@ pub struct Failed;
 pub enum ScriptFault {
     #[error("the input could not be read")]
     Read,
-    /// Replies could not be written, or what they tell of could not be kept first.
+    /// Replies could not be written, or what they report could not be kept first.
     #[error("the output could not be written")]
     Write,
     #[error("the input has no end within the reads that are allowed")]

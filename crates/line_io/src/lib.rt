@@ -7,7 +7,7 @@
 //! - `counts`: the counts of their calls.
 //! - `fault`: why a run ended early.
 //! - `lines`: how what is read, and a text that is held whole, are cut into lines.
-//! - `machine`: what answers a line, and what keeps what it did before its replies are told.
+//! - `machine`: what answers a line, and what keeps what it did before its replies are written.
 //! - `mode`: how a run asks the one and the other.
 //! - `outbox`: replies until they are written.
 //! - `progress`: a run that takes a piece at a time.

@@ -1,4 +1,4 @@
-//! `Machine`: what answers lines; and `DurableMachine`, whose replies wait until what they tell of is kept.
+//! `Machine`: what answers lines; and `DurableMachine`, whose replies wait until what they report is kept.
 
 ghost use Rattle.std.specs.Prelude.{ℕ, List, IfOk, OnOk, OnErr, string_bytes};
 
@@ -15,7 +15,7 @@ pub trait Machine {
         ensures { IfOk result (λ reply. replies self.old line.now (string_bytes reply) self.new) };
 }
 
-/// What answers the lines of a run, and makes durable what it did before its replies are told.
+/// What answers the lines of a run, and makes durable what it did before its replies are written.
 pub trait DurableMachine {
     /// The machine before, a line that is not blank, its reply without a line feed, and the machine after.
     ghost replies: { Self → List ℕ → List ℕ → Self → Type 0 };

@@ -106,7 +106,7 @@ impl Column {
 }
 
 impl Names {
-    /// The names of these prefixes with their URIs, in whatever order they stand, or the first fault. It sorts in place, so memory is never wanted.
+    /// The names of these prefixes with their URIs, in whatever order they stand, or the first fault. It sorts in place, so it cannot run out of memory.
     pub fn of(
         prefixes: Vec<(String, String)>,
         table: Arc<NumericTable>,

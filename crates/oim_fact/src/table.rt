@@ -39,7 +39,7 @@ fn cmp_row(row: &(String, String), uri: &str, local: &str) -> Ordering
 }
 
 impl NumericTable {
-    /// The table of these pairs, in whatever order they stand; one that stands twice counts once. It sorts in place, so memory is never wanted.
+    /// The table of these pairs, in whatever order they stand; one that stands twice counts once. It sorts in place, so it cannot run out of memory.
     pub fn of(rows: Vec<(String, String)>) -> Result<NumericTable, AllocError>
         ensures { result ≡ Ok (table_of (rows_view rows.items)) }
     {

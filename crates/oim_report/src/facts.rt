@@ -33,7 +33,7 @@ use std::alloc::Global;
 use std::collections::btree_map::IntoIter;
 use std::sync::Arc;
 
-/// The fault that a fact's trouble is: want of memory is the report's own.
+/// The fault that a fact's trouble is: out of memory is the report's own.
 fn bad_fact(id: String, trouble: Trouble) -> ReportFault
     ensures { report_fault result ≡ option_map (refused (string_bytes id)) (fact_trouble trouble) }
 {

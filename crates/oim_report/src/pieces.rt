@@ -1,4 +1,4 @@
-//! Pieces of compact JSON, each appended to a text that grows. Where memory is wanted, what was appended is a front of the piece.
+//! Pieces of compact JSON, each appended to a text that grows. When out of memory, what was appended is a prefix of the piece.
 
 ghost use Rattle.std.specs.Prelude.{◌≡◌, ◌∷◌, [], ◌++◌, OnOk, OnErr, IfOk, Some, string_bytes};
 ghost use Rattle.std.specs.Bool.{OnTrue};
@@ -24,14 +24,14 @@ fn quoted_text(alloc: Global, text: &str) -> Result<String, AllocError>
     }
 }
 
-/// Whether a byte of a text stands for itself in a JSON text.
+/// Whether a byte of a text means itself in a JSON text.
 fn stands_for_itself(byte: u8) -> bool
     ensures { OnTrue result (escape_byte byte ≡ byte ∷ []) }
 {
     byte >= b' ' && byte != b'"' && byte != b'\\'
 }
 
-/// Whether each byte of a text stands for itself.
+/// Whether each byte of a text means itself.
 fn is_plain(text: &str) -> bool
     ensures { OnTrue result (escape text.now ≡ text.now) }
 {

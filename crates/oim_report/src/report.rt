@@ -111,7 +111,7 @@ impl Report {
         }
     }
 
-    /// What `of` makes the same report of.
+    /// The parts of which `of` makes the same report.
     pub fn into_parts(self) -> ReportParts
         ensures parts { result ≡ parts_of self }
         ensures again { AreParts result }

@@ -1,4 +1,4 @@
-//! The intervals that rounded numbers stand for, in half units, so that their ends are whole.
+//! The intervals that rounded numbers mean, in half units, so that their ends are whole.
 
 ghost use Rattle.std.specs.Prelude.{◌≡◌, ◌≤◌, ℤ, pos, ◌-ℤ◌, ◌*ℤ◌, nat_abs, ◌↔◌, IsTrue, IsSome, IfSome};
 ghost use Rattle.std.specs.Bool.{OnTrue, OnFalse};
@@ -31,7 +31,7 @@ impl Model for Interval {
 }
 
 impl Decimal {
-    /// All numbers that this one may stand for: the number itself where it is exact, else all within half of one at the last place that counts.
+    /// All numbers that this one may mean: the number itself where it is exact, else all within half of one at the last place that counts.
     pub fn interval(self, accuracy: Accuracy) -> Interval
         ensures value { result ≡ interval_of self (decimals_of accuracy) }
         ensures near { (x : ℤ) → IsWithin result x

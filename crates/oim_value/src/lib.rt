@@ -1,8 +1,8 @@
-//! Decimal numerals, how far a number may be off, and the intervals that rounded numbers stand for.
+//! Decimal numerals, how far a number may be off, and the intervals that rounded numbers mean.
 //!
 //! - `decimal`: exact decimal numbers, and the numerals that spell them.
 //! - `accuracy`: how far a number may be off.
-//! - `interval`: the numbers that a rounded number may stand for.
+//! - `interval`: the numbers that a rounded number may mean.
 //!
 //! A unit is the last place that a numeral may have behind its point, 10^-15 (`decimal::MOST_FRACTION_DIGITS`). Numbers are counted in units, and the ends of intervals in half units.
 //!

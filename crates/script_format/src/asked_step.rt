@@ -22,7 +22,7 @@ use oim_report::{dimensions, dimensions_from, raw_fact, raw_fact_from};
 use serde_json::Value;
 use std::alloc::{AllocError, Global};
 
-/// The reply to dimensions that are refused. A line whose dimensions are not texts and nulls is a bad one. Want of memory is no reply.
+/// The reply to dimensions that are refused. A line whose dimensions are not texts and nulls is a bad one. Out of memory is no reply.
 fn bad_dims_reply(alloc: Global, fault: Trouble) -> Result<String, AllocError>
     ensures { IfOk result (λ text. Some (string_bytes text) ≡ option_map bad_dims_text (told_fault fault)) }
 {

@@ -121,7 +121,7 @@ fn value_judged(
     }
 }
 
-/// Classifies a line by a numeric table: what is refused in reading is replied to at once. Want of memory is an error, and no reply.
+/// Classifies a line by a numeric table: what is refused in reading is replied to at once. Out of memory is an error, and no reply.
 pub fn classify_line(
     alloc: Global,
     line: &[u8],

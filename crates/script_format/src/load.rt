@@ -122,7 +122,7 @@ fn load_of_text(
     Ok(Some(Loaded { name, report }))
 }
 
-/// The load that a line is, read without a copy of its texts but for those that the report keeps; none where the line does not begin as loads mostly do, or is no load.
+/// The load that a line is. Of its texts only those that the report keeps are copied. None where the line does not begin as loads mostly do, or is no load.
 pub fn load_of_line(
     alloc: Global,
     line: &[u8],

@@ -40,7 +40,7 @@ fn column_of(line: &[u8], place: usize) -> u64
     column
 }
 
-/// What is told of a byte that is not UTF-8.
+/// What is reported about a byte that is not UTF-8.
 fn no_utf8(alloc: Global, line: &[u8], place: usize) -> Result<String, AllocError> {
     let Some(byte) = line.get(place).copied() else {
         return String::from_str(alloc, "the line is not UTF-8");

@@ -1,4 +1,4 @@
-//! What is wrong with a fact, or with dimensions, as they are read. That they are refused is told by the functions that read them; where the fault is, is looked up here anew, in the same order.
+//! What is wrong with a fact, or with dimensions, as they are read. The functions that read them report that they are refused; where the fault is, is looked up here anew, in the same order.
 
 use crate::shown::{Shown, ShownValue, kind_of};
 use crate::told::Told;
@@ -33,7 +33,7 @@ pub(crate) fn dims_fault(alloc: Global, dims: &Value) -> Result<Option<String>, 
     Ok(None)
 }
 
-/// What is told of the value of a dimension that is neither a text nor null.
+/// What is reported about the value of a dimension that is neither a text nor null.
 fn dim_fault(alloc: Global, name: &str, value: &Value) -> Result<String, AllocError> {
     let name = Shown(name);
     let value = ShownValue(value);

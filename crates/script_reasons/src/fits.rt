@@ -1,4 +1,4 @@
-//! What is wrong with a fact by the names of its report. That it does not fit is told by `fit`; which name or number it is about is looked up here anew.
+//! What is wrong with a fact by the names of its report. `fit` reports that it does not fit; which name or number it is about is looked up here anew.
 
 use crate::facts::is_core;
 use crate::shown::{Shown, ShownValue};
@@ -19,7 +19,7 @@ fn concept_of(fact: &Value) -> &str {
     }
 }
 
-/// What is told of a name whose prefix is not bound; none where it is.
+/// What is reported about a name whose prefix is not bound; none where it is.
 fn unbound(
     alloc: Global,
     names: &Names,
@@ -93,7 +93,7 @@ fn out_of_place(fact: &Value) -> &'static str {
     if has_unit { "unit" } else { "decimals" }
 }
 
-/// What is told of a unit or decimals out of place. The line is what the numeric table lacks.
+/// What is reported about a unit or decimals out of place. The line is what the numeric table lacks.
 fn misplaced(
     alloc: Global,
     fact: &Value,
@@ -141,7 +141,7 @@ fn hint(text: &str) -> &'static str {
     }
 }
 
-/// What is told of the value or the decimals of a numeric fact.
+/// What is reported about the value or the decimals of a numeric fact.
 fn number_fault(alloc: Global, fault: FactFault, fact: &Value) -> Result<String, AllocError> {
     let text = match fact.get("value") {
         Some(value) => value.as_str().unwrap_or(""),
@@ -186,7 +186,7 @@ pub(crate) fn fit_faults(
     }
 }
 
-/// What is told of a fact that does not fit the names of a report that is not at hand.
+/// What is reported about a fact that does not fit the names of a report that is not at hand.
 pub(crate) fn fit_fault_in(
     alloc: Global,
     report: &str,

@@ -138,7 +138,7 @@ fn parts_of(word: &str) -> Option<&'static [Part]> {
     }
 }
 
-/// What is told of a word that no line has.
+/// What is reported about a word that no line has.
 fn no_such_line(alloc: Global, word: &str) -> Result<String, AllocError> {
     let shown = Shown(word);
     match nearest(alloc, word)? {
@@ -147,7 +147,7 @@ fn no_such_line(alloc: Global, word: &str) -> Result<String, AllocError> {
     }
 }
 
-/// What is told of a part that does not fit.
+/// What is reported about a part that does not fit.
 fn wrong_part(
     alloc: Global,
     word: &str,

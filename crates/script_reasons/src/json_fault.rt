@@ -8,7 +8,7 @@ use std::alloc::{AllocError, Global};
 /// How deep the arrays and objects of a text may nest.
 const MAX_DEPTH: usize = 127;
 
-/// What is told of a text in quotes that cannot be read.
+/// What is reported about a text in quotes that cannot be read.
 const UNREADABLE: &str =
     "not JSON: this text does not end, or has a control character or an escape that JSON does not know";
 

@@ -1,8 +1,8 @@
 //! Why a line of a script was refused, in words for people.
 //!
-//! - `refusal`: the words of replies that refuse, whether a reply is one, and whether it tells of a mistake in the script.
+//! - `refusal`: the words of replies that refuse, whether a reply is one, and whether it reports a mistake in the script.
 //! - `refusal_laws`: the laws of these words.
-//! - `reasons`: what is told of one line, and its text.
+//! - `reasons`: what is reported about one line, and its text.
 //! - `explaining`: the reasons of a line by its reply.
 //! - `gathered`: the reasons of one line, as they are gathered.
 //! - `told`: what is wrong with a line or with one fact, as it is found.

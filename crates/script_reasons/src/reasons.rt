@@ -1,4 +1,4 @@
-//! `Reasons`: what is told of a refused line, and its text.
+//! `Reasons`: what is reported about a refused line, and its text.
 
 ghost use Rattle.std.specs.Prelude.{◌≡◌, ◌++◌, OnOk, option_map, string_bytes};
 ghost use Rattle.script_reasons.specs.ReasonText.{column_text, each_reason_text, more_text, of_fact_text, place_text, reason_text, reasons_text};
@@ -21,7 +21,7 @@ pub struct Reason {
 pub struct Reasons {
     /// The number of the line.
     pub number: u64,
-    /// What the line was told.
+    /// How the line was refused.
     pub refusal: Refusal,
     /// The column at which the reading of the line stopped, in characters from 1.
     pub column: Option<u64>,
@@ -41,7 +41,7 @@ fn push_column(out: &mut String, column: Option<u64>) -> Result<(), AllocError>
     }
 }
 
-/// Appends the fact of which it is told.
+/// Appends the fact that it is about.
 fn push_of_fact(out: &mut String, id: &Option<String>) -> Result<(), AllocError>
     ensures { OnOk result (string_bytes out.new ≡ string_bytes out.old
         ++ of_fact_text (option_map string_bytes id.now)) }

@@ -8,7 +8,7 @@ use oim_report::json_value;
 use script_format::text_at;
 use std::alloc::{AllocError, Global};
 
-/// What a refused line is told, by the word of its reply.
+/// The reply that a refused line gets, by its word.
 #[derive(Clone, Copy, Debug, PartialEq, Eq)]
 pub enum Refusal {
     BadLine,

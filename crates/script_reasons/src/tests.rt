@@ -1,4 +1,4 @@
-//! What is told of lines that were refused: a table, and lines that are no UTF-8.
+//! What is reported about lines that were refused: a table, and lines that are no UTF-8.
 
 mod rows;
 
@@ -11,7 +11,7 @@ use std::alloc::{AllocError, Global};
 use std::sync::Arc;
 use std::test::Fail;
 
-/// What is told of a line with this number, or nothing.
+/// What is reported about a line with this number, or nothing.
 fn told(
     alloc: Global,
     number: u64,
@@ -26,7 +26,7 @@ fn told(
     Ok(out)
 }
 
-/// The reply to a line that is told at once, or this one.
+/// The reply that a line gets at once, or this one.
 fn replied(
     alloc: Global,
     line: &[u8],
@@ -39,7 +39,7 @@ fn replied(
     }
 }
 
-/// The table as it is made anew: a line stands behind `>`, its reply behind `<`, and below them what is told.
+/// The table as it is made anew: a line stands behind `>`, its reply behind `<`, and below them what is reported.
 #[test]
 fn each_row_is_told(rt: HostRuntime) -> Result<(), Fail> {
     let alloc = rt.alloc();
@@ -97,7 +97,7 @@ fn other_encodings_are_named(rt: HostRuntime) -> Result<(), Fail> {
     Ok(())
 }
 
-/// Seven words tell of a mistake in the script; others, and answers, do not.
+/// Seven words report a mistake in the script; others, and answers, do not.
 #[test]
 fn mistakes_are_told_by_their_words(rt: HostRuntime) -> Result<(), Fail> {
     for reply in [

@@ -1,6 +1,6 @@
-//! Pictures of sessions: what is told of them, drawn in SVG.
+//! Pictures of sessions: what is reported about them, drawn in SVG.
 //!
-//! - `told`: what is told of a session.
+//! - `told`: what is reported about a session.
 //! - `columns`: the versions that a picture shows, and where each begins.
 //! - `elements`: groups of elements, and the marks of ends.
 //! - `rows`: the row of a session.

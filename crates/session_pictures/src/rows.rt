@@ -1,4 +1,4 @@
-//! The row of a session: its label, its bar, and what is told of its end.
+//! The row of a session: its label, its bar, and what is reported about its end.
 
 ghost use Rattle.std.specs.Prelude.{◌≡◌, ◌++◌, map, option_map, string_bytes, OnOk};
 ghost use Rattle.session_pictures.specs.Picture.{bar_text, conflict_words, down, end_mark, end_text, end_words, ending_words, label_text, maker_words, row_text, rows_text};
@@ -103,7 +103,7 @@ fn push_mark(out: &mut String, ended: &Option<SessionEnd>) -> Result<(), AllocEr
     }
 }
 
-/// Appends what is told of its end.
+/// Appends what is reported about its end.
 fn push_end(out: &mut String, columns: &[u64], session: &ToldSession) -> Result<(), AllocError>
     ensures { OnOk result (string_bytes out.new ≡ string_bytes out.old ++ end_text columns.now (told_in session.now)) }
 {

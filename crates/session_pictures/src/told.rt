@@ -1,4 +1,4 @@
-//! `ToldSession`: what is told of a session.
+//! `ToldSession`: what is reported about a session.
 
 ghost use Rattle.std.specs.Prelude.{◌≡◌};
 ghost use Rattle.session_pictures.specs.Columns.{touching};
@@ -37,7 +37,7 @@ pub struct SessionEnd {
     pub version: u64,
 }
 
-/// What is told of a session.
+/// What is reported about a session.
 #[derive(Drop)]
 pub struct ToldSession {
     pub kind: Kind,

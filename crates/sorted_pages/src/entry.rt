@@ -37,7 +37,7 @@ pub(crate) trait Edged: Numbered {
         ensures { Some result ≡ last_key self.now };
 }
 
-/// An entry of a sorted list. Those that tie with it are told from it by nothing else.
+/// An entry of a sorted list. Nothing else distinguishes it from those that tie with it.
 pub trait PageEntry: Numbered + Drop {
     ghost order: { Self → Self → Ordering };
 

@@ -28,7 +28,7 @@ pub(super) fn push_bad_fact(out: &mut String, fault: Trouble) -> Result<(), Allo
     out.push_str("]")
 }
 
-/// The fault, where a reply tells of it.
+/// The fault, where a reply reports it.
 fn told_fault(fault: Trouble) -> Option<Trouble>
     ensures { result ≡ told_fault fault }
 {
@@ -38,7 +38,7 @@ fn told_fault(fault: Trouble) -> Option<Trouble>
     }
 }
 
-/// The reply to a fact, or to dimensions, that are refused. Want of memory is no reply.
+/// The reply to a fact, or to dimensions, that are refused. Out of memory is no reply.
 pub fn bad_fact_reply(alloc: Global, fault: Trouble) -> Result<String, AllocError>
     ensures { IfOk result (λ text. Some (string_bytes text) ≡ option_map bad_fact_text (told_fault fault)) }
 {
@@ -61,7 +61,7 @@ fn push_bad_fact_of_report(out: &mut String, id: &str, fault: Trouble) -> Result
     out.push_str("]")
 }
 
-/// The reply to a report that is refused. Want of memory is no reply.
+/// The reply to a report that is refused. Out of memory is no reply.
 pub fn bad_report_reply(alloc: Global, fault: &ReportFault) -> Result<String, AllocError>
     ensures { IfOk result (λ text. Some (string_bytes text) ≡ option_map bad_report_text (report_fault fault.now)) }
 {

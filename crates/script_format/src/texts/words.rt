@@ -43,7 +43,7 @@ fn fact_fault_word(fault: FactFault) -> &'static str
     }
 }
 
-/// The word of the fault in it. Want of memory has none.
+/// The word of the fault in it. Out of memory has none.
 pub fn trouble_word(fault: Trouble) -> &'static str
     ensures { result.now ≡ trouble_word fault }
 {

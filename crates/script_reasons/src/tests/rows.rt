@@ -1,9 +1,9 @@
-//! Lines that were refused, each with its reply and what is told of it; at the end, some that were answered.
+//! Lines that were refused, each with its reply and what is reported about it; at the end, some that were answered.
 
 /// The numeric table of the rows.
 pub(super) const TABLE: &str = "http://e.org/t Assets\n";
 
-/// A line behind `>`, its reply behind `<`, and what is told.
+/// A line behind `>`, its reply behind `<`, and what is reported.
 pub(super) const ROWS: &str = r#"> ["commit","s1"
 < ["bad-line"]
 line 7, column 15: not JSON: expected "," or "]", found the end
