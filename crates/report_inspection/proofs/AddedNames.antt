@@ -25,14 +25,14 @@ one_added k before after h name =
     h.0 (behind name) ∙ either (text_eq k.now name) (has_name before name) ∙ ap (λ b. has_name before name || b) (text_eq-sym k.now name)
 
 -- a name that was seen
-seen_turn : (r s e h d : Bool) → (e ≡ true → s ≡ true) → ((r || e) || ((s && h) || d)) ≡ (r || ((s && (e || h)) || ((e && h) || d)))
+pub seen_turn : (r s e h d : Bool) → (e ≡ true → s ≡ true) → ((r || e) || ((s && h) || d)) ≡ (r || ((s && (e || h)) || ((e && h) || d)))
 seen_turn true s e h d is = refl
 seen_turn false s false h d is = refl
 seen_turn false true true h d is = refl
 seen_turn false false true h d is = absurd (true≢false (sym (is refl)))
 
 -- a name that is new
-new_turn : (r s e h d : Bool) → (e ≡ true → s ≡ false) → (r || (((s || e) && h) || d)) ≡ (r || ((s && (e || h)) || ((e && h) || d)))
+pub new_turn : (r s e h d : Bool) → (e ≡ true → s ≡ false) → (r || (((s || e) && h) || d)) ≡ (r || ((s && (e || h)) || ((e && h) || d)))
 new_turn true s e h d is = refl
 new_turn false true false h d is = refl
 new_turn false false false h d is = refl

@@ -35,7 +35,7 @@ pub all_more : {X : Type 0} (P : X → Type 0) (xs ys : List X) → AllByRecursi
 all_more P [] ys h k = k
 all_more P (x ∷ xs) ys (h, hs) k = (h, all_more P xs ys hs k)
 
-all_mapped : {X : Type 0} (P Q : X → Type 0) → ((x : X) → P x → Q x) → (xs : List X) → AllByRecursion P xs → AllByRecursion Q xs
+pub all_mapped : {X : Type 0} (P Q : X → Type 0) → ((x : X) → P x → Q x) → (xs : List X) → AllByRecursion P xs → AllByRecursion Q xs
 all_mapped P Q follows [] h = tt
 all_mapped P Q follows (x ∷ xs) (h, hs) = (follows x h, all_mapped P Q follows xs hs)
 

@@ -5,13 +5,16 @@ pub mod HeadParts
 pub mod TakenFacts
 -- ---- warnings
 pub mod AddedNames
+pub mod RepeatedNames
 pub mod KeptPlaces
 pub mod ToldWarnings
 -- ---- lines
 pub mod WrittenLines
 -- ---- the whole
 pub mod LoadedReports
+pub mod ToldReports
 -- ---- cells
 pub mod OrderedFacts
 pub mod CellRuns
+pub mod CrowdedFacts
 pub mod AllowedCells

@@ -3,6 +3,7 @@ pub mod EachFault
 -- ---- the cells of more than one fact
 pub mod Cells
 pub mod Runs
+pub mod Crowds
 -- ---- the whole
 pub mod Inspections
 pub mod Heads

@@ -9,6 +9,7 @@ ghost use Rattle.report_inspection.specs.Cells.{AreCells, are_allowed, cell_at, 
 ghost use Rattle.report_inspection.specs.Runs.{AreInOrder, HaveDims, IsRun, dims_in, run_length};
 
 use crate::cell::Cell;
+use crate::crowds::crowded;
 use filing_model::{Allowed, allows};
 use oim_fact::{Fact, class_of};
 use std::alloc::{AllocError, Global};
@@ -125,8 +126,8 @@ fn split_run<'a>(
     facts.split_at(run_len(facts, first))
 }
 
-/// The cells of more than one fact, in the order of their dimension sets.
-pub(crate) fn cells_of(
+/// The cells of more than one fact among these, in the order of their dimension sets.
+fn cells_in(
     alloc: Global,
     allowed: Allowed,
     facts: Vec<(String, Arc<Fact>)>,
@@ -142,6 +143,18 @@ pub(crate) fn cells_of(
         left = rest;
     }
     Ok(cells)
+}
+
+/// The cells of more than one fact, in the order of their dimension sets.
+pub(crate) fn cells_of(
+    alloc: Global,
+    allowed: Allowed,
+    facts: Vec<(String, Arc<Fact>)>,
+) -> Result<Vec<Cell>, AllocError>
+    ensures { IfOk result (λ v. AreCells allowed (facts_view facts.items) v.items) }
+{
+    let facts = crowded(alloc, facts)?;
+    cells_in(alloc, allowed, facts)
 }
 
 /// Whether each cell may stand in the report.

@@ -19,6 +19,12 @@ struct FirstFacts<'a> {
     with_number: Option<&'a str>,
 }
 
+/// None yet.
+const NO_FACTS: FirstFacts<'static> = FirstFacts {
+    with_unit: None,
+    with_number: None,
+};
+
 /// The concepts of facts, in byte order of their URIs and local names.
 #[derive(Drop)]
 struct Concepts<'n, 'a> {
@@ -44,12 +50,15 @@ fn expanded<'n, 'a>(names: &'n Names, concept: &'a str) -> Option<(&'n str, &'a 
     Some((names.uri(prefix)?, local))
 }
 
-/// The first fact, where there was one; else this one, where it counts.
-fn first_of<'a>(first: Option<&'a str>, id: &'a str, counts: bool) -> Option<&'a str> {
-    if first.is_none() && counts {
-        Some(id)
-    } else {
-        first
+impl<'a> FirstFacts<'a> {
+    /// Takes the fact under this identifier, where it is the first of its kind.
+    fn take(&mut self, id: &'a str, fact: &json::Value<'a>) {
+        if self.with_unit.is_none() && dimension(fact, "unit").is_some() {
+            self.with_unit = Some(id);
+        }
+        if self.with_number.is_none() && has_number(fact) {
+            self.with_number = Some(id);
+        }
     }
 }
 
@@ -92,39 +101,6 @@ fn warn_of_unit(
 }
 
 impl<'n, 'a> Concepts<'n, 'a> {
-    /// The first facts of a concept, which may have none.
-    fn first_facts(&self, uri: &'n str, local: &'a str) -> FirstFacts<'a> {
-        match self.facts.get(&(uri, local)) {
-            Some(facts) => *facts,
-            None => FirstFacts {
-                with_unit: None,
-                with_number: None,
-            },
-        }
-    }
-
-    /// Takes the concept of the fact under this identifier.
-    fn take(
-        &mut self,
-        names: &'n Names,
-        id: &'a str,
-        fact: &json::Value<'a>,
-    ) -> Result<(), AllocError> {
-        let Some(concept) = dimension(fact, "concept") else {
-            return Ok(());
-        };
-        let Some((uri, local)) = expanded(names, concept) else {
-            return Ok(());
-        };
-        let first = self.first_facts(uri, local);
-        let facts = FirstFacts {
-            with_unit: first_of(first.with_unit, id, dimension(fact, "unit").is_some()),
-            with_number: first_of(first.with_number, id, has_number(fact)),
-        };
-        drop(self.facts.insert((uri, local), facts)?);
-        Ok(())
-    }
-
     /// Warns of each concept that has a unit and that the table lacks.
     #[tactic(auto, using(crate::proofs::ToldWarnings::no_concept, crate::proofs::ToldWarnings::more_concepts))]
     fn warn_of_units(
@@ -223,7 +199,21 @@ impl<'n, 'a> Concepts<'n, 'a> {
     }
 }
 
-/// The concepts of these facts.
+/// The first facts of each concept of these facts, by its name as it is written.
+fn written_concepts<'a>(
+    alloc: Global,
+    facts: &BTreeMap<&'a str, &json::Value<'a>>,
+) -> Result<BTreeMap<&'a str, FirstFacts<'a>>, AllocError> {
+    let mut concepts = BTreeMap::new(alloc);
+    for (id, fact) in facts {
+        if let Some(concept) = dimension(fact, "concept") {
+            concepts.entry(concept)?.or_insert(NO_FACTS).take(id, fact);
+        }
+    }
+    Ok(concepts)
+}
+
+/// The concepts of these facts. A concept is written in one way, since no URI has two prefixes.
 fn concepts_of<'n, 'a>(
     alloc: Global,
     names: &'n Names,
@@ -232,8 +222,10 @@ fn concepts_of<'n, 'a>(
     let mut concepts = Concepts {
         facts: BTreeMap::new(alloc),
     };
-    for (id, fact) in facts {
-        concepts.take(names, id, fact)?;
+    for (concept, first) in written_concepts(alloc, facts)? {
+        if let Some(name) = expanded(names, concept) {
+            drop(concepts.facts.insert(name, first)?);
+        }
     }
     Ok(concepts)
 }

@@ -13,10 +13,11 @@ ghost use Rattle.filing_model.specs.Reading.ReadReport.{WrongShape};
 ghost use Rattle.serde_json.specs.View.{view};
 ghost use Rattle.oim_report.specs.Borrowed.{IsInRange, are_in_range, data_of, members_at, read_object};
 ghost use Rattle.oim_report.specs.Readings.{same};
-ghost use Rattle.report_inspection.specs.EachFault.{fact_judged, fact_members, member_fact, member_faults, members_of};
+ghost use Rattle.report_inspection.specs.EachFault.{fact_judged, fact_members, member_fact, member_faults, members_of, shape_fault};
 ghost use Rattle.report_inspection.specs.Found.{Takes, TakesEach, TakesFacts, places_behind};
 ghost use Rattle.report_inspection.specs.Inspections.{AddsFaults, TellsFault};
-ghost use Rattle.report_inspection.specs.KeptFacts.{kept_of, members_seen};
+ghost use Rattle.report_inspection.specs.KeptFacts.{AreKept, kept_of, members_seen};
+ghost use Rattle.report_inspection.specs.Warnings.{kept_facts, kept_in};
 
 use crate::fault::{Fault, push_told};
 use filing_model::Trouble;
@@ -109,7 +110,7 @@ impl Found {
 }
 
 /// The members in byte order of their names, of which the last of a name stays.
-pub(crate) fn in_order<'a, 'b>(
+fn in_order<'a, 'b>(
     alloc: Global,
     members: &'b Vec<(&'a str, json::Value<'a>)>,
 ) -> Result<BTreeMap<&'a str, &'b json::Value<'a>>, AllocError>
@@ -126,28 +127,8 @@ pub(crate) fn in_order<'a, 'b>(
     Ok(places)
 }
 
-/// Takes each fact of these members, and counts them.
-fn take_members<'a>(
-    alloc: Global,
-    found: &mut Found,
-    names: &Option<Names>,
-    members: &Vec<(&'a str, json::Value<'a>)>,
-) -> Result<u64, AllocError>
-    requires { IsTrue (is_some (of_members (read_members members.now.items) no_members)) }
-    ensures count { IfOk result (λ n. n ≡ length (pairs (unwrap_or (of_members (read_members members.now.items) no_members) no_members))) }
-    ensures takes { OnOk result (TakesEach names.now
-        (pairs (unwrap_or (of_members (read_members members.now.items) no_members) no_members)) found.old found.new) }
-{
-    let places = in_order(alloc, members)?;
-    let count = places.len() as u64;
-    for (id, value) in places {
-        found.take(alloc, names, id, value)?;
-    }
-    Ok(count)
-}
-
 /// What stands at this name.
-pub(crate) fn part_of<'a, 'b>(value: &'b json::Value<'a>, name: &str) -> Option<&'b json::Value<'a>>
+fn part_of<'a, 'b>(value: &'b json::Value<'a>, name: &str) -> Option<&'b json::Value<'a>>
     requires { IsInRange value.now }
     ensures data { option_map (λ v. data_of v.now) result ≡ get name.now (data_of value.now) }
     ensures range { IfSome result (λ v. IsInRange v.now) }
@@ -157,9 +138,7 @@ pub(crate) fn part_of<'a, 'b>(value: &'b json::Value<'a>, name: &str) -> Option<
 }
 
 /// The members of an object as they were read.
-pub(crate) fn members_in<'a, 'b>(
-    value: &'b json::Value<'a>,
-) -> Option<&'b Vec<(&'a str, json::Value<'a>)>>
+fn members_in<'a, 'b>(value: &'b json::Value<'a>) -> Option<&'b Vec<(&'a str, json::Value<'a>)>>
     ensures { option_map (λ v. read_members v.now.items) result ≡ read_object (value_view value.now) }
 {
     match value {
@@ -180,37 +159,88 @@ fn tell_shape(alloc: Global, found: &mut Found, facts: &json::Value<'_>) -> Resu
     push_told(alloc, &mut found.faults, ReportFault::WrongShape, told)
 }
 
-/// Takes each fact of what stands at `facts`, and counts them; tells that it is no object.
-fn take_value(
+/// The members of an object, as a reading keeps them.
+fn kept_in<'a, 'b>(
+    alloc: Global,
+    facts: &'b json::Value<'a>,
+) -> Result<BTreeMap<&'a str, &'b json::Value<'a>>, AllocError>
+    requires { IsInRange facts.now }
+    ensures { IfOk result (λ m. AreKept (Some (data_of facts.now)) (kept_in (value_view facts.now)) m.entries) }
+{
+    match members_in(facts) {
+        Some(members) => in_order(alloc, members),
+        None => Ok(BTreeMap::new(alloc)),
+    }
+}
+
+/// The facts that a reading keeps, in byte order of the identifiers.
+pub(crate) fn kept_facts<'a, 'b>(
+    alloc: Global,
+    report: &'b json::Value<'a>,
+) -> Result<BTreeMap<&'a str, &'b json::Value<'a>>, AllocError>
+    requires { IsInRange report.now }
+    ensures { IfOk result (λ m. AreKept (get (codes "facts") (data_of report.now)) (kept_facts (value_view report.now)) m.entries) }
+{
+    match part_of(report, "facts") {
+        Some(facts) => kept_in(alloc, facts),
+        None => Ok(BTreeMap::new(alloc)),
+    }
+}
+
+/// How many facts are kept.
+#[tactic(auto, using(crate::proofs::TakenFacts::count_behind))]
+fn count_of(kept: &BTreeMap<&str, &json::Value<'_>>) -> u64
+    ensures { result ≡ length (pairs (members_at (places_behind kept.now.entries))) }
+{
+    kept.len() as u64
+}
+
+/// Reports `facts` that is no object.
+fn check_shape(alloc: Global, found: &mut Found, report: &json::Value<'_>) -> Result<(), AllocError>
+    requires { IsInRange report.now }
+    ensures faults { OnOk result (AddsFaults (shape_fault (get (codes "facts") (data_of report.now)))
+        found.old.faults.items found.new.faults.items) }
+    ensures facts { OnOk result (found.new.facts ≡ found.old.facts) }
+{
+    let Some(facts) = part_of(report, "facts") else {
+        return Ok(());
+    };
+    if members_in(facts).is_some() {
+        return Ok(());
+    }
+    tell_shape(alloc, found, facts)
+}
+
+/// Takes each of these facts.
+fn take_members(
     alloc: Global,
     found: &mut Found,
     names: &Option<Names>,
-    facts: &json::Value<'_>,
-) -> Result<u64, AllocError>
-    requires { IsInRange facts.now }
-    ensures count { IfOk result (λ n. n ≡ length (members_of (Some (data_of facts.now)))) }
-    ensures takes { OnOk result (TakesFacts names.now (Some (data_of facts.now)) found.old found.new) }
+    kept: &BTreeMap<&str, &json::Value<'_>>,
+) -> Result<(), AllocError>
+    requires { IsTrue (are_in_range (places_behind kept.now.entries)) }
+    ensures { OnOk result (TakesEach names.now (pairs (members_at (places_behind kept.now.entries))) found.old found.new) }
 {
-    let Some(members) = members_in(facts) else {
-        tell_shape(alloc, found, facts)?;
-        return Ok(0);
-    };
-    take_members(alloc, found, names, members)
+    for (id, value) in kept {
+        found.take(alloc, names, id, value)?;
+    }
+    Ok(())
 }
 
-/// Takes each fact of a report, and counts them; tells that `facts` is no object.
+/// Takes each fact of a report, of which these are kept, and counts them; reports `facts` that is no object.
 pub(crate) fn take_facts(
     alloc: Global,
     found: &mut Found,
     names: &Option<Names>,
-    value: &json::Value<'_>,
+    report: &json::Value<'_>,
+    kept: &BTreeMap<&str, &json::Value<'_>>,
 ) -> Result<u64, AllocError>
-    requires { IsInRange value.now }
-    ensures count { IfOk result (λ n. n ≡ length (fact_members (data_of value.now))) }
-    ensures takes { OnOk result (TakesFacts names.now (get (codes "facts") (data_of value.now)) found.old found.new) }
+    requires range { IsInRange report.now }
+    requires kept { AreKept (get (codes "facts") (data_of report.now)) (kept_facts (value_view report.now)) kept.now.entries }
+    ensures count { IfOk result (λ n. n ≡ length (fact_members (data_of report.now))) }
+    ensures takes { OnOk result (TakesFacts names.now (get (codes "facts") (data_of report.now)) found.old found.new) }
 {
-    match part_of(value, "facts") {
-        None => Ok(0),
-        Some(facts) => take_value(alloc, found, names, facts),
-    }
+    check_shape(alloc, found, report)?;
+    take_members(alloc, found, names, kept)?;
+    Ok(count_of(kept))
 }

@@ -12,7 +12,7 @@ ghost use Rattle.report_inspection.specs.Warnings.{AreOf, told};
 
 use crate::cell::Cell;
 use crate::cells::{are_allowed, cells_of};
-use crate::facts::{Found, take_facts};
+use crate::facts::{Found, kept_facts, take_facts};
 use crate::fault::{Fault, push_told};
 use crate::info::{Head, head_in};
 use crate::warning::Warning;
@@ -93,10 +93,11 @@ fn inspect_value(
         facts: Vec::new(alloc),
         faults,
     };
-    let count = take_facts(alloc, &mut found, &names, value)?;
+    let kept = kept_facts(alloc, value)?;
+    let count = take_facts(alloc, &mut found, &names, value, &kept)?;
+    let warnings = warnings_of(alloc, value, &kept, &names, table)?;
     let Found { facts, faults } = found;
     let cells = cells_of(alloc, asked.unwrap_or(allowed), facts)?;
-    let warnings = warnings_of(alloc, value, &names, table)?;
     let would_load = faults.is_empty() && are_allowed(&cells);
     Ok(Inspection {
         facts: count,

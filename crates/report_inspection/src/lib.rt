@@ -6,6 +6,7 @@
 //! - `facts`: each fact by itself.
 //! - `cell`: a cell as it is reported.
 //! - `cells`: the cells of more than one fact.
+//! - `crowds`: the facts that may share a cell.
 //! - `warning`: what is no fault, and may be meant otherwise.
 //! - `warnings`: all that is warned of in a report.
 //! - `part_names`: the names that are warned of in a report, and in one fact.
@@ -23,6 +24,7 @@
 mod cell;
 mod cells;
 mod concepts;
+mod crowds;
 mod facts;
 mod fault;
 mod fault_laws;

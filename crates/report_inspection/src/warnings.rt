@@ -2,13 +2,11 @@
 
 ghost use Rattle.std.specs.Prelude.{◌≡◌, ◌++◌, map, IfOk, OnOk, Some, option_map};
 ghost use Rattle.json.specs.Value.{value_view};
-ghost use Rattle.oim_report.specs.Borrowed.{IsInRange};
 ghost use Rattle.report_inspection.specs.KeptFacts.{members_seen};
 ghost use Rattle.report_inspection.specs.MemberNames.{has_name};
-ghost use Rattle.report_inspection.specs.Warnings.{AreOf, AreOfFact, AreOfFacts, AreOfNames, AreOfReport, Tells, has_idle_decimals, kept_facts, kept_in, of_decimals, told};
+ghost use Rattle.report_inspection.specs.Warnings.{AreOf, AreOfFact, AreOfFacts, AreOfNames, AreOfReport, Tells, has_idle_decimals, kept_facts, of_decimals, told};
 
 use crate::concepts::warn_of_concepts;
-use crate::facts::{in_order, members_in, part_of};
 use crate::part_names::{repeated_in_fact, repeated_in_report, unknown_in_fact, unknown_in_report};
 use crate::warning::{Warning, WarningKind, push_warned};
 use oim_fact::{Names, NumericTable};
@@ -106,48 +104,20 @@ fn warn_of_facts(
     Ok(())
 }
 
-/// The facts of an object.
-fn kept_in<'a, 'b>(
-    alloc: Global,
-    facts: &'b json::Value<'a>,
-) -> Result<BTreeMap<&'a str, &'b json::Value<'a>>, AllocError>
-    requires { IsInRange facts.now }
-    ensures { IfOk result (λ m. members_seen m.entries ≡ kept_in (value_view facts.now)) }
-{
-    match members_in(facts) {
-        Some(members) => in_order(alloc, members),
-        None => Ok(BTreeMap::new(alloc)),
-    }
-}
-
-/// The facts that a reading keeps, in byte order of the identifiers.
-fn kept_facts<'a, 'b>(
-    alloc: Global,
-    report: &'b json::Value<'a>,
-) -> Result<BTreeMap<&'a str, &'b json::Value<'a>>, AllocError>
-    requires { IsInRange report.now }
-    ensures { IfOk result (λ m. members_seen m.entries ≡ kept_facts (value_view report.now)) }
-{
-    match part_of(report, "facts") {
-        Some(facts) => kept_in(alloc, facts),
-        None => Ok(BTreeMap::new(alloc)),
-    }
-}
-
-/// What is warned of in a report, by its names where they are known.
-pub(crate) fn warnings_of(
+/// What is warned of in a report, of whose facts these are kept, by its names where they are known.
+pub(crate) fn warnings_of<'a>(
     alloc: Global,
     report: &json::Value<'_>,
+    kept: &BTreeMap<&'a str, &json::Value<'a>>,
     names: &Option<Names>,
     table: &NumericTable,
 ) -> Result<Vec<Warning>, AllocError>
-    requires { IsInRange report.now }
+    requires { members_seen kept.now.entries ≡ kept_facts (value_view report.now) }
     ensures { IfOk result (λ v. AreOf (value_view report.now) (map told v.items)) }
 {
     let mut warnings = Vec::new(alloc);
     warn_of_report(alloc, &mut warnings, report)?;
-    let facts = kept_facts(alloc, report)?;
-    warn_of_facts(alloc, &mut warnings, &facts)?;
-    warn_of_concepts(alloc, &mut warnings, report, &facts, names, table)?;
+    warn_of_facts(alloc, &mut warnings, kept)?;
+    warn_of_concepts(alloc, &mut warnings, report, kept, names, table)?;
     Ok(warnings)
 }

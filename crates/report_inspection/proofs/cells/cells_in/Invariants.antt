@@ -1,7 +1,7 @@
 use Rattle.std.proofs.Common.{length}
 use Rattle.oim_report.specs.Parts.{facts_view}
 use Rattle.report_inspection.proofs.CellRuns.{Walked}
-use Rattle.report_inspection.proofs.cells.cells_of.Given as goal
+use Rattle.report_inspection.proofs.cells.cells_in.Given as goal
 
 -- the cells of what was walked over are told
 abbrev pub invariant-loop-left : goal.invariant-loop-left
