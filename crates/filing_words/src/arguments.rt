@@ -79,7 +79,7 @@ pub(crate) fn explain_flag<'a>(alloc: Global) -> Arg<'a>
 {
     Arg::new(alloc, "explain")
         .long("explain")
-        .help("Tells on standard error why, line by line")
+        .help("Says on standard error why, line by line")
         .action(ArgAction::SetTrue)
 }
 

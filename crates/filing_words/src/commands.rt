@@ -79,7 +79,7 @@ fn show_command<'a>(alloc: Global) -> Result<Command<'a>, AllocError>
 fn diff_command<'a>(alloc: Global) -> Result<Command<'a>, AllocError>
     ensures { IfOk result (λ c. app_of c ≡ diff) }
 {
-    let about = "Tells what differs between two versions of a history";
+    let about = "Prints what differs between two versions of a history";
     command_of(alloc, "diff", about, DIFFERENCES, viewed_argument(alloc))?
         .arg(earlier_argument(alloc))?
         .arg(later_argument(alloc))?
@@ -90,7 +90,7 @@ fn diff_command<'a>(alloc: Global) -> Result<Command<'a>, AllocError>
 fn log_command<'a>(alloc: Global) -> Result<Command<'a>, AllocError>
     ensures { IfOk result (λ c. app_of c ≡ log) }
 {
-    let about = "Tells of each session of a history, and of who met whom";
+    let about = "Prints each session of a history, and who met whom";
     command_of(alloc, "log", about, SESSIONS, viewed_argument(alloc))?
         .arg(svg_flag(alloc))?
         .arg(first_option(alloc))
@@ -100,7 +100,7 @@ fn log_command<'a>(alloc: Global) -> Result<Command<'a>, AllocError>
 fn inspect_command<'a>(alloc: Global) -> Result<Command<'a>, AllocError>
     ensures { IfOk result (λ c. app_of c ≡ inspect) }
 {
-    let about = "Tells every fault and every duplicate of reports in files";
+    let about = "Prints every fault and every duplicate of reports in files";
     command_of(
         alloc,
         "inspect",
@@ -130,7 +130,7 @@ fn words_command<'a>(alloc: Global) -> Command<'a>
     ensures { app_of result ≡ words }
 {
     Command::new(alloc, "words")
-        .about("Tells the words by which lines are refused")
+        .about("Prints the words of refusals, each with its meaning")
         .after_long_help(REFUSALS)
 }
 

@@ -25,8 +25,8 @@ a line was malformed or out of place."#;
 /// Every line by an example, and how reports and replies go in and out.
 pub(crate) const LINES: &str =
     r#"Each line of the script is a JSON array and gets one reply line, in the same
-order. Blank lines get none. r1 and f1 stand for the names of a report and of a
-fact, s1 and v1 for names that you give to sessions.
+order. Blank lines get none. r1 and f1 are the names of a report and of a fact,
+s1 and v1 are names that you give to sessions.
 
 A report goes in, and comes out as it is now:
   ["load","r1",REPORT]        REPORT is an object in xBRL-JSON 1.0, or a JSON
@@ -92,20 +92,21 @@ again, by jq:
 Without --numeric no concept is numeric, and a fact with a unit is refused as
 misplaced.
 
-A journal is a file from which a run goes on, and in which it keeps its steps. A
-load or a commit that passed is told once it is in the file, on the disk; with
---every-reply so is every reply. Where the run was cut short, the file has at
-least what was told. One process at a time has it open, and the numeric table
-has to be the same each time. `filing check` judges it as any history.
+A journal is a file from which a run goes on, and in which it keeps its steps.
+The reply to a load or a commit that passed is written once it is in the file,
+on the disk; with --every-reply so is every reply. Where the run was cut short,
+the file has at least what was answered. One process at a time has it open, and
+the numeric table has to be the same each time. `filing check` judges it as any
+history.
 
-A history is gone on from by
+To go on from a history:
   filing run --from old.jsonl --history new.jsonl < script.jsonl
 which leaves old.jsonl as it is, and writes the whole history to new.jsonl.
 
 The file of --history grows beside its place while the script runs, and takes it
 once the script has ended without fault. A file that is there is replaced, with
-its rights, and a link is followed. A path that will not do is told at once,
-before the script is read, and is a fault at the end.
+its rights, and a link is followed. A path that will not do is a warning before
+the script is read, and a fault at the end.
 
 With --explain, and on a terminal always, standard error has a reason for each
 line that was refused, how many were, and which sessions were never ended. With
@@ -120,12 +121,12 @@ its reply:
   [1,["open","amend"],["opened"]]
   [1,["get","r1","f1"],["none"]]
 
-It is lawful where each reply is the one that the steps before it admit. One
-line tells the verdict:
+It is lawful where each reply is the one that the steps before it admit. The
+verdict is one line:
   ["lawful"]         status 0
   ["departs",2]      status 4: it departs at the third line, blank lines aside.
                      Another reply is due there, or its session is not open, or
-                     the line stands for no step
+                     the line is no step
 
 With --explain, and on a terminal always, standard error has the number of the
 entries and the version that they make, or why the history departs.
