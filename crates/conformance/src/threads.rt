@@ -1,10 +1,11 @@
 //! Runs worked scripts in threads, and compares their replies with what is written beside them; and draws scripts, and looks for a schedule of their steps that explains their replies.
 //!
-//! `runs` runs scripts in threads, and `judge` looks for a schedule that explains replies. The search knows nothing of threads.
+//! `runs` runs scripts in threads, `kept` runs some with a journal, and `judge` looks for a schedule that explains replies. The search knows nothing of threads.
 
 ghost use Rattle.std.specs.Prelude.{◌<◌, ◌≤◌, length};
 
 mod judge;
+mod kept;
 mod runs;
 
 use crate::draft::Draft;
@@ -13,6 +14,7 @@ use crate::pool::Pool;
 use crate::sheet::{Answers, Seen, Sheet, compare_rows, read_sheets};
 use anyhow::{Result, anyhow};
 use judge::{Finding, explanation};
+use kept::compare_kept;
 use oim_fact::NumericTable;
 use runs::{replies_in_threads, without_numbers};
 use std::alloc::Global;
@@ -153,6 +155,7 @@ pub(crate) fn compare_threads<R: Print + AllocGlobal + Files + Threads + Wait + 
     compare_in_threads(rt, table, "threads")?;
     compare_in_threads(rt, table, "long_threads")?;
     compare_rows(rt, "judged_threads", &Judging { table })?;
+    compare_kept(rt, table)?;
     let pool = Pool::read(rt.alloc(), &lines)?;
     try_sets(rt, table, &pool, seed, sets)
 }
