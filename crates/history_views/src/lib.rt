@@ -27,8 +27,6 @@ mod report;
 mod session_log;
 mod shown;
 mod sought;
-#[cfg(test)]
-mod tests;
 mod view;
 mod viewed;
 mod viewer;

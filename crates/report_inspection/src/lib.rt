@@ -35,8 +35,6 @@ mod lines;
 mod part_names;
 mod plain;
 mod repeats;
-#[cfg(test)]
-mod tests;
 mod warning;
 mod warnings;
 mod words;

@@ -35,8 +35,6 @@ mod refusal_laws;
 mod reports;
 mod shown;
 mod states;
-#[cfg(test)]
-mod tests;
 mod told;
 
 pub use bad_line::reading_stop;

@@ -1,5 +1,5 @@
 -- The counts of each device are shares of the ledger that its blank becomes.
-use Rattle.history_views.proofs.tests.answer.Given as goal
+use Rattle.worked_examples.proofs.histories.answer.Given as goal
 
 abbrev pub ghosts-answer_by-L-Ledger : goal.ghosts-answer_by-L-Ledger
 ghosts-answer_by-L-Ledger a = record { name = a.source_blank.name; parts = a.source_blank.parts }

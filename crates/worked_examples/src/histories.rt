@@ -1,20 +1,22 @@
-//! What is seen of worked histories: a table.
+//! What is seen of worked histories.
+//!
+//! Lines of a history stand behind `| `, and a title begins another. A question stands behind `? `: `diff FROM TO [REPORT]`, `show [NUMBER [REPORT]]`, `log` or `svg`.
 
 ghost use Rattle.std.specs.Prelude.{◌≡◌, ◌≤◌, ◌<◌};
 
-mod rows;
-
-use super::*;
+use crate::rows::show_title;
+use anyhow::{Result, anyhow};
 use filing_cli::{MemoryIn, MemoryOut, ScriptFault, Sink, Source};
 use filing_core::Verdict;
+use history_views::{
+    Shown, difference_of_history, listing_of_history, log_of_history, version_of_history,
+};
 use oim_fact::NumericTable;
-use rows::ROWS;
 use std::alloc::{AllocError, Global};
 use std::marker::Brand;
 use std::str;
 use std::sync::Arc;
 use std::sync::ledger::{Blank, Ledger};
-use std::test::Fail;
 
 // So many bytes are read, or written, at once.
 const PIECE: usize = 100;
@@ -67,6 +69,57 @@ fn question_in(row: &str) -> Option<Question<'_>> {
     }
 }
 
+/// Writes what differs between two versions.
+fn write_difference<R: Source, W: Sink>(
+    alloc: Global,
+    source: &mut R,
+    sink: &mut W,
+    table: &Arc<NumericTable>,
+    versions: (u64, u64),
+    report: Option<&str>,
+) -> Result<(Verdict, Shown), ScriptFault> {
+    let found = difference_of_history(alloc, source, table, versions.0, versions.1, report)?;
+    let shown = found.write(sink);
+    Ok((found.verdict, shown?))
+}
+
+/// Writes a report of a version, or the list of its reports.
+fn write_version<R: Source, W: Sink>(
+    alloc: Global,
+    source: &mut R,
+    sink: &mut W,
+    table: &Arc<NumericTable>,
+    number: Option<u64>,
+    report: Option<&str>,
+) -> Result<(Verdict, Shown), ScriptFault> {
+    let Some(name) = report else {
+        let found = listing_of_history(alloc, source, table, number)?;
+        let shown = found.write(sink);
+        return Ok((found.verdict, shown?));
+    };
+    let found = version_of_history(alloc, source, table, number)?;
+    let shown = found.write_report(alloc, sink, name);
+    Ok((found.verdict, shown?))
+}
+
+/// Writes the sessions of a history, or their picture.
+fn write_sessions<R: Source, W: Sink>(
+    alloc: Global,
+    source: &mut R,
+    sink: &mut W,
+    table: &Arc<NumericTable>,
+    drawn: bool,
+) -> Result<(Verdict, Shown), ScriptFault> {
+    let found = log_of_history(alloc, source, table)?;
+    let written = if drawn {
+        found.write_picture(alloc, 1, sink)
+    } else {
+        found.write(alloc, sink)
+    };
+    written?;
+    Ok((found.verdict, Shown::Written))
+}
+
 /// Writes what a history answers, and gives its verdict.
 fn answer_to<R: Source, W: Sink>(
     alloc: Global,
@@ -79,38 +132,13 @@ fn answer_to<R: Source, W: Sink>(
     };
     match question {
         Question::Difference { from, to, report } => {
-            let found = difference_of_history(alloc, source, &table, from, to, report)?;
-            let shown = found.write(sink);
-            Ok((found.verdict, shown?))
+            write_difference(alloc, source, sink, &table, (from, to), report)
         }
-        Question::Version {
-            number,
-            report: Some(name),
-        } => {
-            let found = version_of_history(alloc, source, &table, number)?;
-            let shown = found.write_report(alloc, sink, name);
-            Ok((found.verdict, shown?))
+        Question::Version { number, report } => {
+            write_version(alloc, source, sink, &table, number, report)
         }
-        Question::Version {
-            number,
-            report: None,
-        } => {
-            let found = listing_of_history(alloc, source, &table, number)?;
-            let shown = found.write(sink);
-            Ok((found.verdict, shown?))
-        }
-        Question::Sessions => {
-            let found = log_of_history(alloc, source, &table)?;
-            let written = found.write(alloc, sink);
-            written?;
-            Ok((found.verdict, Shown::Written))
-        }
-        Question::Picture => {
-            let found = log_of_history(alloc, source, &table)?;
-            let written = found.write_picture(alloc, 1, sink);
-            written?;
-            Ok((found.verdict, Shown::Written))
-        }
+        Question::Sessions => write_sessions(alloc, source, sink, &table, false),
+        Question::Picture => write_sessions(alloc, source, sink, &table, true),
     }
 }
 
@@ -126,7 +154,7 @@ fn answer_by<L: Ledger, K: Ledger>(
     question: Question<'_>,
     source_blank: Blank,
     sink_blank: Blank,
-) -> Result<String, Fail>
+) -> Result<String>
     requires source_name { source_blank.name ≡ L.name }
     requires source_parts { source_blank.parts ≡ L.parts }
     requires source_three { 3 ≤ source_blank.parts }
@@ -150,28 +178,37 @@ fn answer_by<L: Ledger, K: Ledger>(
 }
 
 /// The same, with ledgers of its own.
-fn answer(alloc: Global, history: &String, question: Question<'_>) -> Result<String, Fail> {
+fn answer(alloc: Global, history: &String, question: Question<'_>) -> Result<String> {
     answer_by::<Brand, Brand>(alloc, history, question, Blank::new(3), Blank::new(1))
 }
 
-/// The table as it is made anew: lines of a history are behind `|`, a row that begins with `#` says what comes, one with `?` asks, and below it is the answer.
-#[test]
-fn each_question_is_answered(rt: HostRuntime) -> Result<(), Fail> {
+/// Prints the answer to a question.
+fn show_answer(rt: &HostRuntime, history: &String, row: &str) -> Result<()> {
+    let Some(asked) = question_in(row) else {
+        return Err(anyhow!("no question: {row}"));
+    };
+    let told = answer(rt.alloc(), history, asked)?;
+    print!(rt; "{row}\n{told}")?;
+    Ok(())
+}
+
+/// Shows rows, and counts the questions.
+pub(crate) fn show_histories(rt: &HostRuntime, rows: &str) -> Result<u64> {
     let alloc = rt.alloc();
-    let mut rows = String::new(alloc);
+    let mut count = 0u64;
     let mut history = String::new(alloc);
-    for row in ROWS.lines() {
-        if row.starts_with("#") {
+    for row in rows.lines() {
+        if let Some(line) = row.strip_prefix("| ") {
+            history.push_str(line)?;
+            history.push_str("\n")?;
+            println!(rt; "{row}")?;
+        } else if row.starts_with("?") {
+            show_answer(rt, &history, row)?;
+            count = count.saturating_add(1);
+        } else {
+            show_title(rt, row)?;
             history = String::new(alloc);
-            rows.push_str(&format!(in alloc; "{row}\n")?)?;
-        } else if let Some(line) = row.strip_prefix("| ") {
-            history.push_str(&format!(in alloc; "{line}\n")?)?;
-            rows.push_str(&format!(in alloc; "{row}\n")?)?;
-        } else if let Some(asked) = question_in(row) {
-            let told = answer(alloc, &history, asked)?;
-            rows.push_str(&format!(in alloc; "{row}\n{told}")?)?;
         }
     }
-    assert_eq!(rt; rows.as_str(), ROWS);
-    Ok(())
+    Ok(count)
 }
