@@ -10,6 +10,7 @@
 //! - `compared_things`: whether two things are equal, and the hash of one.
 //! - `ordered_things`: how two things stand to each other.
 //! - `session_names`: the names that open sessions are given.
+//! - `keyed_name`: such a name as it is held.
 //!
 //! It knows nothing of how a step is answered: nothing of versions, of open sessions or of a core. Nor does it know JSON.
 #![tactic(auto)]
@@ -17,6 +18,7 @@
 mod call;
 mod compared_things;
 mod entry;
+mod keyed_name;
 mod limit;
 mod ordered_things;
 mod page_query;

@@ -3,14 +3,16 @@
 ghost use Rattle.std.specs.Prelude.{◌≡◌, None, option_copied, OnOk, OnErr};
 ghost use Rattle.filing_model.specs.Common.TextMap.{empty, get, insert, remove};
 
+use crate::keyed_name::KeyedName;
 use std::alloc::{AllocError, Global};
 use std::collections::BTreeMap;
 use std::marker::Model;
+use text_map::SoughtName;
 
 /// The names that open sessions are given, with the value of each. Contracts see a finite map from texts.
 #[derive(Drop)]
 pub struct SessionNames<V: Drop> {
-    by_name: BTreeMap<String, V>,
+    by_name: BTreeMap<KeyedName, V>,
 }
 
 impl<V: Drop> Model for SessionNames<V> {
@@ -39,7 +41,7 @@ impl<V: Drop> SessionNames<V> {
     pub fn get(&self, name: &str) -> Option<&V>
         ensures { option_copied result ≡ get self.now name.now }
     {
-        self.by_name.get(name)
+        self.by_name.get(&SoughtName::of(name))
     }
 
     /// Puts a name in use; one that is in use gets another value, and that takes no memory.
@@ -48,7 +50,7 @@ impl<V: Drop> SessionNames<V> {
         ensures err { OnErr result (self.new ≡ self.old) }
         ensures new { OnErr result (get self.old (string_bytes name) ≡ None) }
     {
-        self.by_name.insert(name, value)?;
+        self.by_name.insert(KeyedName::of(name), value)?;
         Ok(())
     }
 
@@ -57,6 +59,6 @@ impl<V: Drop> SessionNames<V> {
         ensures { self.new ≡ remove self.old name.now }
     {
         let _ = self.by_name.len();
-        self.by_name.remove(name);
+        self.by_name.remove(&SoughtName::of(name));
     }
 }

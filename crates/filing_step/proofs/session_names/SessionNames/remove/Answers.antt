@@ -7,5 +7,5 @@ use Rattle.filing_step.proofs.session_names.SessionNames.remove.Goals as goal
 pub returns : goal.returns
 returns g c =
     ap (λ es. keyed_map (λ v. v) es) c.remove.ensures.entries
-    ∙ keyed_map_remove_entry (λ v. v) c.self.inside.by_name.entries c.args.name.now c.len.ensures.ordered
-    ∙ ap (λ m. remove m c.args.name.now) c.self.view_is
+    ∙ keyed_map_remove_entry (λ v. v) c.self.inside.by_name.entries c.of.result c.len.ensures.ordered
+    ∙ (λ i. remove (c.self.view_is i) (c.of.ensures i))
