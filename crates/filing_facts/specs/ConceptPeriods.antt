@@ -9,6 +9,9 @@ pub record ConceptPeriod : Type 0 where
   pub concept : Text
   pub period : Option Text
 
+abbrev pub keys_of : Text → Option Text → ConceptPeriod
+keys_of concept period = record { concept = concept; period = period }
+
 -- this is the concept and the period of these dimensions
 pub record IsConceptPeriodOf (dims : Dims) (keys : ConceptPeriod) : Type 0 where
   pub concept : Some keys.concept ≡ concept_of dims

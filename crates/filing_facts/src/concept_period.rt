@@ -2,7 +2,7 @@
 ghost use Rattle.std.specs.Prelude.{◌≡◌, option_map, string_bytes, IfOk, IfSome, IsTrue};
 ghost use Rattle.std.specs.Arc.{arc_value};
 ghost use Rattle.filing_facts.specs.Hashes.{hash_of_concept, hash_of_period};
-ghost use Rattle.filing_facts.specs.ConceptPeriods.{IsConceptPeriodOf};
+ghost use Rattle.filing_facts.specs.ConceptPeriods.{IsConceptPeriodOf, keys_of};
 
 use crate::hashes::{hash_of_concept, hash_of_period};
 use filing_model::is_same_text;
@@ -37,14 +37,19 @@ impl Model for ConceptPeriod {
 }
 
 impl ConceptPeriod {
-    /// The concept and the period of these dimensions.
-    pub(crate) fn of(alloc: Global, dims: &DimSet) -> Result<ConceptPeriod, AllocError>
-        ensures { IfOk result (IsConceptPeriodOf dims.now) }
+    /// A concept and a period, or none. The hash is that of both.
+    fn of(
+        alloc: Global,
+        concept: &str,
+        period: Option<&str>,
+        of_period: u64,
+    ) -> Result<ConceptPeriod, AllocError>
+        requires { of_period ≡ hash_of_period concept.now (option_map (λ t. t.now) period) }
+        ensures { IfOk result (λ keys. keys ≡ keys_of concept.now (option_map (λ t. t.now) period.entry)) }
     {
-        let (concept, period) = (dims.concept(), dims.period());
         Ok(ConceptPeriod {
             of_concept: hash_of_concept(concept),
-            of_period: hash_of_period(concept, period),
+            of_period,
             concept: String::from_str(alloc, concept)?,
             period: own_text(alloc, period)?,
         })
@@ -74,36 +79,82 @@ impl ConceptPeriod {
         self.of_period
     }
 
-    /// Whether these dimensions have this concept and this period.
-    fn are_of(&self, dims: &DimSet) -> bool
-        ensures { IsTrue result → IsConceptPeriodOf dims.now self.now }
+    /// Whether this is the concept and the period.
+    fn are_of(&self, concept: &str, period: Option<&str>) -> bool
+        ensures { IsTrue result → self.now ≡ keys_of concept.now (option_map (λ t. t.now) period.entry) }
     {
-        is_same_text(self.concept(), dims.concept()) && are_same_texts(self.period(), dims.period())
+        is_same_text(self.concept(), concept) && are_same_texts(self.period(), period)
     }
 }
 
 /// The concepts with periods of facts so far, each of which is made once and then shared.
 #[derive(Drop)]
 pub struct KeyCache {
-    keys: BTreeMap<u64, Arc<ConceptPeriod>>,
+    /// The first stands in place, so that a fact by itself takes no map.
+    first: Option<Arc<ConceptPeriod>>,
+    others: BTreeMap<u64, Arc<ConceptPeriod>>,
 }
 
 impl KeyCache {
     /// An empty cache. It takes no memory.
     pub fn new(alloc: Global) -> KeyCache {
         KeyCache {
-            keys: BTreeMap::new(alloc),
+            first: None,
+            others: BTreeMap::new(alloc),
         }
     }
 
-    /// Another owner of what is under this hash, where it is of these dimensions.
-    fn met(&self, hash: u64, dims: &DimSet) -> Result<Option<Arc<ConceptPeriod>>, AllocError>
-        ensures { IfOk result (λ o. IfSome o (λ keys. IsConceptPeriodOf dims.now (arc_value keys))) }
+    /// What is kept under this hash.
+    fn kept(&self, hash: u64) -> Option<&Arc<ConceptPeriod>> {
+        match &self.first {
+            Some(first) if first.of_period() == hash => Some(first),
+            _ => self.others.get(&hash),
+        }
+    }
+
+    /// Another owner of what is under this hash, where it is this concept and this period.
+    fn met(
+        &self,
+        hash: u64,
+        concept: &str,
+        period: Option<&str>,
+    ) -> Result<Option<Arc<ConceptPeriod>>, AllocError>
+        ensures { IfOk result (λ o. IfSome o (λ keys. arc_value keys
+            ≡ keys_of concept.now (option_map (λ t. t.now) period.entry))) }
     {
-        match self.keys.get(&hash) {
-            Some(keys) if keys.are_of(dims) => Ok(Some(Arc::try_clone(keys)?)),
+        match self.kept(hash) {
+            Some(keys) if keys.are_of(concept, period) => Ok(Some(Arc::try_clone(keys)?)),
             _ => Ok(None),
         }
+    }
+
+    /// Keeps it under its hash.
+    fn keep(&mut self, hash: u64, keys: Arc<ConceptPeriod>) -> Result<(), AllocError> {
+        if self.first.is_none() {
+            self.first = Some(keys);
+            return Ok(());
+        }
+        self.others.insert(hash, keys)?;
+        Ok(())
+    }
+
+    /// A concept and a period, or none, shared with facts so far.
+    fn shared(
+        &mut self,
+        alloc: Global,
+        concept: &str,
+        period: Option<&str>,
+    ) -> Result<Arc<ConceptPeriod>, AllocError>
+        ensures { IfOk result (λ keys. arc_value keys ≡ keys_of concept.now (option_map (λ t. t.now) period.entry)) }
+    {
+        let hash = hash_of_period(concept, period);
+        if let Some(keys) = self.met(hash, concept, period)? {
+            return Ok(keys);
+        }
+        let keys = ConceptPeriod::of(alloc, concept, period, hash)?;
+        let keys = Arc::new(alloc, keys)?;
+        self.keep(hash, Arc::try_clone(&keys)?)?;
+        Ok(keys)
     }
 
     /// The concept and the period of these dimensions, shared with facts so far.
@@ -114,12 +165,6 @@ impl KeyCache {
     ) -> Result<Arc<ConceptPeriod>, AllocError>
         ensures { IfOk result (λ keys. IsConceptPeriodOf dims.now (arc_value keys)) }
     {
-        let hash = hash_of_period(dims.concept(), dims.period());
-        if let Some(keys) = self.met(hash, dims)? {
-            return Ok(keys);
-        }
-        let keys = Arc::new(alloc, ConceptPeriod::of(alloc, dims)?)?;
-        self.keys.insert(hash, Arc::try_clone(&keys)?)?;
-        Ok(keys)
+        self.shared(alloc, dims.concept(), dims.period())
     }
 }
