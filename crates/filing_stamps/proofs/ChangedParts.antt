@@ -12,7 +12,7 @@ use Rattle.sorted_pages.specs.Changes.{with_changes}
 use Rattle.filing_model.specs.Common.Text.{Text, text_cmp, text_eq}
 use Rattle.filing_model.specs.Oim.Dimensions.{Dims, dims_cmp, dims_eq, concept_of, period_of}
 use Rattle.filing_model.specs.Oim.Facts.{Fact}
-use Rattle.filing_model.specs.Sessions.Calls.{PeriodFilter, Any, Without, Exactly}
+use Rattle.filing_model.specs.Sessions.Calls.{PageQuery, PeriodFilter, Any, Without, Exactly}
 use Rattle.filing_model.specs.Oim.Duplicates.{has_dims}
 use Rattle.filing_model.specs.Sessions.Queries.{is_after, answers_query}
 use Rattle.filing_model.specs.Histories.Touches.{is_within}
@@ -21,7 +21,9 @@ use Rattle.text_map.specs.Heads.{name_key}
 use Rattle.filing_model.proofs.Oim.DimensionSets.{dims_cmp-total, dims_cmp-Equal, dims_same, nullable_Equal}
 use Rattle.filing_model.proofs.Common.Tests.{both_are_equal}
 use Rattle.filing_facts.specs.FactChanges.{FactChange, Part, Id, Cell, Range, is_touched, is_touched_by, stamped_by}
-use Rattle.filing_stamps.specs.Stamps.{Group, no_group, group_cmp, group_code, Stamp, stamp_cmp, stamps_of}
+use Rattle.filing_stamps.specs.declared.stamp.StampKind.{StampKind}
+use Rattle.filing_stamps.specs.declared.stamp.StampKind.TheVariants as kind
+use Rattle.filing_stamps.specs.Stamps.{Group, no_group, group_cmp, group_hash, code_of, stamp_code, Stamp, stamp_cmp, stamps_of}
 use Rattle.filing_stamps.specs.Stamps.{stamps_if_there, stamps_beside, stamps_of_change, stamps_of_changes}
 use Rattle.filing_stamps.specs.Stamps.{ArePuts, Between, is_upto}
 use Rattle.filing_stamps.specs.Stamps.{ids_side, among_side, part_among, stamp_in}
@@ -79,24 +81,29 @@ group_cmp-Equal g h e =
     periods (Some x) (Some y) e = ap Some (nullable_Equal x y e)
 
 -- groups that tie have one code, so the code decides nothing
-coded : (g h : Group) (r : Ordering)
-    → is_eq (ordering_then (nat_cmp (group_code g) (group_code h)) (ordering_then (group_cmp g h) r)) ≡ (is_eq (group_cmp g h) && is_eq r)
-coded g h r =
-    let codes : Ordering = nat_cmp (group_code g) (group_code h) in
+coded : (k : StampKind) (g h : Group) (r : Ordering)
+    → is_eq (ordering_then (nat_cmp (code_of k (group_hash g)) (code_of k (group_hash h))) (ordering_then (group_cmp g h) r))
+    ≡ (is_eq (group_cmp g h) && is_eq r)
+coded k g h r =
+    let codes : Ordering = nat_cmp (code_of k (group_hash g)) (code_of k (group_hash h)) in
     let groups : Ordering = group_cmp g h in
     sym (tied_then codes (ordering_then groups r)) ∙ ap (λ b. is_eq codes && b) (sym (tied_then groups r))
     ∙ implied (is_eq codes) (is_eq groups) (is_eq r) (λ e.
-    ap (λ k. is_eq (nat_cmp (group_code g) (group_code k))) (sym (group_cmp-Equal g h ((Equal-is groups).0 e)))
-    ∙ ap is_eq (tied_itself nat_cmp_total (group_code g)))
+    ap (λ m. is_eq (nat_cmp (code_of k (group_hash g)) (code_of k (group_hash m)))) (sym (group_cmp-Equal g h ((Equal-is groups).0 e)))
+    ∙ ap is_eq (tied_itself nat_cmp_total (code_of k (group_hash g))))
 
--- names that tie have one key
-named : (id x : Text) → is_eq (ordering_then (nat_cmp (name_key id) (name_key x)) (text_cmp id x)) ≡ text_eq id x
+-- the code of an identifier
+abbrev id_code : Text → ℕ
+id_code id = code_of kind.Identifier (name_key id)
+
+-- names that tie have one code
+named : (id x : Text) → is_eq (ordering_then (nat_cmp (id_code id) (id_code x)) (text_cmp id x)) ≡ text_eq id x
 named id x =
-    let keys : Ordering = nat_cmp (name_key id) (name_key x) in
-    sym (tied_then keys (text_cmp id x))
-    ∙ implied_alone (is_eq keys) (is_eq (text_cmp id x)) (λ e.
-    ap (λ y. is_eq (nat_cmp (name_key id) (name_key y))) (sym (text_cmp-Equal id x ((Equal-is (text_cmp id x)).0 e)))
-    ∙ ap is_eq (tied_itself nat_cmp_total (name_key id)))
+    let codes : Ordering = nat_cmp (id_code id) (id_code x) in
+    sym (tied_then codes (text_cmp id x))
+    ∙ implied_alone (is_eq codes) (is_eq (text_cmp id x)) (λ e.
+    ap (λ y. is_eq (nat_cmp (id_code id) (id_code y))) (sym (text_cmp-Equal id x ((Equal-is (text_cmp id x)).0 e)))
+    ∙ ap is_eq (tied_itself nat_cmp_total (id_code id)))
 
 -- a text that may be missing, against one that is there
 ties_with : (o : Option Text) (t : Text) → is_eq (option_cmp text_cmp o (Some t)) ≡ option_eq text_eq (Some t) o
@@ -126,10 +133,33 @@ stands_in (Range query upto) id fact = is_within query.after upto id && answers_
 abbrev hits : Part → List Stamp → Bool
 hits part stamps = list_any (λ s. is_eq (among_side (part_among part) s)) stamps
 
--- one of the groups of a fact against that of a part, with the same rank
-group_hits : (g h : Group) (r : Ordering) (group_ties ids_tie : Bool) → is_eq (group_cmp g h) ≡ group_ties → is_eq r ≡ ids_tie
-    → (is_eq (ordering_then (nat_cmp (group_code g) (group_code h)) (ordering_then (group_cmp g h) r)) || false) ≡ (group_ties && ids_tie)
-group_hits g h r a b ea eb = or_false _ ∙ coded g h r ∙ (λ i. ea i && eb i)
+-- a stamp of a kind that stands before that of a part or past it, and one of four alone
+miss_low : (o : Ordering) → is_eq (ordering_then o Less) ≡ false
+miss_low Less = refl
+miss_low Equal = refl
+miss_low Greater = refl
+
+miss_high : (o : Ordering) → is_eq (ordering_then o Greater) ≡ false
+miss_high Less = refl
+miss_high Equal = refl
+miss_high Greater = refl
+
+only_first : (a b c d : Bool) → b ≡ false → c ≡ false → d ≡ false → (a || (b || (c || (d || false)))) ≡ a
+only_first a b c d eb ec ed = (λ i. a || (eb i || (ec i || (ed i || false)))) ∙ or_false a
+
+only_second : (a b c d : Bool) → a ≡ false → c ≡ false → d ≡ false → (a || (b || (c || (d || false)))) ≡ b
+only_second a b c d ea ec ed = (λ i. ea i || (b || (ec i || (ed i || false)))) ∙ or_false b
+
+only_third : (a b c d : Bool) → a ≡ false → b ≡ false → d ≡ false → (a || (b || (c || (d || false)))) ≡ c
+only_third a b c d ea eb ed = (λ i. ea i || (eb i || (c || (ed i || false)))) ∙ or_false c
+
+only_fourth : (a b c d : Bool) → a ≡ false → b ≡ false → c ≡ false → (a || (b || (c || (d || false)))) ≡ d
+only_fourth a b c d ea eb ec = (λ i. ea i || (eb i || (ec i || (d || false)))) ∙ or_false d
+
+-- one of the groups of a fact against that of a part, of the same kind
+group_hits : (k : StampKind) (g h : Group) (r : Ordering) (group_ties ids_tie : Bool) → is_eq (group_cmp g h) ≡ group_ties → is_eq r ≡ ids_tie
+    → is_eq (ordering_then (nat_cmp (code_of k (group_hash g)) (code_of k (group_hash h))) (ordering_then (group_cmp g h) r)) ≡ (group_ties && ids_tie)
+group_hits k g h r a b ea eb = coded k g h r ∙ (λ i. ea i && eb i)
 
 cell_ties : (dims other : Dims) → is_eq (group_cmp (record no_group { dims = Some other }) (record no_group { dims = Some dims })) ≡ dims_eq dims other
 cell_ties dims other =
@@ -142,21 +172,38 @@ range_ties concept c p q =
     sym (tied_then (option_cmp text_cmp c (Some concept)) (option_cmp (option_cmp text_cmp) p q))
     ∙ ap (λ b. b && is_eq (option_cmp (option_cmp text_cmp) p q)) (ties_with c concept)
 
+-- how the code of a stamp of a kind stands to that of a part
+abbrev code_side : Part → StampKind → Text → Fact → Ordering
+code_side part k id fact = nat_cmp (stamp_code k (id, fact)) (part_among part).code
+
+-- a range with another period filter
+abbrev with_filter : PageQuery → Option Text → PeriodFilter → Part
+with_filter query upto period = Range (record query { period = period }) upto
+
 fact_hits : (part : Part) (n : ℕ) (id : Text) (fact : Fact) → hits part (stamps_of n (id, fact)) ≡ stands_in part id fact
-fact_hits (Id x) n id fact = or_false _ ∙ named id x ∙ text_eq-sym id x
+fact_hits (Id x) n id fact =
+    only_first _ _ _ _ (miss_high (code_side (Id x) kind.Cell id fact)) (miss_high (code_side (Id x) kind.AnyPeriod id fact))
+    (miss_high (code_side (Id x) kind.OnePeriod id fact))
+    ∙ named id x ∙ text_eq-sym id x
 fact_hits (Cell dims) n id fact =
-    group_hits (record no_group { dims = Some fact.dims }) (record no_group { dims = Some dims }) Equal (dims_eq dims fact.dims) true
+    only_second _ _ _ _ (miss_low (code_side (Cell dims) kind.Identifier id fact)) (miss_high (code_side (Cell dims) kind.AnyPeriod id fact))
+    (miss_high (code_side (Cell dims) kind.OnePeriod id fact))
+    ∙ group_hits kind.Cell (record no_group { dims = Some fact.dims }) (record no_group { dims = Some dims }) Equal (dims_eq dims fact.dims) true
     (cell_ties dims fact.dims) refl
     ∙ and_true (dims_eq dims fact.dims)
 fact_hits (Range query upto) n id fact = by query.period
   where
-    by : (asked : PeriodFilter) → hits (Range (record query { period = asked }) upto) (stamps_of n (id, fact)) ≡ stands_in (Range (record query { period = asked }) upto) id fact
+    by : (period : PeriodFilter) → hits (with_filter query upto period) (stamps_of n (id, fact)) ≡ stands_in (with_filter query upto period) id fact
     by Any =
-        group_hits (record no_group { concept = concept_of fact.dims }) (record no_group { concept = Some query.concept })
+        only_third _ _ _ _ (miss_low (code_side (with_filter query upto Any) kind.Identifier id fact)) (miss_low (code_side (with_filter query upto Any) kind.Cell id fact))
+        (miss_high (code_side (with_filter query upto Any) kind.OnePeriod id fact))
+        ∙ group_hits kind.AnyPeriod (record no_group { concept = concept_of fact.dims }) (record no_group { concept = Some query.concept })
         (ids_side (Between query.after upto) id) _ _ (range_ties query.concept (concept_of fact.dims) None None) (within_ties query.after upto id)
         ∙ and_turned _ (is_within query.after upto id)
     by Without =
-        group_hits (record no_group { concept = concept_of fact.dims; period = Some (period_of fact.dims) })
+        only_fourth _ _ _ _ (miss_low (code_side (with_filter query upto Without) kind.Identifier id fact)) (miss_low (code_side (with_filter query upto Without) kind.Cell id fact))
+        (miss_low (code_side (with_filter query upto Without) kind.AnyPeriod id fact))
+        ∙ group_hits kind.OnePeriod (record no_group { concept = concept_of fact.dims; period = Some (period_of fact.dims) })
         (record no_group { concept = Some query.concept; period = Some None })
         (ids_side (Between query.after upto) id) _ _
         (range_ties query.concept (concept_of fact.dims) (Some (period_of fact.dims)) (Some None)
@@ -164,7 +211,9 @@ fact_hits (Range query upto) n id fact = by query.period
         (within_ties query.after upto id)
         ∙ and_turned _ (is_within query.after upto id)
     by (Exactly text) =
-        group_hits (record no_group { concept = concept_of fact.dims; period = Some (period_of fact.dims) })
+        only_fourth _ _ _ _ (miss_low (code_side (with_filter query upto (Exactly text)) kind.Identifier id fact)) (miss_low (code_side (with_filter query upto (Exactly text)) kind.Cell id fact))
+        (miss_low (code_side (with_filter query upto (Exactly text)) kind.AnyPeriod id fact))
+        ∙ group_hits kind.OnePeriod (record no_group { concept = concept_of fact.dims; period = Some (period_of fact.dims) })
         (record no_group { concept = Some query.concept; period = Some (Some text) })
         (ids_side (Between query.after upto) id) _ _
         (range_ties query.concept (concept_of fact.dims) (Some (period_of fact.dims)) (Some (Some text))

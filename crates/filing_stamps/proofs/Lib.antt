@@ -1,3 +1,4 @@
+pub mod StampKinds
 pub mod StampTies
 pub mod PutNumbers
 pub mod ChangedParts

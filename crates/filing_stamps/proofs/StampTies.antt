@@ -9,9 +9,9 @@ use Rattle.filing_stamps.specs.StampOrders.{group_cmp-total}
 
 pub among_alike : (among : Among) (x y : Stamp) → stamp_cmp x y ≡ Equal → among_side among x ≡ among_side among y
 among_alike among x y e =
-    let ranks = both_are_equal (nat_cmp x.rank y.rank) _ e in
-    let codes = both_are_equal (nat_cmp x.code y.code) _ ranks.1 in
-    let groups = both_are_equal (group_cmp x.group y.group) _ codes.1 in
-    λ i. ordering_then (nat_cmp_total.congr x.rank y.rank among.rank ranks.0 i)
-    (ordering_then (nat_cmp_total.congr x.code y.code among.code codes.0 i)
+    let codes = both_are_equal (nat_cmp x.code y.code) _ e in
+    let ranks = both_are_equal (nat_cmp x.rank y.rank) _ codes.1 in
+    let groups = both_are_equal (group_cmp x.group y.group) _ ranks.1 in
+    λ i. ordering_then (nat_cmp_total.congr x.code y.code among.code codes.0 i)
+    (ordering_then (nat_cmp_total.congr x.rank y.rank among.rank ranks.0 i)
     (ordering_then (group_cmp-total.congr x.group y.group among.group groups.0 i) (ids_side among.ids (text_cmp-Equal x.id y.id groups.1 i))))

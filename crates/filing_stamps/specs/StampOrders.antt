@@ -19,7 +19,7 @@ group_cmp-total =
 
 pub stamp_cmp-total : IsTotalOrder stamp_cmp
 stamp_cmp-total =
-    then_total (on_total (λ s. s.rank) nat_cmp_total) (then_total (on_total (λ s. s.code) nat_cmp_total)
+    then_total (on_total (λ s. s.code) nat_cmp_total) (then_total (on_total (λ s. s.rank) nat_cmp_total)
     (then_total (on_total (λ s. s.group) group_cmp-total) (on_total (λ s. s.id) nat_list_cmp_total)))
 
 -- ---- ranges of identifiers
@@ -83,6 +83,6 @@ named_monotone ids =
 
 pub among_is_monotone : (among : Among) → IsMonotone stamp_cmp (among_side among)
 among_is_monotone among =
-    then_monotone (λ s. s.rank) nat_cmp_total among.rank
-    (then_monotone (λ s. s.code) nat_cmp_total among.code
+    then_monotone (λ s. s.code) nat_cmp_total among.code
+    (then_monotone (λ s. s.rank) nat_cmp_total among.rank
     (then_monotone (λ s. s.group) group_cmp-total among.group (named_monotone among.ids)))

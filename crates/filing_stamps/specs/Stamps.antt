@@ -1,5 +1,5 @@
 -- The stamps of one report: what touched facts leave behind, each with the number of the last touch. The project's own.
-use Rattle.std.specs.Prelude.{◌≡◌, ℕ, ◌+◌, ◌*◌, ◌/◌, min, Bool, true, false, cond, not}
+use Rattle.std.specs.Prelude.{◌≡◌, ℕ, ◌+◌, ◌*◌, ◌/◌, min, nat_lt, Bool, true, false, cond, not}
 use Rattle.std.specs.Prelude.{List, [], ◌∷◌, ◌++◌, map, Option, Some, None}
 use Rattle.std.specs.List.{AllByRecursion, flat_map, list_any}
 use Rattle.std.specs.Option.{option_cmp, option_map, option_map_or}
@@ -37,33 +37,29 @@ group_cmp =
     then_cmp (on (λ g. g.dims) (option_cmp dims_cmp))
     (then_cmp (on (λ g. g.concept) (option_cmp text_cmp)) (on (λ g. g.period) (option_cmp (option_cmp text_cmp))))
 
--- the code of what is looked at: a hash, or 0 of nothing
-abbrev pub code_of_parts : Option Dims → Option Text → Option (Option Text) → ℕ
-code_of_parts (Some dims) concept period = hash_of_dims dims
-code_of_parts None (Some concept) None = hash_of_concept concept
-code_of_parts None (Some concept) (Some period) = hash_of_period concept period
-code_of_parts None None period = 0
+-- the hash of what is looked at, or 0 of nothing
+abbrev pub hash_of_parts : Option Dims → Option Text → Option (Option Text) → ℕ
+hash_of_parts (Some dims) concept period = hash_of_dims dims
+hash_of_parts None (Some concept) None = hash_of_concept concept
+hash_of_parts None (Some concept) (Some period) = hash_of_period concept period
+hash_of_parts None None period = 0
 
-abbrev pub group_code : Group → ℕ
-group_code group = code_of_parts group.dims group.concept group.period
+abbrev pub group_hash : Group → ℕ
+group_hash group = hash_of_parts group.dims group.concept group.period
 
--- the rank of its kind, its code, the group, an identifier or nothing, and the number of the last touch
+-- its code, the rank of its kind, the group, an identifier or nothing, and the number of the last touch
 pub record Stamp : Type 0 where
-  pub rank : ℕ
   pub code : ℕ
+  pub rank : ℕ
   pub group : Group
   pub id : Text
   pub number : ℕ
 
--- the code comes early because it is fast to compare. The number takes no part
+-- the code comes first because it is fast to compare. The number takes no part
 abbrev pub stamp_cmp : Stamp → Stamp → Ordering
 stamp_cmp =
-    then_cmp (on (λ s. s.rank) nat_cmp) (then_cmp (on (λ s. s.code) nat_cmp)
+    then_cmp (on (λ s. s.code) nat_cmp) (then_cmp (on (λ s. s.rank) nat_cmp)
     (then_cmp (on (λ s. s.group) group_cmp) (on (λ s. s.id) text_cmp)))
-
--- a number that never falls where stamps rise: the rank, then the code without its last two bits
-abbrev pub stamp_key : ℕ → ℕ → ℕ
-stamp_key rank code = rank * 4611686018427387904 + min (code / 4) 4611686018427387903
 
 -- ---- the stamps that a fact leaves
 
@@ -72,6 +68,16 @@ rank_of kind.Identifier = 0
 rank_of kind.Cell = 1
 rank_of kind.AnyPeriod = 2
 rank_of kind.OnePeriod = 3
+
+-- the code of the stamps of a kind with a hash: the rank in two bits, then the hash without its last two
+abbrev pub code_of : StampKind → ℕ → ℕ
+code_of stamp_kind hash = rank_of stamp_kind * 4611686018427387904 + min (hash / 4) 4611686018427387903
+
+-- the kind of the stamps with a code
+abbrev pub kind_of : ℕ → StampKind
+kind_of code =
+    cond (nat_lt code 4611686018427387904) kind.Identifier (cond (nat_lt code 9223372036854775808) kind.Cell
+    (cond (nat_lt code 13835058055282163712) kind.AnyPeriod kind.OnePeriod))
 
 abbrev pub group_of : StampKind → Dims → Group
 group_of kind.Identifier dims = no_group
@@ -90,19 +96,22 @@ id_of kind.OnePeriod id = id
 abbrev pub stamp_of : StampKind → ℕ → ℕ → Text × Fact → Stamp
 stamp_of stamp_kind code number held =
     record {
-      rank = rank_of stamp_kind;
       code = code;
+      rank = rank_of stamp_kind;
       group = group_of stamp_kind held.1.dims;
       id = id_of stamp_kind held.0;
       number = number;
     }
 
--- the code of a stamp: that of its group, but of an identifier the key of its name
+-- the hash of a stamp: that of its group, but of an identifier the key of its name
+abbrev pub stamp_hash : StampKind → Text × Fact → ℕ
+stamp_hash kind.Identifier held = name_key held.0
+stamp_hash kind.Cell held = group_hash (group_of kind.Cell held.1.dims)
+stamp_hash kind.AnyPeriod held = group_hash (group_of kind.AnyPeriod held.1.dims)
+stamp_hash kind.OnePeriod held = group_hash (group_of kind.OnePeriod held.1.dims)
+
 abbrev pub stamp_code : StampKind → Text × Fact → ℕ
-stamp_code kind.Identifier held = name_key held.0
-stamp_code kind.Cell held = group_code (group_of kind.Cell held.1.dims)
-stamp_code kind.AnyPeriod held = group_code (group_of kind.AnyPeriod held.1.dims)
-stamp_code kind.OnePeriod held = group_code (group_of kind.OnePeriod held.1.dims)
+stamp_code stamp_kind held = code_of stamp_kind (stamp_hash stamp_kind held)
 
 -- the same, under its code
 abbrev pub coded_stamp : StampKind → ℕ → Text × Fact → Stamp
@@ -162,17 +171,17 @@ abbrev pub ids_side : IdRange → Text → Ordering
 ids_side (Only id) other = text_cmp other id
 ids_side (Between after upto) id = cond (is_after after id) (cond (is_upto upto id) Equal Greater) Less
 
--- the stamps of one kind, code and group with identifiers in a range
+-- the stamps of one code, kind and group with identifiers in a range
 pub record Among : Type 0 where
-  pub rank : ℕ
   pub code : ℕ
+  pub rank : ℕ
   pub group : Group
   pub ids : IdRange
 
 -- how a stamp stands to them
 abbrev pub among_side : Among → Stamp → Ordering
 among_side among s =
-    ordering_then (nat_cmp s.rank among.rank) (ordering_then (nat_cmp s.code among.code)
+    ordering_then (nat_cmp s.code among.code) (ordering_then (nat_cmp s.rank among.rank)
     (ordering_then (group_cmp s.group among.group) (ids_side among.ids s.id)))
 
 abbrev pub asked_kind : PeriodFilter → StampKind
@@ -188,11 +197,16 @@ asked_period (Exactly text) = Some (Some text)
 -- those of one kind and group
 abbrev pub among_group : StampKind → Group → IdRange → Among
 among_group stamp_kind group ids =
-    record { rank = rank_of stamp_kind; code = group_code group; group = group; ids = ids }
+    record { code = code_of stamp_kind (group_hash group); rank = rank_of stamp_kind; group = group; ids = ids }
 
 -- those of a part
 abbrev pub part_among : Part → Among
-part_among (Id id) = record { rank = rank_of kind.Identifier; code = name_key id; group = no_group; ids = Only id }
+part_among (Id id) = record {
+  code = code_of kind.Identifier (name_key id);
+  rank = rank_of kind.Identifier;
+  group = no_group;
+  ids = Only id;
+}
 part_among (Cell dims) = among_group kind.Cell (record no_group { dims = Some dims }) (Between None None)
 part_among (Range query upto) =
     among_group (asked_kind query.period) (record no_group {

@@ -5,8 +5,8 @@ ghost use Rattle.std.specs.Ordering.{eq_by_cmp, ordering_then};
 ghost use Rattle.std.specs.Option.{option_cmp};
 ghost use Rattle.filing_model.specs.Common.Text.{text_cmp};
 ghost use Rattle.filing_model.specs.Oim.Dimensions.{dims_cmp};
-ghost use Rattle.filing_stamps.specs.Stamps.{no_group, rank_of, group_of, id_of, group_cmp, group_code, coded_stamp, stamp_cmp, stamp_code, stamp_key};
-ghost use Rattle.filing_stamps.specs.StampKeys.{stamp_keys_rise};
+ghost use Rattle.filing_stamps.specs.Stamps.{no_group, rank_of, kind_of, code_of, group_of, id_of, group_cmp, group_hash, coded_stamp, stamp_cmp, stamp_code, stamp_hash};
+ghost use Rattle.filing_stamps.specs.StampKeys.{stamp_codes_rise};
 ghost use Rattle.filing_stamps.specs.StampOrders.{stamp_cmp-total};
 
 use filing_facts::{IndexedFact, hash_of_concept, hash_of_dims, hash_of_period};
@@ -38,11 +38,26 @@ impl StampKind {
         self as u8
     }
 
-    /// The key of the stamps of this kind with a code: the rank in two bits, then the code without its last two.
-    pub(crate) fn key(self, code: u64) -> u64
-        ensures { result ≡ stamp_key (rank_of self) code }
+    /// The code of the stamps of this kind with a hash: the rank in two bits, then the hash without its last two.
+    pub(crate) fn coded(self, hash: u64) -> u64
+        ensures { result ≡ code_of self hash }
     {
-        u64::from(self.rank()) * (1 << 62) + code / 4
+        u64::from(self.rank()) * (1 << 62) + hash / 4
+    }
+
+    /// The kind of the stamps with a code.
+    fn of_code(code: u64) -> StampKind
+        ensures { result ≡ kind_of code }
+    {
+        if code < 1 << 62 {
+            StampKind::Identifier
+        } else if code < 2 << 62 {
+            StampKind::Cell
+        } else if code < 3 << 62 {
+            StampKind::AnyPeriod
+        } else {
+            StampKind::OnePeriod
+        }
     }
 
     /// What a stamp of this kind looks at in a fact.
@@ -57,15 +72,60 @@ impl StampKind {
         }
     }
 
-    /// The code of the stamp of this kind that a fact leaves: of an identifier the key of its name, else a hash.
-    fn code(self, held: &NamedValue<IndexedFact>) -> u64
-        ensures { result ≡ stamp_code self held.now }
+    /// The hash of the stamp of this kind that a fact leaves: of an identifier the key of its name.
+    fn hash(self, held: &NamedValue<IndexedFact>) -> u64
+        ensures { result ≡ stamp_hash self held.now }
     {
         match self {
             StampKind::Identifier => held.key(),
             StampKind::Cell => held.value().cell_hash(),
             StampKind::AnyPeriod => held.value().concept_hash(),
             StampKind::OnePeriod => held.value().period_hash(),
+        }
+    }
+
+    /// The code of the stamp of this kind that a fact leaves.
+    fn code(self, held: &NamedValue<IndexedFact>) -> u64
+        ensures { result ≡ stamp_code self held.now }
+    {
+        self.coded(self.hash(held))
+    }
+
+    /// The identifier of the stamp of this kind that a fact leaves, or nothing where that is for all of a cell.
+    fn id(self, held: &NamedValue<IndexedFact>) -> &str
+        ensures { result.now ≡ id_of self held.now.0 }
+    {
+        match self {
+            StampKind::Cell => "",
+            StampKind::Identifier | StampKind::AnyPeriod | StampKind::OnePeriod => held.name(),
+        }
+    }
+
+    /// How this identifier stands to one that is looked for.
+    fn order_sought(self, held: &NamedValue<IndexedFact>, id: &SoughtName<'_>) -> Ordering
+        ensures { result ≡ text_cmp (id_of self held.now.0) id.now }
+    {
+        match self {
+            StampKind::Cell => "".cmp(id.name()),
+            StampKind::Identifier | StampKind::AnyPeriod | StampKind::OnePeriod => {
+                held.order_sought(id)
+            }
+        }
+    }
+
+    /// How this identifier stands to that of another stamp of this kind.
+    fn order_ids(
+        self,
+        held: &NamedValue<IndexedFact>,
+        other: &NamedValue<IndexedFact>,
+    ) -> Ordering
+        ensures { result ≡ text_cmp (id_of self held.now.0) (id_of self other.now.0) }
+    {
+        match self {
+            StampKind::Cell => Ordering::Equal,
+            StampKind::Identifier | StampKind::AnyPeriod | StampKind::OnePeriod => {
+                held.order(other)
+            }
         }
     }
 }
@@ -164,9 +224,9 @@ impl<'a> Group<'a> {
             .then(order_periods(self.period, other.period))
     }
 
-    /// The code of what is looked at: a hash, or 0 of nothing.
-    pub(crate) fn code(&self) -> u64
-        ensures { result ≡ group_code self.now }
+    /// The hash of what is looked at, or 0 of nothing.
+    pub(crate) fn hash(&self) -> u64
+        ensures { result ≡ group_hash self.now }
     {
         match (self.dims, self.concept, self.period) {
             (Some(dims), _, _) => hash_of_dims(dims),
@@ -179,21 +239,20 @@ impl<'a> Group<'a> {
 
 /// The number of the last touch of what a fact stands in.
 ///
-/// It compares by what it means, which is read from the fact. The number takes no part.
+/// It compares by what it means, which is read from the fact. The number takes no part. The code tells the kind.
 #[derive(Drop)]
 pub(crate) struct Stamp {
-    kind: StampKind,
     code: u64,
     number: u64,
     held: NamedValue<IndexedFact>,
 }
 
 impl Model for Stamp {
-    ghost use Rattle.filing_stamps.specs.Stamps.{Stamp as PlainStamp, stamp_of};
+    ghost use Rattle.filing_stamps.specs.Stamps.{Stamp as PlainStamp, kind_of, stamp_of};
 
     ghost Value = { PlainStamp };
 
-    ghost view = { λ s. stamp_of s.kind s.code s.number s.held };
+    ghost view = { λ s. stamp_of (kind_of s.code) s.code s.number s.held };
 }
 
 impl Stamp {
@@ -207,18 +266,19 @@ impl Stamp {
     {
         let code = kind.code(held);
         let held = held.share()?;
-        Ok(Stamp {
-            kind,
-            code,
-            number,
-            held,
-        })
+        Ok(Stamp { code, number, held })
+    }
+
+    fn kind(&self) -> StampKind
+        ensures { result ≡ kind_of self.now.code }
+    {
+        StampKind::of_code(self.code)
     }
 
     pub(crate) fn rank(&self) -> u8
         ensures { result ≡ self.now.rank }
     {
-        self.kind.rank()
+        StampKind::of_code(self.code).rank()
     }
 
     pub(crate) fn code(&self) -> u64
@@ -230,48 +290,32 @@ impl Stamp {
     pub(crate) fn group(&self) -> Group<'_>
         ensures { result ≡ self.now.group }
     {
-        self.kind.group(self.held.value())
+        self.kind().group(self.held.value())
     }
 
     /// The identifier, or nothing where the stamp is for all of a cell.
     pub(crate) fn id(&self) -> &str
         ensures { result.now ≡ self.now.id }
     {
-        match self.kind {
-            StampKind::Cell => "",
-            StampKind::Identifier | StampKind::AnyPeriod | StampKind::OnePeriod => self.held.name(),
-        }
+        self.kind().id(&self.held)
     }
 
     /// How its identifier stands to one that is looked for.
     pub(crate) fn order_sought(&self, id: &SoughtName<'_>) -> Ordering
         ensures { result ≡ text_cmp self.now.id id.now }
     {
-        match self.kind {
-            StampKind::Cell => self.id().cmp(id.name()),
-            StampKind::Identifier | StampKind::AnyPeriod | StampKind::OnePeriod => {
-                self.held.order_sought(id)
-            }
-        }
+        self.kind().order_sought(&self.held, id)
     }
 
-    /// How its identifier stands to that of another stamp.
-    fn order_ids(&self, other: &Stamp) -> Ordering
-        ensures { result ≡ text_cmp self.now.id other.now.id }
-    {
-        match (self.kind, other.kind) {
-            (StampKind::Cell, _) | (_, StampKind::Cell) => self.id().cmp(other.id()),
-            _ => self.held.order(&other.held),
-        }
-    }
-
-    /// How it stands to another stamp with the same rank and code.
+    /// How it stands to another stamp of the same code, and so of the same kind.
     fn order_alike(&self, other: &Stamp) -> Ordering
-        ensures { result ≡ ordering_then (group_cmp self.now.group other.now.group)
-            (text_cmp self.now.id other.now.id) }
+        requires { self.now.code ≡ other.now.code }
+        ensures { result ≡ stamp_cmp self.now other.now }
     {
-        match self.group().order(&other.group()) {
-            Ordering::Equal => self.order_ids(other),
+        let kind = self.kind();
+        let group = kind.group(self.held.value());
+        match group.order(&kind.group(other.held.value())) {
+            Ordering::Equal => kind.order_ids(&self.held, &other.held),
             order => order,
         }
     }
@@ -311,7 +355,7 @@ impl Ord for Stamp {
     ghost matches_eq = { λ x y. refl };
 
     fn cmp(&self, other: &Stamp) -> Ordering {
-        match (self.rank(), self.code()).cmp(&(other.rank(), other.code())) {
+        match self.code.cmp(&other.code) {
             Ordering::Equal => self.order_alike(other),
             order => order,
         }
@@ -331,9 +375,9 @@ impl PageEntry for Stamp {
 
     ghost is_total = { stamp_cmp-total };
 
-    ghost key = { λ s. stamp_key s.rank s.code };
+    ghost key = { λ s. s.code };
 
-    ghost key_rises = { stamp_keys_rise };
+    ghost key_rises = { stamp_codes_rise };
 
     /// As of facts under their identifiers.
     fn most_in_page() -> usize {
@@ -341,7 +385,7 @@ impl PageEntry for Stamp {
     }
 
     fn key(&self) -> u64 {
-        self.kind.key(self.code)
+        self.code
     }
 
     fn order(&self, other: &Stamp) -> Ordering {
@@ -355,7 +399,6 @@ impl PageEntry for Stamp {
     fn share(&self) -> Result<Stamp, AllocError> {
         let held = self.held.share()?;
         Ok(Stamp {
-            kind: self.kind,
             code: self.code,
             number: self.number,
             held,

@@ -1,6 +1,6 @@
 //! The stamps of a part of a report, as a range of all stamps. Nothing here takes memory.
 ghost use Rattle.std.specs.Prelude.{◌≡◌, option_map};
-ghost use Rattle.std.specs.Ordering.{ordering_then};
+ghost use Rattle.std.specs.Ordering.{nat_cmp, ordering_then};
 ghost use Rattle.filing_model.specs.Common.Text.{text_cmp};
 ghost use Rattle.filing_model.specs.Sessions.Queries.{is_after};
 ghost use Rattle.filing_stamps.specs.StampSpans.{id_range_of};
@@ -71,7 +71,7 @@ impl<'a> Model for Among<'a> {
 
     ghost Value = { PlainAmong };
 
-    ghost view = { λ a. record { rank = rank_of a.kind; code = a.code; group = a.group; ids = id_range_of a.ids } };
+    ghost view = { λ a. record { code = a.code; rank = rank_of a.kind; group = a.group; ids = id_range_of a.ids } };
 }
 
 impl<'a> Among<'a> {
@@ -81,7 +81,7 @@ impl<'a> Among<'a> {
     {
         Among {
             kind: StampKind::Identifier,
-            code: id.key(),
+            code: StampKind::Identifier.coded(id.key()),
             group: Group::none(),
             ids: IdRange::Only(id),
         }
@@ -91,7 +91,7 @@ impl<'a> Among<'a> {
     pub(crate) fn of_group(kind: StampKind, group: Group<'a>, ids: IdRange<'a>) -> Among<'a>
         ensures { result ≡ among_group kind group.entry (id_range_of ids.entry) }
     {
-        let code = group.code();
+        let code = kind.coded(group.hash());
         Among {
             kind,
             code,
@@ -100,13 +100,24 @@ impl<'a> Among<'a> {
         }
     }
 
-    /// How a stamp with this rank and code stands to the range.
-    fn side_alike(&self, stamp: &Stamp) -> Ordering
+    /// How a stamp of this kind stands to the range.
+    fn side_in_kind(&self, stamp: &Stamp) -> Ordering
         ensures { result ≡ ordering_then (group_cmp stamp.now.group self.now.group)
             (ids_side self.now.ids stamp.now.id) }
     {
         match stamp.group().order(&self.group) {
             Ordering::Equal => self.ids.side(stamp),
+            order => order,
+        }
+    }
+
+    /// How a stamp with this code stands to the range.
+    fn side_alike(&self, stamp: &Stamp) -> Ordering
+        ensures { result ≡ ordering_then (nat_cmp stamp.now.rank self.now.rank)
+            (ordering_then (group_cmp stamp.now.group self.now.group) (ids_side self.now.ids stamp.now.id)) }
+    {
+        match stamp.rank().cmp(&self.kind.rank()) {
+            Ordering::Equal => self.side_in_kind(stamp),
             order => order,
         }
     }
@@ -121,13 +132,13 @@ impl<'a> Span<Stamp> for Among<'a> {
     ghost is_monotone = { among_is_monotone };
 
     fn side(&self, stamp: &Stamp) -> Ordering {
-        match (stamp.rank(), stamp.code()).cmp(&(self.kind.rank(), self.code)) {
+        match stamp.code().cmp(&self.code) {
             Ordering::Equal => self.side_alike(stamp),
             order => order,
         }
     }
 
     fn side_of_key(&self, key: u64) -> Option<Ordering> {
-        order_of_keys(key, self.kind.key(self.code))
+        order_of_keys(key, self.code)
     }
 }
