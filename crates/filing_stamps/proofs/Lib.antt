@@ -1,3 +1,4 @@
+pub mod OrderedGroups
 pub mod StampKinds
 pub mod StampTies
 pub mod PutNumbers

@@ -7,6 +7,7 @@ ghost use Rattle.filing_model.specs.Common.Text.{text_cmp};
 ghost use Rattle.filing_model.specs.Oim.Dimensions.{dims_cmp};
 ghost use Rattle.filing_stamps.specs.Stamps.{no_group, rank_of, kind_of, code_of, group_of, id_of, group_cmp, group_hash, coded_stamp, stamp_cmp, stamp_code, stamp_hash};
 ghost use Rattle.filing_stamps.specs.StampKeys.{stamp_codes_rise};
+ghost use Rattle.filing_stamps.specs.declared.stamp.StampKind.TheVariants as variant;
 ghost use Rattle.filing_stamps.specs.StampOrders.{stamp_cmp-total};
 
 use filing_facts::{IndexedFact, hash_of_concept, hash_of_dims, hash_of_period};
@@ -113,6 +114,18 @@ impl StampKind {
         }
     }
 
+    /// How what a stamp of this kind looks at in a fact stands to what it looks at in another.
+    fn order_groups(self, held: &IndexedFact, other: &IndexedFact) -> Ordering
+        ensures { result ≡ group_cmp (group_of self held.now.dims) (group_of self other.now.dims) }
+    {
+        match self {
+            StampKind::Identifier => Ordering::Equal,
+            StampKind::Cell => order_cells(held, other),
+            StampKind::AnyPeriod => order_concepts(held, other),
+            StampKind::OnePeriod => order_concept_periods(held, other),
+        }
+    }
+
     /// How this identifier stands to that of another stamp of this kind.
     fn order_ids(
         self,
@@ -142,6 +155,33 @@ fn order_dims(one: Option<&DimSet>, other: Option<&DimSet>) -> Ordering
     ensures { result ≡ option_cmp dims_cmp (option_copied one.entry) (option_copied other.entry) }
 {
     one.cmp(&other)
+}
+
+/// How the dimensions of two facts stand to each other.
+#[tactic(auto, using(crate::proofs::OrderedGroups::cells))]
+fn order_cells(held: &IndexedFact, other: &IndexedFact) -> Ordering
+    ensures { result ≡ group_cmp (group_of variant.Cell held.now.dims) (group_of variant.Cell other.now.dims) }
+{
+    held.dims().cmp(other.dims())
+}
+
+/// How the concepts of two facts stand to each other.
+#[tactic(auto, using(crate::proofs::OrderedGroups::concepts))]
+fn order_concepts(held: &IndexedFact, other: &IndexedFact) -> Ordering
+    ensures { result ≡ group_cmp (group_of variant.AnyPeriod held.now.dims) (group_of variant.AnyPeriod other.now.dims) }
+{
+    held.concept().cmp(other.concept())
+}
+
+/// How the concepts of two facts with their periods stand to each other.
+#[tactic(auto, using(crate::proofs::OrderedGroups::periods))]
+fn order_concept_periods(held: &IndexedFact, other: &IndexedFact) -> Ordering
+    ensures { result ≡ group_cmp (group_of variant.OnePeriod held.now.dims) (group_of variant.OnePeriod other.now.dims) }
+{
+    match held.concept().cmp(other.concept()) {
+        Ordering::Equal => held.period().cmp(&other.period()),
+        order => order,
+    }
 }
 
 /// How periods stand to each other that are none, and that may not be looked at.
@@ -313,8 +353,7 @@ impl Stamp {
         ensures { result ≡ stamp_cmp self.now other.now }
     {
         let kind = self.kind();
-        let group = kind.group(self.held.value());
-        match group.order(&kind.group(other.held.value())) {
+        match kind.order_groups(self.held.value(), other.held.value()) {
             Ordering::Equal => kind.order_ids(&self.held, &other.held),
             order => order,
         }
