@@ -127,11 +127,7 @@ impl StampKind {
     }
 
     /// How this identifier stands to that of another stamp of this kind.
-    fn order_ids(
-        self,
-        held: &NamedValue<IndexedFact>,
-        other: &NamedValue<IndexedFact>,
-    ) -> Ordering
+    fn order_ids(self, held: &NamedValue<IndexedFact>, other: &NamedValue<IndexedFact>) -> Ordering
         ensures { result ≡ text_cmp (id_of self held.now.0) (id_of self other.now.0) }
     {
         match self {
@@ -168,7 +164,8 @@ fn order_cells(held: &IndexedFact, other: &IndexedFact) -> Ordering
 /// How the concepts of two facts stand to each other.
 #[tactic(auto, using(crate::proofs::OrderedGroups::concepts))]
 fn order_concepts(held: &IndexedFact, other: &IndexedFact) -> Ordering
-    ensures { result ≡ group_cmp (group_of variant.AnyPeriod held.now.dims) (group_of variant.AnyPeriod other.now.dims) }
+    ensures { result
+        ≡ group_cmp (group_of variant.AnyPeriod held.now.dims) (group_of variant.AnyPeriod other.now.dims) }
 {
     held.concept().cmp(other.concept())
 }
@@ -176,7 +173,8 @@ fn order_concepts(held: &IndexedFact, other: &IndexedFact) -> Ordering
 /// How the concepts of two facts with their periods stand to each other.
 #[tactic(auto, using(crate::proofs::OrderedGroups::periods))]
 fn order_concept_periods(held: &IndexedFact, other: &IndexedFact) -> Ordering
-    ensures { result ≡ group_cmp (group_of variant.OnePeriod held.now.dims) (group_of variant.OnePeriod other.now.dims) }
+    ensures { result
+        ≡ group_cmp (group_of variant.OnePeriod held.now.dims) (group_of variant.OnePeriod other.now.dims) }
 {
     match held.concept().cmp(other.concept()) {
         Ordering::Equal => held.period().cmp(&other.period()),
