@@ -5,6 +5,7 @@ pub mod AskedParts
 pub mod LinesByWord
 pub mod ReportOfLoad
 pub mod AskedOfLine
+pub mod ReadValues
 pub mod ReadLoads
 pub mod JudgedLines
 -- ---- examples that compute

@@ -1,15 +1,15 @@
 -- A load as its line was read is one of the value.
-use Rattle.std.proofs.Common.{◌≡◌, ◌∙◌, ap, sym, subst, refl, Bool, true, false, cond, not, ◌&&◌, ◌||◌, codes, Option, None, Some, is_some, unwrap_or}
+use Rattle.std.proofs.Common.{◌≡◌, ◌∙◌, ap, sym, refl, Bool, true, false, cond, not, ◌&&◌, ◌||◌, codes, Option, None, Some, is_some, unwrap_or}
 use Rattle.std.proofs.Common.{option_map, option_and_then, true≢false}
 use Rattle.json.specs.Json as read
 use Rattle.json.specs.Find as found
-use Rattle.serde_json.specs.Data.{Data, null, string, object, array, Members, no_members}
+use Rattle.serde_json.specs.Data.{Data, null, object, Members, no_members}
 use Rattle.serde_json.specs.Find.{at, as_str, as_object}
 use Rattle.serde_json.specs.Read.{of_json, of_members}
 use Rattle.filing_model.specs.Common.Text.{Text, text_eq}
 use Rattle.oim_report.proofs.InRange.{at_of, place_in, text_at_of, the_value}
 use Rattle.script_format.specs.Loads.{is_report, load_parts}
-use Rattle.script_format.specs.ScriptLines.{◌>>=◌, Load, Line, ends_at, line_of, line_of_word, load_of, report_part_at, text_at}
+use Rattle.script_format.specs.ScriptLines.{◌>>=◌, Load, ends_at, line_of, line_of_word, load_of, report_part_at, text_at}
 
 three : (a b c : Bool) → (a && b && c) ≡ true → (a ≡ true) × (b ≡ true) × (c ≡ true)
 three true true true h = (refl, refl, refl)

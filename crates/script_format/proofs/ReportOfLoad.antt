@@ -1,20 +1,19 @@
 -- Where the report of a load stands in its line.
-use Rattle.std.proofs.Common.{◌≡◌, ◌∙◌, ap, sym, subst, refl, Bool, true, false, cond, codes, Option, Some, None}
-use Rattle.std.proofs.Common.{is_some, unwrap_or, option_and_then, ◌||◌, Result, Ok, Err, IfOk, String}
+use Rattle.std.proofs.Common.{◌≡◌, ◌∙◌, ap, sym, subst, refl, true, false, cond, Option, Some, None}
+use Rattle.std.proofs.Common.{is_some, unwrap_or, ◌||◌, Result, Ok, Err, IfOk, String}
 use Rattle.std.proofs.Common.{string_bytes}
 use Rattle.std.specs.declared.alloc.Global.{Global}
 use Rattle.std.specs.declared.alloc.AllocError.{AllocError}
 use Rattle.serde_json.specs.Data.{Data}
 use Rattle.serde_json.specs.Find.{at, as_str, as_object}
-use Rattle.filing_model.specs.Common.Text.{text_eq}
 use Rattle.std.specs.Option.{option_map_or}
 use Rattle.filing_model.specs.Common.Text.{Text}
 use Rattle.script_format.specs.ReplyText.{bad_line_text}
 use Rattle.script_format.specs.Script.{State, ReplyNow, report_in, judged_load, judged_line, answered, value_answer}
 use Rattle.script_format.specs.ScriptLines.{◌>>=◌, Asking, Line, Load, Open, Ask, Commit, Close, Export}
 use Rattle.script_format.proofs.LinesByWord.{HoldsOfOthers, of_word, then}
-use Rattle.script_format.specs.ScriptLines.{kind_of_word, text_at, ends_at, load_of, open_of, commit_of, close_of}
-use Rattle.script_format.specs.ScriptLines.{export_of, asking_at, asking_of_word, line_of_word, line_of}
+use Rattle.script_format.specs.ScriptLines.{text_at, ends_at, load_of}
+use Rattle.script_format.specs.ScriptLines.{asking_at, asking_of_word, line_of}
 
 -- a load has its report as the third part of the value
 abbrev pub HasReport : Data → Option Line → Type 0

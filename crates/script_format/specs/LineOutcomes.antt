@@ -1,5 +1,5 @@
 -- What a line comes to before its step is taken, whatever the history and the names in use. The project's own.
-use Rattle.std.specs.Prelude.{◌≡◌, ℕ, Option, None, string_bytes}
+use Rattle.std.specs.Prelude.{◌≡◌, ℕ, None, string_bytes}
 use Rattle.filing_model.specs.Common.Text.{Text}
 use Rattle.filing_model.specs.Common.TextMap.{TextMap}
 use Rattle.filing_model.specs.Reading.JsonText.{json_of}

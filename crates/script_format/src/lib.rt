@@ -1,5 +1,6 @@
 //! The lines of a script and of its output, as texts.
 //!
+//! - `line_value`: the JSON value of a line.
 //! - `line`: the kind of a line, with its parts.
 //! - `asked_step`: the step that a line asks of a session.
 //! - `load`: the report of a load.
@@ -12,6 +13,7 @@
 mod asked_step;
 mod line;
 mod line_outcome;
+mod line_value;
 mod load;
 mod texts;
 
@@ -20,7 +22,8 @@ pub use line::{
     Asking, Line, Period, allowed_at, asked_at, asking_at, kind_of_word, line_of, nullable_at,
     taken_at, text_at,
 };
-pub use line_outcome::{LineOutcome, classify_line};
+pub use line_outcome::{LineOutcome, classify_line, classify_line_in};
+pub use line_value::json_value_in;
 pub use load::{Loaded, load_of_line, report_in};
 pub use texts::{
     bad_fact_reply, bad_line_reply, bad_report_reply, class_word, exported_reply,

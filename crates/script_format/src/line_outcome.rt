@@ -11,11 +11,13 @@ ghost use Rattle.script_format.specs.LineOutcomes.{ComesTo, ComesToBy, IsLineOut
 
 use crate::asked_step::step_from;
 use crate::line::{Line, line_of, taken_at};
+use crate::line_value::json_value_in;
 use crate::load::{Loaded, load_of_line, report_in};
 use crate::texts::{bad_line_reply, bad_report_reply};
 use filing_step::Step;
+use json::Scratch;
 use oim_fact::NumericTable;
-use oim_report::{Report, json_value};
+use oim_report::Report;
 use serde_json::Value;
 use std::alloc::{AllocError, Global};
 use std::sync::Arc;
@@ -121,11 +123,12 @@ fn value_judged(
     }
 }
 
-/// Classifies a line by a numeric table: what is refused in reading is replied to at once. Out of memory is an error, and no reply.
-pub fn classify_line(
+/// As `classify_line`, with room that is kept from line to line.
+pub fn classify_line_in(
     alloc: Global,
     line: &[u8],
     table: &Arc<NumericTable>,
+    room: &mut Scratch,
 ) -> Result<LineOutcome, AllocError>
     ensures { IfOk result (IsLineOutcome (arc_value table.now) line.now) }
 {
@@ -136,8 +139,20 @@ pub fn classify_line(
             Err(fault) => Ok(LineOutcome::ReplyNow(bad_report_reply(alloc, &fault)?)),
         };
     }
-    match json_value(alloc, line)? {
+    match json_value_in(alloc, line, room)? {
         Some(value) => value_judged(alloc, value, table),
         None => LineOutcome::reply_now(alloc, bad_line_reply()),
     }
+}
+
+/// Classifies a line by a numeric table: what is refused in reading is replied to at once. Out of memory is an error, and no reply.
+pub fn classify_line(
+    alloc: Global,
+    line: &[u8],
+    table: &Arc<NumericTable>,
+) -> Result<LineOutcome, AllocError>
+    ensures { IfOk result (IsLineOutcome (arc_value table.now) line.now) }
+{
+    let mut room = Scratch::new(alloc);
+    classify_line_in(alloc, line, table, &mut room)
 }

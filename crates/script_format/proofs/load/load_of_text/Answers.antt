@@ -1,5 +1,4 @@
-use Rattle.std.proofs.Common.{◌≡◌, ◌∙◌, Some, ap, sym, option_and_then, option_map, subst, string_bytes, rules}
-use Rattle.std.specs.Arc.{arc_value}
+use Rattle.std.proofs.Common.{◌≡◌, ◌∙◌, Some, ap, sym, option_and_then, option_map, rules}
 use Rattle.json.specs.Value.{value_view}
 use Rattle.serde_json.specs.Read.{of_json}
 use Rattle.filing_model.specs.Reading.JsonText.{json_of}
