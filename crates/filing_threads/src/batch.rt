@@ -6,9 +6,10 @@ ghost use Rattle.line_io.specs.Lines.{lines_of, spoken};
 ghost use Rattle.filing_threads.specs.Batches.{AddsJudged, AddsLine, AreBatch};
 
 use filing_office::DeskStep;
+use json::Scratch;
 use line_io::next_line;
 use oim_fact::NumericTable;
-use script_format::{LineOutcome, bad_line_reply, classify_line};
+use script_format::{LineOutcome, bad_line_reply, classify_line_in};
 use std::alloc::{AllocError, Global};
 use std::sync::Arc;
 
@@ -62,10 +63,11 @@ impl Batch {
         alloc: Global,
         line: &[u8],
         table: &Arc<NumericTable>,
+        room: &mut Scratch,
     ) -> Result<(), AllocError>
         ensures { OnOk result (AddsLine (arc_value table.now) line.now self.old self.new) }
     {
-        let judged = classify_line(alloc, line, table)?;
+        let judged = classify_line_in(alloc, line, table, room)?;
         self.push(alloc, judged)
     }
 
@@ -82,7 +84,8 @@ impl Batch {
             return Ok(None);
         };
         let mut batch = Batch::new(alloc);
-        batch.judge(alloc, line, table)?;
+        let mut room = Scratch::new(alloc);
+        batch.judge(alloc, line, table, &mut room)?;
         let mut rest = others;
         let mut bytes = line.len();
         for _ in 1..MOST_LINES {
@@ -93,7 +96,7 @@ impl Batch {
             if bytes > MOST_BYTES {
                 break;
             }
-            batch.judge(alloc, line, table)?;
+            batch.judge(alloc, line, table, &mut room)?;
             rest = others;
         }
         Ok(Some((batch, rest)))
