@@ -28,15 +28,22 @@ use std::marker::Model;
 use std::mem;
 use std::sync::Arc;
 
+/// What a session has staged and read.
+#[derive(Drop)]
+struct Work {
+    staging: Staging,
+    key_cache: KeyCache,
+    reads: IndexSet<Thing>,
+}
+
 /// An open session. Contracts see its state as its calls leave it, and whether there is room for one more thing read.
 #[derive(Drop)]
 pub struct Session {
     alloc: Global,
     kind: Kind,
     base: Arc<RepoVersion>,
-    staging: Staging,
-    key_cache: KeyCache,
-    reads: IndexSet<Thing>,
+    /// It is boxed, so that maps of sessions have small entries.
+    work: Box<Work>,
 }
 
 impl Model for Session {
@@ -54,11 +61,11 @@ impl Model for Session {
       state = record {
         kind = s.kind;
         base = repository_in (arc_value s.base);
-        copy = s.staging.0;
-        change = s.staging.1;
-        reads = map thing_of s.reads.keys;
+        copy = s.work.value.staging.0;
+        change = s.work.value.staging.1;
+        reads = map thing_of s.work.value.reads.keys;
       };
-      has_room = nat_lt 0 (spare s.reads);
+      has_room = nat_lt 0 (spare s.work.value.reads);
     } };
 }
 
@@ -153,13 +160,16 @@ impl Session {
         ensures { IfOk result (λ s. s.state ≡ opened kind (repository_in (arc_value base))) }
     {
         let version = Arc::try_clone(&base)?;
+        let work = Work {
+            staging: Staging::new(alloc, version),
+            key_cache: KeyCache::new(alloc),
+            reads: IndexSet::new(alloc),
+        };
         Ok(Session {
             alloc,
             kind,
             base,
-            staging: Staging::new(alloc, version),
-            key_cache: KeyCache::new(alloc),
-            reads: IndexSet::new(alloc),
+            work: Box::new(alloc, work)?,
         })
     }
 
@@ -180,14 +190,14 @@ impl Session {
     pub fn reads(&self) -> &IndexSet<Thing>
         ensures { map thing_of result.now.keys ≡ self.now.state.reads }
     {
-        &self.reads
+        &self.work.reads
     }
 
     /// What it has staged.
     pub fn change(&self) -> &Change
         ensures { result.now ≡ self.now.state.change }
     {
-        self.staging.change()
+        self.work.staging.change()
     }
 
     /// Prepares a call: allocates all that it needs. No reply changes, and nothing is read or staged.
@@ -196,13 +206,14 @@ impl Session {
         ensures room { OnOk result (self.new.has_room ≡ true) }
         ensures state { self.new.state ≡ self.old.state }
     {
-        self.reads.reserve(1)?;
-        apply_pending_for(self.alloc, &mut self.staging, &call)?;
+        let work: &mut Work = &mut self.work;
+        work.reads.reserve(1)?;
+        apply_pending_for(self.alloc, &mut work.staging, &call)?;
         effect(
             self.alloc,
             self.kind,
-            &self.staging,
-            &mut self.key_cache,
+            &work.staging,
+            &mut work.key_cache,
             call,
         )
     }
@@ -218,8 +229,9 @@ impl Session {
             thing,
             staged,
         } = ready;
-        enter(&mut self.reads, thing);
-        put_in_place(&mut self.staging, staged);
+        let work: &mut Work = &mut self.work;
+        enter(&mut work.reads, thing);
+        put_in_place(&mut work.staging, staged);
         reply
     }
 

@@ -13,6 +13,23 @@ use oim_fact::{Allowed, Fact, RawFact, fit};
 use std::alloc::{AllocError, Global};
 use std::sync::Arc;
 
+/// A put of a session. The first shares nothing with later ones, so that a session of one put keeps no cache.
+fn record_of(
+    alloc: Global,
+    staging: &Staging,
+    key_cache: &mut KeyCache,
+    id: String,
+    fact: Option<Arc<Fact>>,
+) -> Result<PutRecord, AllocError>
+    ensures { IfOk result (λ p. p ≡ (string_bytes id, option_map arc_value fact)) }
+{
+    if staging.change().is_empty() {
+        PutRecord::of(alloc, id, fact)
+    } else {
+        PutRecord::among(alloc, key_cache, id, fact)
+    }
+}
+
 /// A fact is put, or removed, at an identifier, which is read.
 fn put(
     alloc: Global,
@@ -25,7 +42,7 @@ fn put(
     ensures { IfOk result (λ r. r ≡ put_effect (string_bytes report) (string_bytes id) (option_map arc_value fact)
         staging.now.0 staging.now.1) }
 {
-    let record = PutRecord::among(alloc, key_cache, id.clone()?, fact)?;
+    let record = record_of(alloc, staging, key_cache, id.clone()?, fact)?;
     let staged = staging.with_fact(&report, record)?;
     Ok(Ready {
         reply: Reply::Staged,

@@ -7,6 +7,7 @@ ghost use Rattle.filing_version.specs.Puts.{fact_seen};
 
 use filing_facts::{IndexedFact, KeyCache};
 use oim_fact::{Allowed, Fact};
+use sorted_pages::Edit;
 use std::alloc::{AllocError, Global};
 use std::marker::Model;
 use std::sync::Arc;
@@ -81,8 +82,7 @@ impl ChangedReport {
     ) -> Result<ChangedReport, AllocError>
         ensures { IfOk result (λ r. r ≡ record self.now { facts = insert self.now.facts entry.0 entry.1 }) }
     {
-        let again = self.facts.share(alloc)?;
-        let facts = again.put_back(alloc, entry)?;
+        let facts = self.facts.after(alloc, &[Edit::Put(entry)])?;
         Ok(ChangedReport {
             declared: self.declared,
             facts,

@@ -1,4 +1,4 @@
-use Rattle.std.proofs.Common.{◌≡◌, ◌∙◌, ap, sym, option_map, unwrap_or, Option, Some, None}
+use Rattle.std.proofs.Common.{◌≡◌, ◌∙◌, ap, sym, option_map, unwrap_or, Some, None}
 use Rattle.std.specs.Arc.{arc_value}
 use Rattle.filing_model.specs.Sessions.Repository.{Repository, declaring_at}
 use Rattle.filing_model.specs.Sessions.Changes.{Change, with_declared, laid_over}
