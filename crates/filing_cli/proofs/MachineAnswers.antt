@@ -39,7 +39,10 @@ module _ {T : Type 0} (has_taken : T → History → Type 0) (m : ScriptMachine 
     step_told name step key reply is named a = by_outcome (outcome.StepDue name step) reply is
         (subst (λ k. AnswersAs has_taken (answered (carried m h) (judged_under (carried m h) k (step_of step))) reply n) named a)
 
-  pub reply_told : (line : Text) (j : LineOutcome) (text : String Global) → IsLineOutcome (arc_value m.table) line j → j ≡ outcome.ReplyNow text
-      → has_taken m.taker h → AnswersAs has_taken (line_answer (carried m h) line) (string_bytes text) m
-  reply_told line j text known is taken =
-      by_outcome m line j known (outcome.ReplyNow text) (string_bytes text) is (told_now (ReplyNow (string_bytes text)) (string_bytes text) taken refl)
+  -- a reply at once leaves the machine as it was, but for its room
+  pub reply_told : (n : ScriptMachine T) (line : Text) (j : LineOutcome) (text : String Global) → carried n h ≡ carried m h
+      → IsLineOutcome (arc_value m.table) line j → j ≡ outcome.ReplyNow text → has_taken n.taker h
+      → AnswersAs has_taken (line_answer (carried m h) line) (string_bytes text) n
+  reply_told n line j text same known is taken =
+      by_outcome n line j known (outcome.ReplyNow text) (string_bytes text) is
+      (record { history = h; taken = taken; is = ap (λ s. (string_bytes text, s)) (sym same) })

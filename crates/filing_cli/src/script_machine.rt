@@ -11,20 +11,23 @@ ghost use Rattle.filing_cli.specs.StepsTaken.{Answers, AnswersLine};
 use crate::takes_steps::TakesSteps;
 use filing_step::{Kind, Reply, SessionNames, Step};
 use filing_version::RepoVersion;
+use json::Scratch;
 use line_io::Machine;
 use oim_fact::NumericTable;
 use script_format::{
-    LineOutcome, classify_line, exported_reply_of, name_in_use_reply, no_session_reply, reply_text,
+    LineOutcome, classify_line_in, exported_reply_of, name_in_use_reply, no_session_reply,
+    reply_text,
 };
 use std::alloc::{AllocError, Global};
 use std::sync::Arc;
 
-/// What answers the lines of a script: what takes its steps, with the names in use and the table by which reports are read.
+/// What answers the lines of a script: what takes its steps, with the names in use, the table by which reports are read, and the room in which lines are read.
 #[derive(Drop)]
 pub(crate) struct ScriptMachine<T: TakesSteps + Drop> {
     table: Arc<NumericTable>,
     pub(crate) taker: T,
     names: SessionNames<u64>,
+    room: Scratch,
 }
 
 impl<T: TakesSteps + Drop> ScriptMachine<T> {
@@ -42,6 +45,7 @@ impl<T: TakesSteps + Drop> ScriptMachine<T> {
             table,
             taker,
             names: SessionNames::new(alloc),
+            room: Scratch::new(alloc),
         }
     }
 
@@ -147,7 +151,7 @@ impl<T: TakesSteps + Drop> ScriptMachine<T> {
         ensures answers { IfOk result (λ text. AnswersLine T.has_taken self.old line.now (string_bytes text) self.new) }
         ensures steps_on { T.steps_on self.old.taker self.new.taker }
     {
-        match classify_line(alloc, line, &self.table)? {
+        match classify_line_in(alloc, line, &self.table, &mut self.room)? {
             LineOutcome::ReplyNow(text) => Ok(text),
             LineOutcome::Export(name) => self.export(alloc, &name),
             LineOutcome::StepDue { name, step } => self.take_due(alloc, &name, step),

@@ -1,11 +1,12 @@
-use Rattle.std.proofs.Common.{◌≡◌, rules, string_bytes}
+use Rattle.std.proofs.Common.{◌≡◌, refl, rules, string_bytes}
 use Rattle.std.proofs.lemmas.Result.{IfOk-weaker}
 use Rattle.filing_cli.proofs.MachineAnswers.{reply_told, export_told, step_told}
 use Rattle.filing_cli.proofs.script_machine.ScriptMachine.answer_line.Goals as goal
 
 pub returns-in-ReplyNow-clause-answers : goal.returns-in-ReplyNow-clause-answers
 returns-in-ReplyNow-clause-answers g c = λ h taken.
-    reply_told g.T.TakesSteps.has_taken c.args.self.now h c.args.line.now c.in_ok-text.field-0 c.in-ReplyNow.text c.in_ok-text.ensures c.in-ReplyNow.is taken
+    reply_told g.T.TakesSteps.has_taken c.args.self.now h _ c.args.line.now c.in_ok-text.field-0 c.in-ReplyNow.text refl c.in_ok-text.ensures
+    c.in-ReplyNow.is taken
 
 pub returns-in-Export-clause-answers : goal.returns-in-Export-clause-answers
 returns-in-Export-clause-answers g c =
