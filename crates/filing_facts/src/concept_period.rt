@@ -80,7 +80,7 @@ impl ConceptPeriod {
     }
 
     /// Whether this is the concept and the period.
-    fn are_of(&self, concept: &str, period: Option<&str>) -> bool
+    pub(crate) fn are_of(&self, concept: &str, period: Option<&str>) -> bool
         ensures { IsTrue result → self.now ≡ keys_of concept.now (option_map (λ t. t.now) period.entry) }
     {
         is_same_text(self.concept(), concept) && are_same_texts(self.period(), period)

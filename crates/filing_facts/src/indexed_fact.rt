@@ -3,6 +3,7 @@ ghost use Rattle.std.specs.Prelude.{◌≡◌, option_map, IfOk, Some};
 ghost use Rattle.std.specs.Arc.{arc_value};
 ghost use Rattle.filing_model.specs.Oim.Dimensions.{concept_of, period_of};
 ghost use Rattle.filing_facts.specs.Hashes.{cell_hash, concept_hash, concept_in, period_hash};
+ghost use Rattle.filing_facts.specs.ConceptPeriods.{IsConceptPeriodOf};
 
 use crate::concept_period::{ConceptPeriod, KeyCache};
 use crate::hashes::hash_of_dims;
@@ -106,6 +107,31 @@ impl IndexedFact {
     {
         let _ = &self.fact;
         self.keys.of_concept()
+    }
+
+    /// Its concept and its period, by another fact's where that has the same.
+    #[tactic(auto, using(crate::proofs::KeptTexts::same_keys))]
+    fn keys_beside(&self, other: &IndexedFact) -> Result<Arc<ConceptPeriod>, AllocError>
+        ensures { IfOk result (λ keys. IsConceptPeriodOf self.now.dims (arc_value keys)) }
+    {
+        let _ = &self.fact;
+        if other.keys.are_of(self.keys.concept(), self.keys.period()) {
+            return Arc::try_clone(&other.keys);
+        }
+        Arc::try_clone(&self.keys)
+    }
+
+    /// The same fact for one more map. It shares its concept and its period with another fact where that has the same.
+    pub fn share_beside(&self, other: &IndexedFact) -> Result<IndexedFact, AllocError>
+        ensures { IfOk result (λ h. h ≡ self.now) }
+    {
+        let fact = Arc::try_clone(&self.fact)?;
+        let keys = self.keys_beside(other)?;
+        Ok(IndexedFact {
+            fact,
+            cell: self.cell,
+            keys,
+        })
     }
 
     /// The same fact for one more map.

@@ -11,6 +11,7 @@ ghost use Rattle.filing_facts.specs.FactChanges.{with_changes};
 ghost use Rattle.filing_index.specs.ChangedIndexes.{fact_changes_in, AreFactChanges};
 ghost use Rattle.std.specs.Arc.{arc_value};
 
+use crate::found::first_of_hash;
 use crate::index_entry::IndexEntry;
 use crate::index_kind::IndexKind;
 use crate::indexing::{beside, ids_after, ids_into_after, index_after, index_into_after, index_of};
@@ -45,19 +46,13 @@ impl Model for Facts {
     ghost invariant = { λ f. AreIndexes f.by_id f.by_cell f.by_period f.by_concept };
 }
 
-/// The record that a change puts, if it puts one.
-fn record_put(
-    alloc: Global,
-    change: &NamedValue<Option<IndexedFact>>,
-) -> Result<Option<NamedValue<IndexedFact>>, AllocError>
-    ensures { IfOk result (λ o. o ≡ option_map (λ f. (change.now.0, f)) change.now.1) }
+/// The same fact once more, which shares what another one has the same, where there is another one.
+fn shared_beside(held: &IndexedFact, other: Option<&IndexedFact>) -> Result<IndexedFact, AllocError>
+    ensures { IfOk result (λ h. h ≡ held.now) }
 {
-    match change.value() {
-        None => Ok(None),
-        Some(held) => {
-            let id = String::from_str(alloc, change.name())?;
-            Ok(Some(NamedValue::new(alloc, id, held.share()?)?))
-        }
+    match other {
+        Some(other) => held.share_beside(other),
+        None => held.share(),
     }
 }
 
@@ -137,6 +132,24 @@ impl Facts {
         }
     }
 
+    /// The record that a change puts, if it puts one. It shares its concept and its period with a fact that has the same.
+    fn record_put(
+        &self,
+        alloc: Global,
+        change: &NamedValue<Option<IndexedFact>>,
+    ) -> Result<Option<NamedValue<IndexedFact>>, AllocError>
+        ensures { IfOk result (λ o. o ≡ option_map (λ f. (change.now.0, f)) change.now.1) }
+    {
+        match change.value() {
+            None => Ok(None),
+            Some(held) => {
+                let id = String::from_str(alloc, change.name())?;
+                let held = shared_beside(held, first_of_hash(&self.by_period, held.period_hash()))?;
+                Ok(Some(NamedValue::new(alloc, id, held)?))
+            }
+        }
+    }
+
     /// Pushes the fact change of one identifier, unless no fact stands before or after.
     fn push_fact_change(
         &self,
@@ -148,7 +161,7 @@ impl Facts {
             ≡ fact_changes.old.items ++ fact_changes_in (change.now ∷ []) self.now) }
     {
         let old = self.record(change.name())?;
-        let new = record_put(alloc, change)?;
+        let new = self.record_put(alloc, change)?;
         if old.is_some() || new.is_some() {
             fact_changes.push(FactChange::of(old, new))?;
         }

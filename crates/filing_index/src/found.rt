@@ -44,6 +44,12 @@ impl<'a> Span<IndexEntry> for OfHash<'a> {
     }
 }
 
+/// A fact under this hash, if there is one. Which it is decides nothing.
+pub(crate) fn first_of_hash(index: &Paged<IndexEntry>, hash: u64) -> Option<&IndexedFact> {
+    let entry = index.first_in(&OfHash { hash, after: None })?;
+    Some(entry.held().value())
+}
+
 /// All entries.
 #[derive(Drop)]
 pub(crate) struct All;
