@@ -24,7 +24,7 @@ use Rattle.filing_facts.specs.FactChanges.{FactChange, Part, Id, Cell, Range, is
 use Rattle.filing_stamps.specs.declared.stamp.StampKind.{StampKind}
 use Rattle.filing_stamps.specs.declared.stamp.StampKind.TheVariants as kind
 use Rattle.filing_stamps.specs.Stamps.{Group, no_group, group_cmp, group_hash, code_of, stamp_code, Stamp, stamp_cmp, stamps_of}
-use Rattle.filing_stamps.specs.Stamps.{stamps_if_there, stamps_beside, stamps_of_change, stamps_of_changes}
+use Rattle.filing_stamps.specs.Stamps.{stamps_if_there, stamps_between, stamps_of_change, stamps_of_changes}
 use Rattle.filing_stamps.specs.Stamps.{ArePuts, Between, is_upto}
 use Rattle.filing_stamps.specs.Stamps.{ids_side, among_side, part_among, stamp_in}
 use Rattle.std.proofs.lemmas.List.Folds.{list_any-append}
@@ -235,24 +235,24 @@ stands_alike (Range query upto) id f g e =
     let answers = answers_query query.concept query.period in
     ap (λ dims. is_within query.after upto id && answers (record f { dims = dims })) e
 
--- so what a new fact leaves beside what the old one leaves is all that is to be left
+-- so what a new fact of the same dimensions leaves is all that is to be left
 both_hit : (part : Part) (n : ℕ) (id : Text) (old new : Option Fact)
-    → (hits part (stamps_if_there n (option_map (λ f. (id, f)) old))
-    || hits part (stamps_beside n (option_map (λ f. (id, f)) old) (option_map (λ f. (id, f)) new)))
+    → hits part (stamps_between n (option_map (λ f. (id, f)) old) (option_map (λ f. (id, f)) new))
     ≡ (option_map_or (stands_in part id) old false || option_map_or (stands_in part id) new false)
-both_hit part n id old None = ap (λ b. b || false) (if_there part n id old)
+both_hit part n id old None = if_there part n id old ∙ sym (or_false _)
 both_hit part n id None (Some new) = fact_hits part n id new
 both_hit part n id (Some old) (Some new) = by (dims_eq old.dims new.dims) refl
   where
     by : (same : Bool) → dims_eq old.dims new.dims ≡ same
-        → (hits part (stamps_of n (id, old)) || hits part (cond same [] (stamps_of n (id, new))))
+        → hits part (cond same (stamps_of n (id, new)) (stamps_of n (id, old) ++ stamps_of n (id, new)))
         ≡ (stands_in part id old || stands_in part id new)
     by true e =
-        or_false _
-        ∙ fact_hits part n id old
-        ∙ sym (or_self (stands_in part id old))
-        ∙ ap (λ b. stands_in part id old || b) (stands_alike part id old new (dims_same old.dims new.dims e))
-    by false e = λ i. fact_hits part n id old i || fact_hits part n id new i
+        fact_hits part n id new
+        ∙ sym (or_self (stands_in part id new))
+        ∙ ap (λ b. b || stands_in part id new) (sym (stands_alike part id old new (dims_same old.dims new.dims e)))
+    by false e =
+        list_any-append (λ s. is_eq (among_side (part_among part) s)) (stamps_of n (id, old)) (stamps_of n (id, new))
+        ∙ (λ i. fact_hits part n id old i || fact_hits part n id new i)
 
 -- a test before one of two that may be missing
 either_both : {X : Type 0} (a : Bool) (p : X → Bool) (x y : Option X)
@@ -281,36 +281,30 @@ moves_hit : (part : Part) (n : ℕ) (fact_changes : List FactChange) → hits pa
 moves_hit part n [] = refl
 moves_hit part n (move ∷ fact_changes) =
     list_any-append (λ s. is_eq (among_side (part_among part) s)) (stamps_of_change n move) (flat_map (stamps_of_change n) fact_changes)
-    ∙ (λ i. (list_any-append (λ s. is_eq (among_side (part_among part) s))
-    (stamps_if_there n (option_map (λ f. (move.id, f)) move.old))
-    (stamps_beside n (option_map (λ f. (move.id, f)) move.old) (option_map (λ f. (move.id, f)) move.new))
-    ∙ both_hit part n move.id move.old move.new ∙ move_stands part move) i || moves_hit part n fact_changes i)
+    ∙ (λ i. (both_hit part n move.id move.old move.new ∙ move_stands part move) i || moves_hit part n fact_changes i)
 
 fact_has : (n : ℕ) (id : Text) (fact : Option Fact) → AllHave (λ s. s.number) n (stamps_if_there n (option_map (λ f. (id, f)) fact))
 fact_has n id None = tt
 fact_has n id (Some fact) = (refl, (refl, (refl, (refl, tt))))
 
-beside_has : (n : ℕ) (id : Text) (old new : Option Fact)
-    → AllHave (λ s. s.number) n (stamps_beside n (option_map (λ f. (id, f)) old) (option_map (λ f. (id, f)) new))
-beside_has n id old None = tt
-beside_has n id None (Some new) = fact_has n id (Some new)
-beside_has n id (Some old) (Some new) = by (dims_eq old.dims new.dims)
-  where
-    by : (same : Bool) → AllHave (λ s. s.number) n (cond same [] (stamps_of n (id, new)))
-    by true = tt
-    by false = fact_has n id (Some new)
-
 both_have : (n : ℕ) (xs ys : List Stamp) → AllHave (λ s. s.number) n xs → AllHave (λ s. s.number) n ys → AllHave (λ s. s.number) n (xs ++ ys)
 both_have n [] ys a b = b
 both_have n (x ∷ xs) ys a b = (a.0, both_have n xs ys a.1 b)
 
+between_has : (n : ℕ) (id : Text) (old new : Option Fact)
+    → AllHave (λ s. s.number) n (stamps_between n (option_map (λ f. (id, f)) old) (option_map (λ f. (id, f)) new))
+between_has n id old None = fact_has n id old
+between_has n id None (Some new) = fact_has n id (Some new)
+between_has n id (Some old) (Some new) = by (dims_eq old.dims new.dims)
+  where
+    by : (same : Bool) → AllHave (λ s. s.number) n (cond same (stamps_of n (id, new)) (stamps_of n (id, old) ++ stamps_of n (id, new)))
+    by true = fact_has n id (Some new)
+    by false = both_have n (stamps_of n (id, old)) (stamps_of n (id, new)) (fact_has n id (Some old)) (fact_has n id (Some new))
+
 moves_have : (n : ℕ) (fact_changes : List FactChange) → AllHave (λ s. s.number) n (flat_map (stamps_of_change n) fact_changes)
 moves_have n [] = tt
 moves_have n (move ∷ fact_changes) =
-    both_have n (stamps_of_change n move) (flat_map (stamps_of_change n) fact_changes)
-    (both_have n (stamps_if_there n (option_map (λ f. (move.id, f)) move.old))
-    (stamps_beside n (option_map (λ f. (move.id, f)) move.old) (option_map (λ f. (move.id, f)) move.new))
-    (fact_has n move.id move.old) (beside_has n move.id move.old move.new))
+    both_have n (stamps_of_change n move) (flat_map (stamps_of_change n) fact_changes) (between_has n move.id move.old move.new)
     (moves_have n fact_changes)
 
 pub puts_of_these : {left these : List Stamp} {changes others : List (Edit Stamp)} → left ≡ these → others ≡ changes → ArePuts left changes → ArePuts these others

@@ -132,16 +132,15 @@ abbrev pub had_dims : Option (Text × Fact) → Dims → Bool
 had_dims None dims = false
 had_dims (Some held) dims = dims_eq held.1.dims dims
 
--- what the new fact of an identifier leaves beside what the old one leaves: nothing where that had the same dimensions
-abbrev pub stamps_beside : ℕ → Option (Text × Fact) → Option (Text × Fact) → List Stamp
-stamps_beside number old None = []
-stamps_beside number old (Some held) = cond (had_dims old held.1.dims) [] (stamps_of number held)
+-- those of the fact before and of the fact after; of the fact after alone, where both have the same dimensions
+abbrev pub stamps_between : ℕ → Option (Text × Fact) → Option (Text × Fact) → List Stamp
+stamps_between number old None = stamps_if_there number old
+stamps_between number old (Some new) =
+    cond (had_dims old new.1.dims) (stamps_of number new) (stamps_if_there number old ++ stamps_of number new)
 
--- of the fact before and of the fact after
 abbrev pub stamps_of_change : ℕ → FactChange → List Stamp
 stamps_of_change number move =
-    stamps_if_there number (option_map (λ f. (move.id, f)) move.old)
-    ++ stamps_beside number (option_map (λ f. (move.id, f)) move.old) (option_map (λ f. (move.id, f)) move.new)
+    stamps_between number (option_map (λ f. (move.id, f)) move.old) (option_map (λ f. (move.id, f)) move.new)
 
 -- each that fact changes leave, some more than once
 abbrev pub stamps_of_changes : ℕ → List FactChange → List Stamp

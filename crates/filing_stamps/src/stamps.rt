@@ -1,5 +1,5 @@
 //! The number of the last touch of each part of one report.
-ghost use Rattle.std.specs.Prelude.{◌≡◌, ◌++◌, ◌∷◌, ℕ, ◌≤◌, [], map, IfOk, OnOk, option_map};
+ghost use Rattle.std.specs.Prelude.{◌≡◌, ◌++◌, ◌∷◌, ℕ, ◌≤◌, [], cond, map, IfOk, OnOk, option_map};
 ghost use Rattle.std.specs.Option.{option_copied};
 ghost use Rattle.sorted_pages.specs.Pages.{greatest};
 ghost use Rattle.sorted_pages.specs.Ranges.{within};
@@ -8,7 +8,7 @@ ghost use Rattle.sorted_pages.specs.Changes.{entry_of};
 ghost use Rattle.filing_facts.specs.FactChanges.{Part, Id, Cell, Range, stamped_by};
 ghost use Rattle.filing_facts.specs.PeriodFilterRef.{period_filter_of};
 ghost use Rattle.filing_stamps.specs.Stamps.{ArePuts, among_side, coded_stamp, stamps_of, stamps_if_there, had_dims};
-ghost use Rattle.filing_stamps.specs.Stamps.{stamps_beside, stamps_of_change, stamps_of_changes, stamp_cmp, stamp_in};
+ghost use Rattle.filing_stamps.specs.Stamps.{stamps_between, stamps_of_change, stamps_of_changes, stamp_cmp, stamp_in};
 
 use crate::stamp::{Group, Stamp, StampKind};
 use crate::stamp_spans::{Among, IdRange};
@@ -89,32 +89,46 @@ fn had_dims(old: Option<&NamedValue<IndexedFact>>, dims: &DimSet) -> bool
     }
 }
 
-/// Appends the stamps that a new fact leaves beside those of the old one. Where both have the same dimensions, these
-/// would only tie.
-fn leave_beside(
+/// Appends the stamps of a new fact, and those of the old one unless both have the same dimensions. So no stamp holds
+/// what a fact of the same dimensions has replaced.
+fn leave_new(
+    stamps: &mut Vec<Stamp>,
+    old: Option<&NamedValue<IndexedFact>>,
+    new: &NamedValue<IndexedFact>,
+    number: u64,
+) -> Result<(), AllocError>
+    ensures { OnOk result (stamps.new.items
+        ≡ stamps.old.items ++ cond (had_dims (option_copied old.entry) new.now.1.dims) (stamps_of number new.now)
+        (stamps_if_there number (option_copied old.entry) ++ stamps_of number new.now)) }
+{
+    if had_dims(old, new.value().dims()) {
+        return leave(stamps, new, number);
+    }
+    leave_if_there(stamps, old, number)?;
+    leave(stamps, new, number)
+}
+
+/// Appends the stamps of facts that stood at an identifier before and that stand there after.
+fn leave_between(
     stamps: &mut Vec<Stamp>,
     old: Option<&NamedValue<IndexedFact>>,
     new: Option<&NamedValue<IndexedFact>>,
     number: u64,
 ) -> Result<(), AllocError>
     ensures { OnOk result (stamps.new.items
-        ≡ stamps.old.items ++ stamps_beside number (option_copied old.entry) (option_copied new.entry)) }
+        ≡ stamps.old.items ++ stamps_between number (option_copied old.entry) (option_copied new.entry)) }
 {
-    if let Some(new) = new {
-        if !had_dims(old, new.value().dims()) {
-            leave(stamps, new, number)?;
-        }
+    match new {
+        Some(new) => leave_new(stamps, old, new, number),
+        None => leave_if_there(stamps, old, number),
     }
-    Ok(())
 }
 
 /// Appends the stamps that a fact change leaves.
 fn leave_both(stamps: &mut Vec<Stamp>, each: &FactChange, number: u64) -> Result<(), AllocError>
     ensures { OnOk result (stamps.new.items ≡ stamps.old.items ++ stamps_of_change number each.now) }
 {
-    leave_if_there(stamps, each.old(), number)?;
-    leave_beside(stamps, each.old(), each.new(), number)?;
-    Ok(())
+    leave_between(stamps, each.old(), each.new(), number)
 }
 
 /// The stamps that fact changes leave, some more than once.
