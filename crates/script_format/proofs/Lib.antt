@@ -6,6 +6,7 @@ pub mod LinesByWord
 pub mod ReportOfLoad
 pub mod AskedOfLine
 pub mod ReadValues
+pub mod ReadParts
 pub mod ReadLoads
 pub mod JudgedLines
 -- ---- examples that compute

@@ -11,3 +11,5 @@ pub mod Loads
 pub mod AskedStep
 -- ---- what a line comes to before its step is taken
 pub mod LineOutcomes
+-- ---- the parts of a line as it was read
+pub mod ReadParts

@@ -2,6 +2,7 @@
 //!
 //! - `line_value`: the JSON value of a line.
 //! - `line`: the kind of a line, with its parts.
+//! - `read_line`: a line without objects, with its parts as they were read.
 //! - `asked_step`: the step that a line asks of a session.
 //! - `load`: the report of a load.
 //! - `line_outcome`: what a line comes to before its step is taken.
@@ -15,6 +16,7 @@ mod line;
 mod line_outcome;
 mod line_value;
 mod load;
+mod read_line;
 mod texts;
 
 pub use asked_step::{own_period, step_asked, step_from};

@@ -1,23 +1,27 @@
 //! `LineOutcome`: what a line comes to before its step is taken. `classify_line` says it of each line.
 
-ghost use Rattle.std.specs.Prelude.{◌≡◌, IfOk, IsSome, Ok, Some, string_bytes};
+ghost use Rattle.std.specs.Prelude.{◌≡◌, IfOk, IfSome, IsSome, Ok, Some, string_bytes};
 ghost use Rattle.std.specs.Arc.{arc_value};
 ghost use Rattle.serde_json.specs.View.{view};
 ghost use Rattle.filing_step.specs.Steps.{step_of};
+ghost use Rattle.filing_model.specs.Reading.JsonText.{json_of};
+ghost use Rattle.oim_report.specs.Borrowed.{IsInRange, data_of};
+ghost use Rattle.script_format.specs.LineView.{asking_view, line_view};
 ghost use Rattle.script_format.specs.AskedStep.{asking_in};
-ghost use Rattle.script_format.specs.ScriptLines.{Asking};
-ghost use Rattle.script_format.specs.Script.{ReplyNow, call_read, judged, judged_asking, judged_export, judged_load, report_in};
+ghost use Rattle.script_format.specs.ScriptLines.{Asking as Asked};
+ghost use Rattle.script_format.specs.Script.{ReplyNow, call_read, judged, judged_asking, judged_export, judged_line, judged_load, report_in};
 ghost use Rattle.script_format.specs.LineOutcomes.{ComesTo, ComesToBy, IsLineOutcome, judged_under};
 
-use crate::asked_step::step_from;
-use crate::line::{Line, line_of, taken_at};
+use crate::asked_step::{step_asked, step_from};
+use crate::line::{Asking, Line, line_of, taken_at};
 use crate::line_value::json_value_in;
 use crate::load::{Loaded, load_of_line, report_in};
+use crate::read_line::{begins_read, read_line};
 use crate::texts::{bad_line_reply, bad_report_reply};
 use filing_step::Step;
 use json::Scratch;
 use oim_fact::NumericTable;
-use oim_report::Report;
+use oim_report::{Report, text_value};
 use serde_json::Value;
 use std::alloc::{AllocError, Global};
 use std::sync::Arc;
@@ -81,7 +85,7 @@ fn load_judged(
 /// Classifies what a value asks of a session: its fact or its dimensions move out of it, and are read.
 fn asking_judged(alloc: Global, session: String, value: Value) -> Result<LineOutcome, AllocError>
     requires { IsSome (asking_in 2 (view value)) }
-    ensures { (asking : Asking) → asking_in 2 (view value) ≡ Some asking
+    ensures { (asking : Asked) → asking_in 2 (view value) ≡ Some asking
         → IfOk result (ComesTo (λ state. judged_asking state (string_bytes session) (call_read asking))) }
 {
     match step_from(alloc, value, 2)? {
@@ -123,6 +127,72 @@ fn value_judged(
     }
 }
 
+/// The outcome of a line that asks something of a session.
+fn asking_due(
+    alloc: Global,
+    session: String,
+    asking: &Asking<'_>,
+) -> Result<LineOutcome, AllocError>
+    ensures { IfOk result (ComesTo (λ state.
+        judged_asking state (string_bytes session) (call_read (asking_view asking.now)))) }
+{
+    match step_asked(alloc, asking)? {
+        Ok(step) => Ok(LineOutcome::StepDue {
+            name: session,
+            step,
+        }),
+        Err(text) => Ok(LineOutcome::ReplyNow(text)),
+    }
+}
+
+/// The outcome of a line of which nothing is left to read. None of a load and of an export.
+fn line_due(alloc: Global, line: &Line<'_>) -> Result<Option<LineOutcome>, AllocError>
+    ensures { IfOk result (λ o. IfSome o (ComesTo (λ state. judged_line state (line_view line.now)))) }
+{
+    match line {
+        Line::Open { session, kind } => Ok(Some(LineOutcome::step_due(
+            alloc,
+            session,
+            Step::Open(*kind),
+        )?)),
+        Line::Ask { session, asking } => {
+            let session = String::from_str(alloc, session)?;
+            Ok(Some(asking_due(alloc, session, asking)?))
+        }
+        Line::Commit { session } => Ok(Some(LineOutcome::step_due(alloc, session, Step::Commit)?)),
+        Line::Close { session } => Ok(Some(LineOutcome::step_due(alloc, session, Step::Close)?)),
+        Line::Load { .. } | Line::Export { .. } => Ok(None),
+    }
+}
+
+/// The outcome of a value without objects, where it is a line.
+fn read_due(alloc: Global, value: &json::Value<'_>) -> Result<Option<LineOutcome>, AllocError>
+    requires { IsInRange value.now }
+    ensures { IfOk result (λ o. IfSome o (ComesTo (λ state. judged state (Some (data_of value.now))))) }
+{
+    match read_line(value) {
+        Some(line) => line_due(alloc, &line),
+        None => Ok(None),
+    }
+}
+
+/// Classifies a line that begins as lines without objects mostly do. None of any other.
+fn read_judged(
+    alloc: Global,
+    line: &[u8],
+    room: &mut Scratch,
+) -> Result<Option<LineOutcome>, AllocError>
+    ensures { IfOk result (λ o. IfSome o (ComesTo (λ state. judged state (json_of line.now)))) }
+{
+    if !begins_read(line) {
+        return Ok(None);
+    }
+    match text_value(alloc, line, room)? {
+        Some(value) => read_due(alloc, &value),
+        None => Ok(None),
+    }
+}
+
 /// As `classify_line`, with room that is kept from line to line.
 pub fn classify_line_in(
     alloc: Global,
@@ -138,6 +208,9 @@ pub fn classify_line_in(
             Ok(report) => load_due(alloc, name, report),
             Err(fault) => Ok(LineOutcome::ReplyNow(bad_report_reply(alloc, &fault)?)),
         };
+    }
+    if let Some(outcome) = read_judged(alloc, line, room)? {
+        return Ok(outcome);
     }
     match json_value_in(alloc, line, room)? {
         Some(value) => value_judged(alloc, value, table),
