@@ -2,7 +2,7 @@
 
 ghost use Rattle.std.specs.Prelude.{◌≡◌, ℕ, ◌==◌, cond, true, [], Some, None, IsSome, option_map, OnOk, OnErr};
 ghost use Rattle.filing_step.specs.Steps.{call_of, reply_of};
-ghost use Rattle.filing_core.specs.OpenSessions.{session_of, Readies, Takes};
+ghost use Rattle.filing_core.specs.OpenSessions.{session_of, Calls, Readies, Takes};
 
 use filing_session::{Ready, Session};
 use filing_step::{Call, Reply};
@@ -54,6 +54,19 @@ impl Sessions {
         ensures { (n : ℕ) → session_of self.new n ≡ cond (n == number) None (session_of self.old n) }
     {
         drop(self.by_number.remove(&number));
+    }
+
+    /// Makes a call of a session, where it is open.
+    pub(crate) fn call(&mut self, number: u64, call: Call) -> Option<Result<Reply, AllocError>>
+        ensures { Calls number (call_of call) self.old self.new result }
+    {
+        match self.by_number.get_mut(&number) {
+            Some(session) => Some(session.call(call)),
+            None => {
+                drop(call);
+                None
+            }
+        }
     }
 
     /// Prepares a call of a session: allocates all that it needs.
