@@ -6,13 +6,13 @@ use Rattle.line_io.specs.Devices.{SourceState, SinkState, new_source, new_sink}
 use Rattle.line_io.specs.Lines.{lines_of}
 use Rattle.std.specs.Io.KnownBytes.{Consumes}
 use Rattle.filing_core.specs.Engines.{EngineState, IsEngineOf}
-use Rattle.filing_cli.specs.HistoryRun.{IsHistoryFollowed}
-use Rattle.filing_cli.specs.Recorded.{HasLines, HasRecordedIn}
-use Rattle.filing_cli.specs.declared.entry_file.EntryFile.{EntryFile}
-use Rattle.filing_cli.specs.declared.recorded.RecordedRun.{RecordedRun}
-use Rattle.filing_cli.specs.JournaledRun.{IsKeptWhole}
-use Rattle.filing_cli.specs.Resumed.{IsEndedOn, history_on}
-use Rattle.filing_cli.specs.ScriptRun.{most_reads}
+use Rattle.script_runs.specs.HistoryRun.{IsHistoryFollowed}
+use Rattle.script_runs.specs.Recorded.{HasLines, HasRecordedIn}
+use Rattle.script_runs.specs.declared.entry_file.EntryFile.{EntryFile}
+use Rattle.script_runs.specs.declared.recorded.RecordedRun.{RecordedRun}
+use Rattle.script_runs.specs.JournaledRun.{IsKeptWhole}
+use Rattle.script_runs.specs.Resumed.{IsEndedOn, history_on}
+use Rattle.script_runs.specs.ScriptRun.{most_reads}
 use Rattle.filing.specs.Runs.{CopiesHistory, FollowsHistory, RecordsScript, ResumesScript, WritesAndKeeps, WritesOn}
 
 module _ {S : Type 0} (state : S → SourceState) (table : Table) (h : History) (source source' : S) (sink sink' : SinkState)

@@ -8,8 +8,8 @@ use Rattle.line_io.specs.declared.fault.ScriptFault.{ScriptFault}
 use Rattle.line_io.specs.declared.fault.ScriptFault.TheVariants as script
 use Rattle.filing_threads.specs.declared.fault.ThreadsFault.{ThreadsFault}
 use Rattle.filing_threads.specs.declared.fault.ThreadsFault.TheVariants as threads
-use Rattle.filing_cli.specs.declared.reopened.OpenHistoryFault.{OpenHistoryFault}
-use Rattle.filing_cli.specs.declared.reopened.OpenHistoryFault.TheVariants as history
+use Rattle.script_runs.specs.declared.reopened.OpenHistoryFault.{OpenHistoryFault}
+use Rattle.script_runs.specs.declared.reopened.OpenHistoryFault.TheVariants as history
 use Rattle.journal_file.specs.declared.fault.FileFault.{FileFault}
 use Rattle.journal_file.specs.declared.fault.FileFault.TheVariants as file
 use Rattle.filing_words.specs.declared.fault.WordsFault.{WordsFault}

@@ -15,11 +15,11 @@ use Rattle.history_format.specs.LinesRead.{AreLawful, LinesDepart, entries_on}
 use Rattle.filing_core.specs.Engines.{EngineState, IsEngineOf}
 use Rattle.filing_core.specs.Verdicts.{departure}
 use Rattle.filing_core.specs.declared.verdict.Verdict.{Verdict}
-use Rattle.filing_threads.specs.JournalLines.{journal_text}
-use Rattle.filing_cli.specs.HistoryRun.{verdict_text, verdict_status}
-use Rattle.filing_cli.specs.Recorded.{HasLines}
-use Rattle.filing_cli.specs.Resumed.{history_on, output_on}
-use Rattle.filing_cli.specs.declared.entry_file.EntryFile.{EntryFile}
+use Rattle.history_format.specs.JournalLines.{journal_text}
+use Rattle.script_runs.specs.HistoryRun.{verdict_text, verdict_status}
+use Rattle.script_runs.specs.Recorded.{HasLines}
+use Rattle.script_runs.specs.Resumed.{history_on, output_on}
+use Rattle.script_runs.specs.declared.entry_file.EntryFile.{EntryFile}
 use Rattle.history_views.specs.Versions.{version_asked}
 use Rattle.history_views.specs.declared.shown.Shown.{Shown}
 use Rattle.history_views.specs.declared.shown.Shown.TheVariants.{Written, NoReport, NoVersion}

@@ -7,7 +7,6 @@ mod JudgedBatches
 mod UnderWay
 mod ScriptTasks
 -- ---- offices that begin with a history
-pub mod JournalLines
 mod CountedDesks
 mod Retaken
 mod BegunHistories

@@ -8,7 +8,6 @@ pub mod UnderWay
 -- ---- what is written
 pub mod Writing
 -- ---- offices that begin with a history
-pub mod JournalLines
 pub mod FoundHistories
 pub mod Retaking
 pub mod Tasks

@@ -12,7 +12,6 @@
 //! - `on_history`: opens an office that begins so, and runs each script.
 //! - `from_history`: the whole, on a history.
 //! - `keeping`: puts the lines of entries into a journal.
-//! - `nesting`: which lines nest too deep.
 //! - `journaled`: the whole, with a journal.
 //! - `fault`: why scripts did not run to their ends.
 //!
@@ -25,7 +24,6 @@ mod fault;
 mod from_history;
 mod journaled;
 mod keeping;
-mod nesting;
 mod office;
 mod on_history;
 mod replies;
@@ -38,6 +36,5 @@ mod written;
 pub use fault::ThreadsFault;
 pub use from_history::{ThreadsOnHistory, run_threads_on_history};
 pub use journaled::{JournaledThreads, run_threads_with_journal};
-pub use nesting::is_too_deep;
 pub use threads::{run_threads, run_threads_watched};
 pub use watch::{Unwatched, Watch};

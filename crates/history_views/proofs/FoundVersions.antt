@@ -7,7 +7,7 @@ use Rattle.filing_model.specs.Sessions.Repository.{Repository}
 use Rattle.filing_model.specs.Histories.History.{History, repository}
 use Rattle.line_io.specs.Devices.{SourceState}
 use Rattle.filing_core.specs.Engines.{EngineState, IsEngineOf}
-use Rattle.filing_cli.specs.HistoryRun.{IsHistoryFollowed}
+use Rattle.script_runs.specs.HistoryRun.{IsHistoryFollowed}
 use Rattle.history_views.specs.Listing.{listing}
 use Rattle.history_views.specs.Names.{HasNames, SeeksNamedOn}
 use Rattle.history_views.specs.Versions.{IsSought, Seeks, SeeksOn, version_asked}

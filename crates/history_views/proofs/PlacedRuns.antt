@@ -8,7 +8,7 @@ use Rattle.filing_model.specs.Histories.History.{Entry, History}
 use Rattle.filing_model.specs.Histories.Lawful.{IsLawful}
 use Rattle.line_io.specs.Devices.{SourceState}
 use Rattle.filing_core.specs.Engines.{EngineState}
-use Rattle.filing_cli.specs.HistoryRun.{IsHistoryFollowed}
+use Rattle.script_runs.specs.HistoryRun.{IsHistoryFollowed}
 use Rattle.version_differences.specs.Places.{Places, CoverDifference}
 use Rattle.history_views.specs.Differing.{difference_asked, difference_between}
 use Rattle.history_views.specs.Placed.{HasPlaces, KnowsPlaces, SeeksPlacedOn}

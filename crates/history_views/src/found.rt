@@ -4,15 +4,15 @@ ghost use Rattle.std.specs.Prelude.{◌≡◌, ◌+◌, ◌≤◌, IfOk};
 ghost use Rattle.std.specs.Arc.{arc_value};
 ghost use Rattle.filing_core.specs.declared.verdict.Verdict.TheVariants.{Lawful};
 ghost use Rattle.filing_model.specs.Histories.History.{History};
-ghost use Rattle.filing_cli.specs.HistoryRun.{IsHistoryFollowed, IsHistoryJudged};
-ghost use Rattle.filing_cli.specs.ScriptRun.{most_reads};
+ghost use Rattle.script_runs.specs.HistoryRun.{IsHistoryFollowed, IsHistoryJudged};
+ghost use Rattle.script_runs.specs.ScriptRun.{most_reads};
 ghost use Rattle.history_views.specs.Versions.{version_asked, version_kept};
 
 use crate::sought::SoughtVersion;
 use crate::viewed::{ViewedHistory, view_history};
-use filing_cli::{ScriptFault, Source};
 use filing_core::{Engine, Verdict};
 use filing_version::RepoVersion;
+use line_io::{ScriptFault, Source};
 use oim_fact::NumericTable;
 use std::alloc::Global;
 use std::sync::Arc;

@@ -14,7 +14,7 @@
 //! - `differing`: what differs between two versions.
 //! - `shown`: what came of what was asked for.
 //!
-//! It knows nothing of how a line is read and judged (`filing_cli`), of how a reply is written (`script_format`), of how a version holds its reports (`filing_version`), of how two versions are compared (`version_differences`), or of files.
+//! It knows nothing of how a line is read and judged (`script_runs`), of how a reply is written (`script_format`), of how a version holds its reports (`filing_version`), of how two versions are compared (`version_differences`), or of files.
 #![tactic(auto)]
 
 mod differing;

@@ -9,8 +9,8 @@ ghost use Rattle.history_views.specs.Versions.{version_kept};
 
 use crate::found::FoundVersion;
 use crate::shown::Shown;
-use filing_cli::{ScriptFault, Sink, write_all};
 use filing_version::RepoVersion;
+use line_io::{ScriptFault, Sink, write_all};
 use script_format::exported_reply_of;
 use std::alloc::{AllocError, Global};
 

@@ -6,11 +6,11 @@ ghost use Rattle.std.specs.Prelude.{◌≡◌, ◌≤◌, ◌<◌};
 
 use crate::rows::show_title;
 use anyhow::{Result, anyhow};
-use filing_cli::{MemoryIn, MemoryOut, ScriptFault, Sink, Source};
 use filing_core::Verdict;
 use history_views::{
     Shown, difference_of_history, listing_of_history, log_of_history, version_of_history,
 };
+use line_io::{MemoryIn, MemoryOut, ScriptFault, Sink, Source};
 use oim_fact::NumericTable;
 use std::alloc::{AllocError, Global};
 use std::marker::Brand;

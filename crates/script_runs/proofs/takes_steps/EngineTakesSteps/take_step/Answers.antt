@@ -1,0 +1,12 @@
+use Rattle.std.proofs.Common.{string_bytes}
+use Rattle.std.proofs.lemmas.Result.{IfOk-weaker}
+use Rattle.filing_step.specs.Steps.{step_of}
+use Rattle.filing_core.specs.Engines.{IsEngineOf}
+use Rattle.script_runs.proofs.ToldSteps.{told_of}
+use Rattle.script_runs.proofs.takes_steps.EngineTakesSteps.take_step.Goals as goal
+
+pub returns-clause-answers : goal.returns-clause-answers
+returns-clause-answers c = λ h taken.
+    IfOk-weaker c.told.result _ _
+    (λ text is. told_of (λ x. IsEngineOf x c.step_of_engine-outcome.new.engine) h c.args.session (step_of c.args.step) c.step_of_engine-outcome.result (string_bytes text) (c.step_of_engine-outcome.ensures h taken) is)
+    c.told.ensures
