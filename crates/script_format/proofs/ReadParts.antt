@@ -8,7 +8,7 @@ use Rattle.serde_json.specs.Data.{Data, Num, array, object, number, no_members}
 use Rattle.serde_json.specs.Find.{at, as_number, as_str, as_u64}
 use Rattle.serde_json.specs.Read.{number_of, of_items, of_json, of_members}
 use Rattle.filing_model.specs.Reading.JsonText.{as_nullable}
-use Rattle.filing_model.specs.Sessions.Calls.{Limit, limit_of}
+use Rattle.filing_model.specs.Sessions.Calls.{limit_of}
 use Rattle.filing_model.specs.Common.Text.{Text}
 use Rattle.oim_report.specs.Borrowed.{IsInRange, data_of}
 use Rattle.oim_report.proofs.InRange.{at_of, place_in, the_value}
