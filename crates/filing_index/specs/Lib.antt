@@ -8,3 +8,4 @@ pub mod Found
 pub mod HashRanges
 pub mod Wanted
 pub mod Cells
+pub mod CellSums

@@ -5,5 +5,4 @@ pub mod Tables
 pub mod Names
 pub mod Facts
 pub mod SharedFacts
--- ---- cited within the crate alone
 pub mod Tallies

@@ -45,3 +45,7 @@ pub record Describes (tally : Tally) (first : Fact) (others : List Fact) : Type 
   pub complete : tally.complete ≡ list_all (has_value_of first) others
   pub filled : IfSome tally.shared IsFilled
   pub shared : (x : ℤ) → IsIn tally.shared x ↔ IsInAll (first ∷ others) x
+
+-- a first fact and a tally that describe these facts together
+abbrev pub IsTallyOf : Fact × Tally → List Fact → Type 0
+IsTallyOf told facts = (others : List Fact) × (facts ≡ told.0 ∷ others) × Describes told.1 told.0 others

@@ -1,17 +1,18 @@
 -- What holds of each block, and of a list.
 use Rattle.std.specs.Prelude.{◌≡◌, ℕ, ◌<◌, ◌≤◌, List, [], length, Option, Some}
+use Rattle.std.specs.List.{flat_map}
 use Rattle.std.specs.declared.cmp.Ordering.{Ordering}
 use Rattle.std.specs.declared.sync.Arc.{Arc}
-use Rattle.sorted_pages.specs.Pages.{ahead, greatest}
+use Rattle.sorted_pages.specs.Pages.{ahead}
 use Rattle.sorted_pages.specs.Keys.{first_of, last_of}
 use Rattle.sorted_pages.specs.Sorted.{IsRising}
 
--- these are one to 64 items, this is the greatest of their numbers, and these are the keys of the first and of the last
-pub record IsBlock {X : Type 0} (max_number : X → ℕ) (first last : X → Option ℕ) (items : List X)
-    (best first_key last_key : ℕ) : Type 0 where
+-- these are one to 64 items, this is kept of them, and these are the keys of the first and of the last
+pub record IsBlock {X E K : Type 0} (members : X → List E) (keeps : K → List E → Type 0) (first last : X → Option ℕ)
+    (items : List X) (kept : K) (first_key last_key : ℕ) : Type 0 where
   pub some : 0 < length items
   pub few : length items ≤ 64
-  pub peaked : best ≡ greatest max_number items
+  pub told : keeps kept (flat_map members items)
   pub begins : Some first_key ≡ first_of first items
   pub ends : Some last_key ≡ last_of last items
 
