@@ -2,6 +2,7 @@ pub mod Edges
 pub mod Keys
 pub mod Peaks
 pub mod Flats
+pub mod Sums
 pub mod Orders
 pub mod Parts
 pub mod Steps

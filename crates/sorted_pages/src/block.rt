@@ -1,46 +1,47 @@
-//! A sorted run of items, with the greatest of their numbers and the keys of its ends.
-ghost use Rattle.std.specs.Prelude.{◌≡◌, ◌∷◌, ◌++◌, [], ◌<◌, ◌≤◌, ℕ, List, length, max, IfOk, Some};
+//! A sorted run of items, with what is told of them and the keys of its ends.
+ghost use Rattle.std.specs.Prelude.{◌≡◌, ◌++◌, ◌<◌, ◌≤◌, List, length, Some};
+ghost use Rattle.std.specs.List.{flat_map};
 ghost use Rattle.std.specs.Arc.{arc_value};
 ghost use Rattle.sorted_pages.specs.Keys.{first_of, last_of};
-ghost use Rattle.sorted_pages.specs.Pages.{greatest, IsFirst, IsLast};
+ghost use Rattle.sorted_pages.specs.Pages.{held, IsFirst, IsLast};
 
-use crate::entry::{Edged, Numbered};
+use crate::entry::Edged;
+use std::alloc::Global;
 use std::marker::Model;
 use std::sync::Arc;
 
-/// One to 64 items, with the greatest of their numbers, and the keys of the first entry and of the last. Contracts see the list of the items.
+/// One to 64 items, with what is told of them, and the keys of the first entry and of the last. Contracts see the list of the items.
 #[derive(Drop)]
 pub(crate) struct Block<T: Edged> {
     items: Vec<T>,
-    best: u64,
+    kept: T::Kept,
     first_key: u64,
     last_key: u64,
 }
 
 impl<T: Edged> Model for Block<T> {
-    ghost use Rattle.std.specs.Prelude.{◌≡◌, ◌<◌, ◌≤◌, ℕ, List, length};
-    ghost use Rattle.sorted_pages.specs.Pages.{greatest, IsFirst, IsLast};
+    ghost use Rattle.std.specs.Prelude.{List};
     ghost use Rattle.sorted_pages.specs.Blocks.{IsBlock};
 
     ghost Value = { List T };
 
     ghost view = { λ b. b.items.items };
 
-    ghost invariant = { λ b. IsBlock T.max_number T.first_key T.last_key b.items.items b.best b.first_key b.last_key };
+    ghost invariant = { λ b. IsBlock T.members T.keeps T.first_key T.last_key b.items.items b.kept b.first_key b.last_key };
 }
 
-/// The greatest of the numbers, or 0.
-pub(crate) fn greatest_of<T: Numbered>(items: &[T]) -> u64
-    ensures { result ≡ greatest T.max_number items.now }
+/// A sum with items at the end.
+pub(crate) fn added_to<T: Edged>(before: T::Sum, items: &[T]) -> T::Sum
+    ensures { (xs : List T.Entry) → T.tells before xs → T.tells result (xs ++ flat_map T.members items.now) }
 {
-    if T::are_zero() {
-        return 0;
-    }
-    let mut best = 0u64;
+    let mut sum = before;
     for item in items {
-        best = best.max(item.max_number());
+        if T::is_settled(&sum) {
+            return sum;
+        }
+        sum = item.added_to(sum);
     }
-    best
+    sum
 }
 
 /// The key of the first entry.
@@ -66,18 +67,29 @@ fn last_key_of<T: Edged>(items: &[T]) -> u64
     last_of(items).last_key()
 }
 
+/// What is kept of items.
+fn kept_of<T: Edged>(alloc: Global, items: &[T]) -> T::Kept
+    requires { 0 < length items.now }
+    ensures { T.keeps result (flat_map T.members items.now) }
+{
+    match T::kept_by_ends(&items[0], last_of(items)) {
+        Some(kept) => kept,
+        None => T::kept(alloc, added_to(T::none(), items)),
+    }
+}
+
 impl<T: Edged> Block<T> {
     pub(crate) fn of(items: Vec<T>) -> Block<T>
         requires some { 0 < length items.items }
         requires few { length items.items ≤ 64 }
         ensures { result ≡ items.items }
     {
-        let best = greatest_of(&items);
+        let kept = kept_of(*items.allocator(), &items);
         let first_key = first_key_of(&items);
         let last_key = last_key_of(&items);
         Block {
             items,
-            best,
+            kept,
             first_key,
             last_key,
         }
@@ -114,23 +126,47 @@ impl<T: Edged> Block<T> {
     }
 }
 
-impl<T: Edged> Numbered for Arc<Block<T>> {
-    ghost max_number = { λ block. greatest T.max_number (arc_value block) };
-
-    fn are_zero() -> bool {
-        T::are_zero()
-    }
-
-    fn max_number(&self) -> u64 {
-        let block: &Block<T> = self;
-        block.best
-    }
-}
-
 impl<T: Edged> Edged for Arc<Block<T>> {
+    type Sum = T::Sum;
+
+    type Kept = T::Kept;
+
+    ghost Entry = { T.Entry };
+
+    ghost members = { λ block. held T.members block };
+
+    ghost tells = { λ sum entries. T.tells sum entries };
+
+    ghost keeps = { λ kept entries. T.keeps kept entries };
+
     ghost first_key = { λ block. first_of T.first_key (arc_value block) };
 
     ghost last_key = { λ block. last_of T.last_key (arc_value block) };
+
+    fn none() -> T::Sum {
+        T::none()
+    }
+
+    fn added_to(&self, sum: T::Sum) -> T::Sum {
+        let block: &Block<T> = self;
+        T::joined(sum, &block.kept)
+    }
+
+    fn joined(sum: T::Sum, kept: &T::Kept) -> T::Sum {
+        T::joined(sum, kept)
+    }
+
+    fn kept(alloc: Global, sum: T::Sum) -> T::Kept {
+        T::kept(alloc, sum)
+    }
+
+    fn is_settled(sum: &T::Sum) -> bool {
+        T::is_settled(sum)
+    }
+
+    fn kept_by_ends(_: &Arc<Block<T>>, _: &Arc<Block<T>>) -> Option<T::Kept> {
+        None
+    }
 
     fn first_key(&self) -> u64 {
         let block: &Block<T> = self;

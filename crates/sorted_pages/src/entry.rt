@@ -1,31 +1,89 @@
 //! What an entry is, and what asks for a range of entries.
-ghost use Rattle.std.specs.Prelude.{◌≡◌, ◌≤◌, ℕ, IfOk, IsTrue, Option, Some};
+ghost use Rattle.std.specs.Prelude.{◌≡◌, ◌≤◌, ◌++◌, ◌∷◌, [], ℕ, List, IfOk, IfSome, IsTrue, Option, Some};
 ghost use Rattle.std.specs.Cmp.{IsTotalOrder};
 ghost use Rattle.std.specs.declared.cmp.Ordering.{Ordering};
 ghost use Rattle.std.specs.Ordering.{nat_cmp};
 ghost use Rattle.sorted_pages.specs.Keys.{KeyRises, TellsSide, told_apart};
 ghost use Rattle.sorted_pages.specs.Ranges.{IsMonotone};
 
-use std::alloc::AllocError;
+use std::alloc::{AllocError, Global};
 use std::cmp::Ordering;
 
-/// What has a number, of which each page keeps the greatest.
-pub trait Numbered {
-    ghost max_number: { Self → ℕ };
+/// What has sums of lists of it, of which each page keeps one.
+pub trait Summed {
+    /// What is told of a list.
+    type Sum: Drop;
 
-    /// Whether all numbers are 0, so that none has to be read.
-    fn are_zero() -> bool
-        ensures { IsTrue result → (x : Self) → max_number x ≡ 0 }
+    /// The same in the form in which pages keep it.
+    type Kept: Drop;
+
+    ghost tells: { Self.Sum → List Self → Type 0 };
+
+    ghost keeps: { Self.Kept → List Self → Type 0 };
+
+    /// The sum of nothing.
+    fn none() -> Self::Sum
+        ensures { tells result [] };
+
+    /// A sum with this one at the end.
+    fn added_to(&self, sum: Self::Sum) -> Self::Sum
+        ensures { (xs : List Self) → tells sum xs → tells result (xs ++ self.now ∷ []) };
+
+    /// A sum with what a page holds at the end.
+    fn joined(sum: Self::Sum, kept: &Self::Kept) -> Self::Sum
+        ensures { (xs ys : List Self) → tells sum xs → keeps kept.now ys → tells result (xs ++ ys) };
+
+    /// What a page keeps of a sum. Where memory for it is refused, it is to keep less.
+    fn kept(alloc: Global, sum: Self::Sum) -> Self::Kept
+        ensures { (xs : List Self) → tells sum xs → keeps result xs };
+
+    /// Whether a sum holds of every list, so that nothing more is added to it.
+    fn is_settled(_sum: &Self::Sum) -> bool
+        ensures { IsTrue result → (xs : List Self) → tells _sum.now xs }
     {
         false
     }
 
-    fn max_number(&self) -> u64
-        ensures { result ≡ max_number self.now };
+    /// What a page keeps that begins and ends with these, where that is plain without a look at the others.
+    fn kept_by_ends(_first: &Self, _last: &Self) -> Option<Self::Kept>
+        ensures { IfSome result (λ kept. (xs : List Self) → keeps kept xs) }
+    {
+        None
+    }
 }
 
-/// What has a first and a last entry, each with a key.
-pub(crate) trait Edged: Numbered {
+/// What holds entries. It has sums of them, and keys of the first and of the last.
+pub(crate) trait Edged {
+    type Sum: Drop;
+
+    type Kept: Drop;
+
+    ghost Entry: { Type 0 };
+
+    ghost members: { Self → List Entry };
+
+    ghost tells: { Self.Sum → List Entry → Type 0 };
+
+    ghost keeps: { Self.Kept → List Entry → Type 0 };
+
+    fn none() -> Self::Sum
+        ensures { tells result [] };
+
+    fn added_to(&self, sum: Self::Sum) -> Self::Sum
+        ensures { (xs : List Entry) → tells sum xs → tells result (xs ++ members self.now) };
+
+    fn joined(sum: Self::Sum, kept: &Self::Kept) -> Self::Sum
+        ensures { (xs ys : List Entry) → tells sum xs → keeps kept.now ys → tells result (xs ++ ys) };
+
+    fn kept(alloc: Global, sum: Self::Sum) -> Self::Kept
+        ensures { (xs : List Entry) → tells sum xs → keeps result xs };
+
+    fn is_settled(sum: &Self::Sum) -> bool
+        ensures { IsTrue result → (xs : List Entry) → tells sum.now xs };
+
+    fn kept_by_ends(first: &Self, last: &Self) -> Option<Self::Kept>
+        ensures { IfSome result (λ kept. (xs : List Entry) → keeps kept xs) };
+
     ghost first_key: { Self → Option ℕ };
 
     ghost last_key: { Self → Option ℕ };
@@ -38,7 +96,7 @@ pub(crate) trait Edged: Numbered {
 }
 
 /// An entry of a sorted list. Nothing else distinguishes it from those that tie with it.
-pub trait PageEntry: Numbered + Drop {
+pub trait PageEntry: Summed + Drop {
     ghost order: { Self → Self → Ordering };
 
     /// The most of these that a page holds. A changed copy of a list copies each page that changes, and pieces of more than a kilobyte are dear to ask for.

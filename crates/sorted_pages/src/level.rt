@@ -5,8 +5,8 @@ ghost use Rattle.sorted_pages.specs.Keys.{BeginsWithKey, EndsWithKey};
 ghost use Rattle.sorted_pages.specs.Pages.{single, held, IsFirst, IsLast};
 
 use crate::block::Block;
-use crate::entry::{Edged, Numbered, PageEntry};
-use std::alloc::AllocError;
+use crate::entry::{Edged, PageEntry};
+use std::alloc::{AllocError, Global};
 use std::marker::Model;
 use std::sync::Arc;
 
@@ -72,22 +72,46 @@ impl<E> Leaf<E> {
     }
 }
 
-impl<E: Numbered> Numbered for Leaf<E> {
-    ghost max_number = { λ leaf. E.max_number leaf };
-
-    fn are_zero() -> bool {
-        E::are_zero()
-    }
-
-    fn max_number(&self) -> u64 {
-        self.entry.max_number()
-    }
-}
-
 impl<E: PageEntry> Edged for Leaf<E> {
+    type Sum = E::Sum;
+
+    type Kept = E::Kept;
+
+    ghost Entry = { E };
+
+    ghost members = { λ leaf. single leaf };
+
+    ghost tells = { λ sum entries. E.tells sum entries };
+
+    ghost keeps = { λ kept entries. E.keeps kept entries };
+
     ghost first_key = { λ leaf. Some (E.key leaf) };
 
     ghost last_key = { λ leaf. Some (E.key leaf) };
+
+    fn none() -> E::Sum {
+        E::none()
+    }
+
+    fn added_to(&self, sum: E::Sum) -> E::Sum {
+        self.entry.added_to(sum)
+    }
+
+    fn joined(sum: E::Sum, kept: &E::Kept) -> E::Sum {
+        E::joined(sum, kept)
+    }
+
+    fn kept(alloc: Global, sum: E::Sum) -> E::Kept {
+        E::kept(alloc, sum)
+    }
+
+    fn is_settled(sum: &E::Sum) -> bool {
+        E::is_settled(sum)
+    }
+
+    fn kept_by_ends(first: &Leaf<E>, last: &Leaf<E>) -> Option<E::Kept> {
+        E::kept_by_ends(&first.entry, &last.entry)
+    }
 
     fn first_key(&self) -> u64 {
         self.entry.key()

@@ -32,7 +32,7 @@ mod rising;
 mod spans;
 
 pub use edit::Edit;
-pub use entry::{Numbered, PageEntry, Span, order_of_keys};
+pub use entry::{PageEntry, Span, Summed, order_of_keys};
 pub use paged::Paged;
 pub use range::Range;
 pub use rising::{are_rising, is_rising};

@@ -1,15 +1,15 @@
 //! Ranges of entries that stand next to one another.
-ghost use Rattle.std.specs.Prelude.{◌≡◌, ◌<◌, ◌++◌, [], length, not, T as Holds};
+ghost use Rattle.std.specs.Prelude.{◌≡◌, ◌<◌, ◌++◌, [], List, length, not, T as Holds};
 ghost use Rattle.std.specs.List.{flat_map};
 ghost use Rattle.std.specs.Ordering.{is_lt, is_gt};
 ghost use Rattle.std.specs.Iterator.{YieldsFirstRef, item_count};
-ghost use Rattle.sorted_pages.specs.Pages.{IsFirstBlock, held, single, of_page, of_run, of_group, ahead, behind, greatest};
+ghost use Rattle.sorted_pages.specs.Pages.{IsFirstBlock, held, single, of_page, of_run, of_group, ahead, behind};
 ghost use Rattle.sorted_pages.specs.Sorted.{IsRising};
 ghost use Rattle.sorted_pages.specs.Edges.{answer_of, begins_with, first_passes};
 ghost use Rattle.sorted_pages.specs.Ranges.{from_span, until_span};
 
 use crate::apply::split_first_block;
-use crate::block::{Block, greatest_of};
+use crate::block::{Block, added_to};
 use crate::edge::{Before, Test, Until, split_at_edge, split_before_edge};
 use crate::entry::{Edged, PageEntry, Span};
 use crate::level::{Group, Leaf, Level, Page, Run};
@@ -181,32 +181,44 @@ impl<'a, E: PageEntry> Iterator for Range<'a, E> {
 }
 
 impl<'a, E: PageEntry> Range<'a, E> {
-    /// The greatest of the numbers of the entries still to come, or 0.
+    /// The sum of the entries still to come. It takes no memory.
     ///
-    /// It looks at the pages' own numbers, and at no entry of a page that is in the range as a whole.
-    pub fn greatest(&self) -> u64
-        ensures { result ≡ greatest E.max_number self.now }
+    /// It looks at what pages keep, and at no entry of a page that is in the range as a whole.
+    pub fn summed(&self) -> E::Sum
+        ensures { E.tells result self.now }
     {
-        greatest_ahead(&self.front).max(greatest_behind(&self.back))
+        added_behind(added_ahead(E::none(), &self.front), &self.back)
+    }
+
+    /// Whether it spans a page. The answer decides nothing: without one the entries are so few that they are looked at one by one in no more time.
+    pub fn spans_pages(&self) -> bool {
+        !self.front.pages.is_empty()
+            || !self.front.runs.is_empty()
+            || !self.front.groups.is_empty()
+            || !self.back.pages.is_empty()
+            || !self.back.runs.is_empty()
     }
 }
 
-/// The greatest of the numbers of these entries, or 0.
-fn greatest_ahead<E: PageEntry>(front: &Front<'_, E>) -> u64
-    ensures { result ≡ greatest E.max_number
-        (ahead front.now.entries.now front.now.pages.now front.now.runs.now front.now.groups.now) }
+/// A sum with these entries at the end.
+fn added_ahead<E: PageEntry>(sum: E::Sum, front: &Front<'_, E>) -> E::Sum
+    ensures { (xs : List E) → E.tells sum xs → E.tells result
+        (xs ++ ahead front.now.entries.now front.now.pages.now front.now.runs.now front.now.groups.now) }
 {
-    let lower = greatest_of(front.entries).max(greatest_of(front.pages));
-    let upper = greatest_of(front.runs).max(greatest_of(front.groups));
-    lower.max(upper)
+    let sum = added_to(sum, front.entries);
+    let sum = added_to(sum, front.pages);
+    let sum = added_to(sum, front.runs);
+    added_to(sum, front.groups)
 }
 
-/// The greatest of the numbers of these entries, or 0.
-fn greatest_behind<E: PageEntry>(back: &Back<'_, E>) -> u64
-    ensures { result ≡ greatest E.max_number (behind back.now.runs.now back.now.pages.now back.now.entries.now) }
+/// A sum with these entries at the end.
+fn added_behind<E: PageEntry>(sum: E::Sum, back: &Back<'_, E>) -> E::Sum
+    ensures { (xs : List E) → E.tells sum xs → E.tells result
+        (xs ++ behind back.now.runs.now back.now.pages.now back.now.entries.now) }
 {
-    let lower = greatest_of(back.pages).max(greatest_of(back.entries));
-    greatest_of(back.runs).max(lower)
+    let sum = added_to(sum, back.runs);
+    let sum = added_to(sum, back.pages);
+    added_to(sum, back.entries)
 }
 
 /// The items of the first block that does not stand before the range as a whole, and the blocks after it.
