@@ -10,3 +10,4 @@ pub mod NamedRows
 pub mod CommonNumbers
 pub mod ValuePairs
 pub mod Tallying
+pub mod JoinedTallies

@@ -60,6 +60,20 @@ pub complete_with_one : (u v w : FactValue) → is_complete (value_pair u v) ≡
     → is_complete (value_pair v w) ≡ true
 complete_with_one u v w p q = (complete_decides v w).1 (sym ((complete_decides u v).0 p) ∙ (complete_decides u w).0 q)
 
+same_where_both : (a b : Bool) → (a ≡ true → b ≡ true) → (b ≡ true → a ≡ true) → a ≡ b
+same_where_both true b f g = sym (f refl)
+same_where_both false true f g = g refl
+same_where_both false false f g = refl
+
+-- and are complete with the same values
+pub complete_as_the_other : (u v w : FactValue) → is_complete (value_pair u v) ≡ true
+    → is_complete (value_pair u w) ≡ is_complete (value_pair v w)
+complete_as_the_other u v w p =
+    let alike = (complete_decides u v).0 p in
+    same_where_both (is_complete (value_pair u w)) (is_complete (value_pair v w))
+    (λ e. (complete_decides v w).1 (sym alike ∙ (complete_decides u w).0 e))
+    (λ e. (complete_decides u w).1 (alike ∙ (complete_decides v w).0 e))
+
 -- ---- consistent values
 
 -- the interval of a value, where any serves for what is no number

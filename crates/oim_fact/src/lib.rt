@@ -8,6 +8,7 @@
 //! - `fitting`: the way from the one to the other.
 //! - `pairs`: what two facts are to one another.
 //! - `tally`: the class of a cell in one pass.
+//! - `fact_tally`: some facts by the first of them and a tally.
 //! - `classes`: the class of a list or of an iterator.
 //! - `texts`: texts that may be missing.
 //!
@@ -18,6 +19,7 @@ mod classes;
 mod compared_dims;
 mod dims;
 mod fact;
+mod fact_tally;
 mod fitting;
 mod names;
 mod pairs;
@@ -28,6 +30,7 @@ mod texts;
 pub use classes::{class_of, class_over};
 pub use dims::DimSet;
 pub use fact::{Fact, FactValue, RawFact};
+pub use fact_tally::FactTally;
 pub use filing_model::{Allowed, Class, DimFault, FactFault, NamesFault, Pair, allows};
 pub use fitting::fit;
 pub use names::Names;

@@ -1,6 +1,6 @@
-//! The class of a cell in one pass: each fact is compared with the first one and narrows one interval.
+//! The class of a cell in one pass: each fact is compared with the first one and narrows one interval. What some facts are is joined to what others are in the same way.
 
-ghost use Rattle.std.specs.Prelude.{◌≡◌, IfSome, List, [], ◌∷◌, ◌++◌};
+ghost use Rattle.std.specs.Prelude.{◌≡◌, ◌&&◌, IfSome, List, [], ◌∷◌, ◌++◌};
 ghost use Rattle.filing_model.specs.Oim.Facts.{Fact as PlainFact};
 ghost use Rattle.filing_model.specs.Oim.Duplicates.{class_of, is_complete, value_pair};
 ghost use Rattle.oim_fact.specs.Facts.{value_view};
@@ -48,6 +48,27 @@ impl Tally {
         self.shared = common_part(self.shared, interval_in(&fact.value));
     }
 
+    /// Counts in the facts of another tally, which has a first one of its own.
+    pub(crate) fn add_all(&mut self, first: &Fact, other: Tally, other_first: &Fact)
+        ensures { (others more : List PlainFact) → Describes self.old first.now others
+            → Describes other other_first.now more
+            → Describes self.new first.now (others ++ other_first.now ∷ more) }
+    {
+        let same_dims = first.dims == other_first.dims;
+        let same_value = is_complete(&first.value, &other_first.value);
+        self.alone = false;
+        self.together = all_three(self.together, other.together, same_dims);
+        self.complete = all_three(self.complete, other.complete, same_value);
+        self.shared = common_part(self.shared, other.shared);
+    }
+
+    /// Whether all have the dimensions of the first.
+    pub(crate) fn is_together(self) -> bool
+        ensures { result ≡ self.together }
+    {
+        self.together
+    }
+
     /// The class of all facts that were counted in.
     pub(crate) fn class(self) -> Class
         ensures { (first : PlainFact) (others : List PlainFact) → Describes self first others
@@ -65,6 +86,12 @@ impl Tally {
             Class::Inconsistent
         }
     }
+}
+
+fn all_three(one: bool, other: bool, last: bool) -> bool
+    ensures { result ≡ (one && (other && last)) }
+{
+    one && other && last
 }
 
 fn is_complete(one: &FactValue, other: &FactValue) -> bool
