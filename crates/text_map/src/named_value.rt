@@ -3,7 +3,7 @@ ghost use Rattle.std.specs.Prelude.{◌≡◌, ◌≤◌, get_or, string_bytes, 
 ghost use Rattle.filing_model.specs.Common.Text.{text_cmp};
 ghost use Rattle.text_map.specs.Heads.{head_of, name_key, IsHeadOf, IsKeyOfHead};
 
-use sorted_pages::{Numbered, PageEntry};
+use sorted_pages::{PageEntry, Summed};
 use std::alloc::{AllocError, Global};
 use std::cmp::Ordering;
 use std::marker::Model;
@@ -248,15 +248,32 @@ impl<V: Drop> NamedValue<V> {
     }
 }
 
-impl<V: Drop> Numbered for NamedValue<V> {
-    ghost max_number = { λ n. 0 };
+/// Pages keep nothing of them.
+impl<V: Drop> Summed for NamedValue<V> {
+    ghost use Rattle.std.specs.Prelude.{⊤};
 
-    fn are_zero() -> bool {
+    type Sum = ();
+
+    type Kept = ();
+
+    ghost tells = { λ sum entries. ⊤ };
+
+    ghost keeps = { λ kept entries. ⊤ };
+
+    fn none() {}
+
+    fn added_to(&self, _sum: ()) {}
+
+    fn joined(_sum: (), _kept: &()) {}
+
+    fn kept(_alloc: Global, _sum: ()) {}
+
+    fn is_settled(_sum: &()) -> bool {
         true
     }
 
-    fn max_number(&self) -> u64 {
-        0
+    fn kept_by_ends(_first: &Self, _last: &Self) -> Option<()> {
+        Some(())
     }
 }
 
