@@ -12,8 +12,8 @@ ghost use Rattle.filing_stamps.specs.StampOrders.{stamp_cmp-total};
 
 use filing_facts::{IndexedFact, hash_of_concept, hash_of_dims, hash_of_period};
 use oim_fact::DimSet;
-use sorted_pages::{Numbered, PageEntry};
-use std::alloc::AllocError;
+use sorted_pages::{PageEntry, Summed};
+use std::alloc::{AllocError, Global};
 use std::cmp::Ordering;
 use std::marker::Model;
 use text_map::{NamedValue, SoughtName};
@@ -399,11 +399,32 @@ impl Ord for Stamp {
     }
 }
 
-impl Numbered for Stamp {
-    ghost max_number = { λ s. s.number };
+/// Pages keep the greatest number.
+impl Summed for Stamp {
+    ghost use Rattle.sorted_pages.specs.Pages.{greatest};
 
-    fn max_number(&self) -> u64 {
-        self.number
+    type Sum = u64;
+
+    type Kept = u64;
+
+    ghost tells = { λ number stamps. number ≡ greatest (λ s. s.number) stamps };
+
+    ghost keeps = { λ number stamps. number ≡ greatest (λ s. s.number) stamps };
+
+    fn none() -> u64 {
+        0
+    }
+
+    fn added_to(&self, number: u64) -> u64 {
+        number.max(self.number)
+    }
+
+    fn joined(number: u64, kept: &u64) -> u64 {
+        number.max(*kept)
+    }
+
+    fn kept(_alloc: Global, number: u64) -> u64 {
+        number
     }
 }
 

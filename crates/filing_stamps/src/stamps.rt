@@ -171,7 +171,7 @@ impl Stamps {
     fn greatest(&self, among: &Among<'_>) -> u64
         ensures { result ≡ greatest (λ s. s.number) (within (among_side among.now) self.now) }
     {
-        self.stamps.range(among).greatest()
+        self.stamps.range(among).summed()
     }
 
     /// The number of the last touch of an identifier, or 0.
