@@ -11,4 +11,6 @@ pub mod KeptOrders
 pub mod KeptElements
 pub mod WantedHashes
 pub mod FoundEntries
+pub mod ToldSums
+pub mod ToldClasses
 pub mod CrowdedCells

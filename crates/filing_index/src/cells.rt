@@ -23,12 +23,17 @@ use std::marker::Model;
 use text_map::NamedValue;
 
 /// The class of the facts with these dimensions, whose hash is given.
+///
+/// Pages whose facts are all of the cell tell theirs; where others have the hash, the facts are looked at one by one.
 pub(crate) fn class_in(index: &Paged<IndexEntry>, hash: u64, dims: &DimSet) -> Class
     requires { hash ≡ hash_of_dims dims.now }
     ensures { (facts : TextMap PlainFact) → IsIndex cell_hash facts index.now
         → result ≡ class_of (cell_facts dims.now facts) }
 {
     let cell = Found::under(index, hash, Wanted::Cell(dims), None);
+    if let Some(class) = cell.class_told() {
+        return class;
+    }
     class_over(cell.map(|held| held.value().fact()))
 }
 

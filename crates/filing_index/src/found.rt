@@ -1,7 +1,8 @@
 //! What is found in an index by a hash.
-ghost use Rattle.std.specs.Prelude.{◌≡◌, option_map};
+ghost use Rattle.std.specs.Prelude.{◌≡◌, map, IfSome, option_map};
 ghost use Rattle.std.specs.Iterator.{YieldsFirstRef, item_count};
 ghost use Rattle.filing_model.specs.Oim.Facts.{Fact as PlainFact};
+ghost use Rattle.filing_model.specs.Oim.Duplicates.{class_of};
 ghost use Rattle.filing_model.specs.Common.TextMap.{TextMap};
 ghost use Rattle.filing_index.specs.Index.{IsIndex};
 ghost use Rattle.filing_index.specs.Found.{passing, found, side_after};
@@ -10,6 +11,7 @@ ghost use Rattle.filing_index.specs.Wanted.{is_wanted, hash_of, hashed_by};
 use crate::index_entry::IndexEntry;
 use crate::wanted::Wanted;
 use filing_facts::IndexedFact;
+use oim_fact::Class;
 use sorted_pages::{Paged, Range, Span, order_of_keys};
 use std::cmp::Ordering;
 use std::marker::Model;
@@ -152,6 +154,22 @@ impl<'a> Found<'a> {
     {
         let entries = index.range(&OfHash { hash, after });
         Found { entries, wanted }
+    }
+}
+
+impl<'a> Found<'a> {
+    /// The class of the facts of a cell, where pages tell it. It takes no memory.
+    pub(crate) fn class_told(&self) -> Option<Class>
+        ensures { IfSome result (λ class. class ≡ class_of (map (λ e. e.1) self.now)) }
+    {
+        let Wanted::Cell(dims) = self.wanted else {
+            return None;
+        };
+        if self.entries.spans_pages() {
+            self.entries.summed().class(dims)
+        } else {
+            None
+        }
     }
 }
 

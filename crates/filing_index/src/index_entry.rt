@@ -2,10 +2,11 @@
 ghost use Rattle.std.specs.Prelude.{◌≡◌, IfOk};
 ghost use Rattle.filing_index.specs.IndexKinds.{hash_in};
 
+use crate::cell_sum::{CellSum, KeptSum};
 use crate::index_kind::IndexKind;
 use filing_facts::IndexedFact;
-use sorted_pages::{Numbered, PageEntry};
-use std::alloc::AllocError;
+use sorted_pages::{PageEntry, Summed};
+use std::alloc::{AllocError, Global};
 use std::cmp::Ordering;
 use std::marker::Model;
 use text_map::NamedValue;
@@ -50,15 +51,44 @@ impl IndexEntry {
     }
 }
 
-impl Numbered for IndexEntry {
-    ghost max_number = { λ c. 0 };
+/// Pages of the index by dimensions keep what their facts are to one another, where all are of one cell. Other pages keep nothing, for the cost of two comparisons.
+impl Summed for IndexEntry {
+    ghost use Rattle.filing_index.specs.CellSums.{Tells, Keeps, facts_in};
 
-    fn are_zero() -> bool {
-        true
+    type Sum = CellSum;
+
+    type Kept = KeptSum;
+
+    ghost tells = { λ sum entries. Tells sum (facts_in entries) };
+
+    ghost keeps = { λ kept entries. Keeps kept (facts_in entries) };
+
+    fn none() -> CellSum {
+        CellSum::Empty
     }
 
-    fn max_number(&self) -> u64 {
-        0
+    fn added_to(&self, sum: CellSum) -> CellSum {
+        sum.with(self.held.value().fact())
+    }
+
+    fn joined(sum: CellSum, kept: &KeptSum) -> CellSum {
+        sum.with_kept(kept)
+    }
+
+    fn kept(alloc: Global, sum: CellSum) -> KeptSum {
+        sum.kept(alloc)
+    }
+
+    fn is_settled(sum: &CellSum) -> bool {
+        sum.is_mixed()
+    }
+
+    fn kept_by_ends(first: &IndexEntry, last: &IndexEntry) -> Option<KeptSum> {
+        if first.hash == last.hash && first.hash == first.held.value().cell_hash() {
+            None
+        } else {
+            Some(None)
+        }
     }
 }
 

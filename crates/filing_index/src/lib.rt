@@ -3,6 +3,7 @@
 //! - `facts`: the facts by their identifiers, with their indexes.
 //! - `index_kind`: which indexes there are, and by which hashes.
 //! - `index_entry`: a fact under its hash.
+//! - `cell_sum`: what pages tell of facts of one cell.
 //! - `indexing`: how an index is built and changed.
 //! - `wanted`: what can be looked for.
 //! - `found`: what an index shows of it.
@@ -13,6 +14,7 @@
 //! It knows nothing of stamps, of other reports, of versions or of sessions.
 #![tactic(auto)]
 
+mod cell_sum;
 mod cells;
 mod facts;
 mod found;

@@ -6,6 +6,11 @@ use Rattle.filing_model.specs.Oim.Duplicates.{class_of, has_dims}
 use Rattle.filing_index.proofs.FoundEntries.{found_all}
 use Rattle.filing_index.proofs.cells.class_in.Goals as goal
 
+pub returns-in-Some : goal.returns-in-Some
+returns-in-Some c = λ facts index.
+    let found = c.under-cell.ensures facts index ∙ found_all (has_dims c.args.dims.now) facts in
+    c.in-Some.ensures ∙ ap (λ es. class_of (map (λ e. e.1) es)) found
+
 pub returns : goal.returns
 returns c = λ facts index.
     let (given, (end, (last, given_by, over)), class) = c.class_over.ensures in

@@ -1,0 +1,153 @@
+//! What is told of facts that may be of one cell, and what pages keep of it.
+ghost use Rattle.std.specs.Prelude.{◌≡◌, ◌++◌, [], ◌∷◌, List, IfSome, IsTrue, true};
+ghost use Rattle.std.specs.Arc.{arc_value};
+ghost use Rattle.std.specs.List.{list_all};
+ghost use Rattle.filing_model.specs.Oim.Facts.{Fact as PlainFact};
+ghost use Rattle.filing_model.specs.Oim.Duplicates.{class_of, has_dims};
+ghost use Rattle.oim_fact.specs.Tallies.{IsTallyOf};
+ghost use Rattle.filing_index.specs.CellSums.{Tells, Keeps};
+
+use oim_fact::{Class, DimSet, Fact, FactTally};
+use std::alloc::Global;
+use std::sync::Arc;
+
+/// What is told of some facts.
+#[derive(Drop)]
+pub enum CellSum {
+    /// There are none.
+    Empty,
+    /// A tally of them.
+    Told(FactTally),
+    /// Nothing. They may be of several cells.
+    Mixed,
+}
+
+/// What a page keeps: a tally of its facts, or nothing.
+pub type KeptSum = Option<Arc<FactTally>>;
+
+/// A tally of facts, where they are of one cell.
+fn told(tally: FactTally) -> CellSum
+    ensures { (facts : List PlainFact) → IsTallyOf tally facts → Tells result facts }
+{
+    if tally.is_of_one_cell() {
+        CellSum::Told(tally)
+    } else {
+        CellSum::Mixed
+    }
+}
+
+/// What is told of one fact. It is nothing where the fact has too many owners.
+fn of_fact(fact: &Arc<Fact>) -> CellSum
+    ensures { Tells result (arc_value fact.now ∷ []) }
+{
+    match FactTally::of(fact) {
+        Ok(tally) => CellSum::Told(tally),
+        Err(_) => CellSum::Mixed,
+    }
+}
+
+/// What a tally tells. It is nothing where the first fact has too many owners.
+fn shared(tally: &FactTally) -> CellSum
+    ensures { (facts : List PlainFact) → IsTallyOf tally.now facts → Tells result facts }
+{
+    match tally.share() {
+        Ok(tally) => CellSum::Told(tally),
+        Err(_) => CellSum::Mixed,
+    }
+}
+
+/// A tally as a page keeps it.
+fn kept_tally(alloc: Global, tally: FactTally) -> KeptSum
+    ensures { (facts : List PlainFact) → IsTallyOf tally facts → Keeps result facts }
+{
+    match Arc::new(alloc, tally) {
+        Ok(kept) => Some(kept),
+        Err(_) => None,
+    }
+}
+
+impl CellSum {
+    /// With one more fact at the end.
+    pub(crate) fn with(self, fact: &Arc<Fact>) -> CellSum
+        ensures { (facts : List PlainFact) → Tells self facts → Tells result (facts ++ arc_value fact.now ∷ []) }
+    {
+        match self {
+            CellSum::Empty => of_fact(fact),
+            CellSum::Told(tally) => with_fact(tally, fact),
+            CellSum::Mixed => CellSum::Mixed,
+        }
+    }
+
+    /// With the facts of a page at the end.
+    pub(crate) fn with_kept(self, kept: &KeptSum) -> CellSum
+        ensures { (facts more : List PlainFact) → Tells self facts → Keeps kept.now more → Tells result (facts ++ more) }
+    {
+        match kept {
+            Some(more) => self.with_tally(more),
+            None => CellSum::Mixed,
+        }
+    }
+
+    /// With the facts of a tally at the end.
+    fn with_tally(self, more: &FactTally) -> CellSum
+        ensures { (facts others : List PlainFact) → Tells self facts → IsTallyOf more.now others
+            → Tells result (facts ++ others) }
+    {
+        match self {
+            CellSum::Empty => shared(more),
+            CellSum::Told(tally) => with_facts(tally, more),
+            CellSum::Mixed => CellSum::Mixed,
+        }
+    }
+
+    /// What a page keeps of it. It is nothing where memory is refused.
+    pub(crate) fn kept(self, alloc: Global) -> KeptSum
+        ensures { (facts : List PlainFact) → Tells self facts → Keeps result facts }
+    {
+        match self {
+            CellSum::Told(tally) => kept_tally(alloc, tally),
+            CellSum::Empty | CellSum::Mixed => None,
+        }
+    }
+
+    /// Whether nothing is told.
+    pub(crate) fn is_mixed(&self) -> bool
+        ensures { IsTrue result → (facts : List PlainFact) → Tells self.now facts }
+    {
+        matches!(self, CellSum::Mixed)
+    }
+
+    /// The class of the facts, where they are told to have these dimensions.
+    pub(crate) fn class(self, dims: &DimSet) -> Option<Class>
+        ensures { IfSome result (λ class. (facts : List PlainFact) → Tells self facts
+            → (list_all (has_dims dims.now) facts ≡ true) × (class ≡ class_of facts)) }
+    {
+        let CellSum::Told(tally) = self else {
+            return None;
+        };
+        if tally.is_of(dims) {
+            Some(tally.class())
+        } else {
+            None
+        }
+    }
+}
+
+/// A tally with one more fact.
+fn with_fact(tally: FactTally, fact: &Arc<Fact>) -> CellSum
+    ensures { (facts : List PlainFact) → IsTallyOf tally facts → Tells result (facts ++ arc_value fact.now ∷ []) }
+{
+    let mut tally = tally;
+    tally.add(fact);
+    told(tally)
+}
+
+/// A tally with the facts of another.
+fn with_facts(tally: FactTally, more: &FactTally) -> CellSum
+    ensures { (facts others : List PlainFact) → IsTallyOf tally facts → IsTallyOf more.now others
+        → Tells result (facts ++ others) }
+{
+    let mut tally = tally;
+    tally.add_all(more);
+    told(tally)
+}
