@@ -5,8 +5,8 @@ ghost use Rattle.std.specs.declared.cmp.Ordering.TheVariants.{Less};
 ghost use Rattle.std.specs.Cmp.{on_total, nat_cmp_total, nat_cmp_is};
 ghost use Rattle.std.proofs.Common.{sym, arith};
 
-use sorted_pages::{Numbered, PageEntry};
-use std::alloc::AllocError;
+use sorted_pages::{PageEntry, Summed};
+use std::alloc::{AllocError, Global};
 use std::cmp::Ordering;
 
 /// A number with a weight, which takes no part in the order.
@@ -23,11 +23,33 @@ impl Item {
     }
 }
 
-impl Numbered for Item {
-    ghost max_number = { λ i. i.weight };
+/// Pages keep the greatest weight.
+impl Summed for Item {
+    ghost use Rattle.std.specs.Prelude.{◌≡◌};
+    ghost use Rattle.sorted_pages.specs.Pages.{greatest};
 
-    fn max_number(&self) -> u64 {
-        self.weight
+    type Sum = u64;
+
+    type Kept = u64;
+
+    ghost tells = { λ weight items. weight ≡ greatest (λ i. i.weight) items };
+
+    ghost keeps = { λ weight items. weight ≡ greatest (λ i. i.weight) items };
+
+    fn none() -> u64 {
+        0
+    }
+
+    fn added_to(&self, weight: u64) -> u64 {
+        weight.max(self.weight)
+    }
+
+    fn joined(weight: u64, kept: &u64) -> u64 {
+        weight.max(*kept)
+    }
+
+    fn kept(_alloc: Global, weight: u64) -> u64 {
+        weight
     }
 }
 
