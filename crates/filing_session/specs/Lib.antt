@@ -1,4 +1,5 @@
 pub mod States
+pub mod ReadThings
 pub mod Effects
 pub mod Runs
 pub mod OpenSession
