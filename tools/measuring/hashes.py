@@ -1,8 +1,9 @@
 """Shapes that read things of one hash.
 
-A session keeps what it has read in an `IndexSet`, which hashes by the toolchain's `FoldHasher`. The seed of that is fixed. It
+A session that has read many things enters them under hashes, by the toolchain's `FoldHasher`. The seed of that is fixed. It
 takes a text by blocks of 16 bytes, and a block whose first word is the state leaves 0, whatever its second word is. So texts
-that differ in such a word alone have one hash, and no search is needed. By another hasher these are plain texts.
+that differ in such a word alone have one hash, and no search is needed: all but the first are then found by their order. By
+another hasher these are plain texts.
 """
 import itertools
 import json

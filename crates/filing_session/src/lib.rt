@@ -3,6 +3,8 @@
 //! - `session`: an open session.
 //! - `staging`: what a session has staged.
 //! - `ready`: what is made ready of a call before anything changes.
+//! - `read_things`: what a session has read.
+//! - `thing_index`: how one of many things is found.
 //! - `reads`: the calls that only read, but for pages.
 //! - `pages`: the calls that read a page.
 //! - `writes`: the calls that stage.
@@ -15,12 +17,14 @@
 #![tactic(auto)]
 
 mod pages;
+mod read_things;
 mod reads;
 mod ready;
 mod reviewed;
 mod runs;
 mod session;
 mod staging;
+mod thing_index;
 mod writes;
 
 pub use filing_model::Kind;
