@@ -3,6 +3,7 @@ use Rattle.std.specs.Prelude.{◌≡◌, ◌⊎◌, Bool, true, false, List, [],
 use Rattle.std.specs.Option.{option_map_or}
 use Rattle.std.specs.Str.{bytes_eq}
 use Rattle.clap.specs.Words.{App, Row, Rule, Text, IsAmong, all_of, fault_of, first_of, new_app, new_rule, subcommand_of, takes, with_rule, with_subcommand}
+use Rattle.clap.specs.declared.builder.action.ArgAction.{ArgAction}
 use Rattle.clap.specs.declared.builder.action.ArgAction.TheVariants.{Append, Set, SetTrue}
 use Rattle.clap.specs.declared.error.kind.ErrorKind.TheVariants.{DisplayHelp, DisplayVersion}
 use Rattle.filing_words.specs.declared.invocation.RunWords.{RunWords}
@@ -15,74 +16,64 @@ use Rattle.filing_words.specs.declared.invocation.ThreadsWords.{ThreadsWords}
 use Rattle.filing_words.specs.declared.invocation.Invocation.{Invocation}
 use Rattle.filing_words.specs.declared.invocation.Invocation.TheVariants.{Run, Check, Show, Diff, Log, Inspect, Threads, Explain, Shown}
 
--- `--numeric FILE`
-unfoldable pub numeric : Rule
-numeric = record (new_rule (codes "numeric")) {
-  long = Some (codes "numeric");
+-- an option that takes a value, by its identifier and its long word
+abbrev pub option_rule : Text → Text → Rule
+option_rule id long = record (new_rule id) {
+  long = Some long;
   action = Some Set;
   value_names = 1;
 }
+
+-- a flag
+abbrev pub flag_rule : Text → Text → Rule
+flag_rule id long = record (new_rule id) {
+  long = Some long;
+  action = Some SetTrue;
+}
+
+-- a word that has to be there, or words of which there has to be one
+abbrev pub word_rule : Text → ArgAction → Rule
+word_rule id action = record (new_rule id) {
+  action = Some action;
+  value_names = 1;
+  required = true;
+}
+
+-- `--numeric FILE`
+unfoldable pub numeric : Rule
+numeric = option_rule (codes "numeric") (codes "numeric")
 
 -- `--history FILE`
 unfoldable pub history : Rule
-history = record (new_rule (codes "history")) {
-  long = Some (codes "history");
-  action = Some Set;
-  value_names = 1;
-}
+history = option_rule (codes "history") (codes "history")
 
 -- `--from HISTORY`
 unfoldable pub from : Rule
-from = record (new_rule (codes "from")) {
-  long = Some (codes "from");
-  action = Some Set;
-  value_names = 1;
-}
+from = option_rule (codes "from") (codes "from")
 
 -- `--journal FILE`
 unfoldable pub journal : Rule
-journal = record (new_rule (codes "journal")) {
-  long = Some (codes "journal");
-  action = Some Set;
-  value_names = 1;
-}
+journal = option_rule (codes "journal") (codes "journal")
 
 -- `--every-reply`
 unfoldable pub every_reply : Rule
-every_reply = record (new_rule (codes "every_reply")) {
-  long = Some (codes "every-reply");
-  action = Some SetTrue;
-}
+every_reply = flag_rule (codes "every_reply") (codes "every-reply")
 
 -- `--explain`
 unfoldable pub explain : Rule
-explain = record (new_rule (codes "explain")) {
-  long = Some (codes "explain");
-  action = Some SetTrue;
-}
+explain = flag_rule (codes "explain") (codes "explain")
 
 -- `--strict`
 unfoldable pub strict : Rule
-strict = record (new_rule (codes "strict")) {
-  long = Some (codes "strict");
-  action = Some SetTrue;
-}
+strict = flag_rule (codes "strict") (codes "strict")
 
 -- HISTORY, which has to be there
 unfoldable pub judged : Rule
-judged = record (new_rule (codes "judged")) {
-  action = Some Set;
-  value_names = 1;
-  required = true;
-}
+judged = word_rule (codes "judged") Set
 
 -- HISTORY, of which something is to be shown
 unfoldable pub viewed : Rule
-viewed = record (new_rule (codes "viewed")) {
-  action = Some Set;
-  value_names = 1;
-  required = true;
-}
+viewed = word_rule (codes "viewed") Set
 
 -- REPORT
 unfoldable pub report : Rule
@@ -93,73 +84,39 @@ report = record (new_rule (codes "report")) {
 
 -- `--at VERSION`
 unfoldable pub at : Rule
-at = record (new_rule (codes "at")) {
-  long = Some (codes "at");
-  action = Some Set;
-  value_names = 1;
-}
+at = option_rule (codes "at") (codes "at")
 
 -- FROM
 unfoldable pub earlier : Rule
-earlier = record (new_rule (codes "earlier")) {
-  action = Some Set;
-  value_names = 1;
-  required = true;
-}
+earlier = word_rule (codes "earlier") Set
 
 -- TO
 unfoldable pub later : Rule
-later = record (new_rule (codes "later")) {
-  action = Some Set;
-  value_names = 1;
-  required = true;
-}
+later = word_rule (codes "later") Set
 
 -- `--svg`
 unfoldable pub svg : Rule
-svg = record (new_rule (codes "svg")) {
-  long = Some (codes "svg");
-  action = Some SetTrue;
-}
+svg = flag_rule (codes "svg") (codes "svg")
 
 -- `--first SESSION`
 unfoldable pub first : Rule
-first = record (new_rule (codes "first")) {
-  long = Some (codes "first");
-  action = Some Set;
-  value_names = 1;
-}
+first = option_rule (codes "first") (codes "first")
 
 -- `--as DUPLICATES`
 unfoldable pub allowing : Rule
-allowing = record (new_rule (codes "allowing")) {
-  long = Some (codes "as");
-  action = Some Set;
-  value_names = 1;
-}
+allowing = option_rule (codes "allowing") (codes "as")
 
 -- `--text`
 unfoldable pub plain : Rule
-plain = record (new_rule (codes "plain")) {
-  long = Some (codes "text");
-  action = Some SetTrue;
-}
+plain = flag_rule (codes "plain") (codes "text")
 
 -- REPORT.., of which there has to be one
 unfoldable pub reports : Rule
-reports = record (new_rule (codes "reports")) {
-  action = Some Append;
-  value_names = 1;
-  required = true;
-}
+reports = word_rule (codes "reports") Append
 
 -- SCRIPT.., of which there has to be one
 unfoldable pub scripts : Rule
-scripts = record (new_rule (codes "scripts")) {
-  action = Some Append;
-  value_names = 1;
-  required = true;
-}
+scripts = word_rule (codes "scripts") Append
 
 -- the command `run`
 unfoldable pub run : App

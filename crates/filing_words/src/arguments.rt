@@ -2,10 +2,57 @@
 
 ghost use Rattle.std.specs.Prelude.{◌≡◌, false};
 ghost use Rattle.clap.specs.Words.{rule_of};
-ghost use Rattle.filing_words.specs.Words.{numeric, history, from, journal, every_reply, explain, strict, judged, viewed, report, at, earlier, later, svg, first, allowing, plain, reports, scripts};
+ghost use Rattle.filing_words.specs.Words.{option_rule, flag_rule, word_rule, numeric, history, from, journal, every_reply, explain, strict, judged, viewed, report, at, earlier, later, svg, first, allowing, plain, reports, scripts};
 
 use clap::{Arg, ArgAction};
 use std::alloc::Global;
+
+/// An option that takes a value.
+fn value_option<'a>(
+    alloc: Global,
+    id: &'a str,
+    long: &'a str,
+    value: &'a str,
+    help: &'a str,
+) -> Arg<'a>
+    ensures rule { rule_of result ≡ option_rule id.entry.now long.entry.now }
+    ensures local { result.global ≡ false }
+{
+    Arg::new(alloc, id)
+        .long(long)
+        .value_name(value)
+        .help(help)
+        .action(ArgAction::Set)
+}
+
+/// A flag.
+fn flag<'a>(alloc: Global, id: &'a str, long: &'a str, help: &'a str) -> Arg<'a>
+    ensures rule { rule_of result ≡ flag_rule id.entry.now long.entry.now }
+    ensures local { result.global ≡ false }
+{
+    Arg::new(alloc, id)
+        .long(long)
+        .help(help)
+        .action(ArgAction::SetTrue)
+}
+
+/// A word that has to be there, or words of which there has to be one.
+fn needed<'a>(
+    alloc: Global,
+    id: &'a str,
+    value: &'a str,
+    help: &'a str,
+    action: ArgAction,
+) -> Arg<'a>
+    ensures rule { rule_of result ≡ word_rule id.entry.now action }
+    ensures local { result.global ≡ false }
+{
+    Arg::new(alloc, id)
+        .value_name(value)
+        .help(help)
+        .action(action)
+        .required(true)
+}
 
 /// The option that names a numeric table.
 #[tactic(auto, unfolding(crate::specs::Words::numeric))]
@@ -13,11 +60,13 @@ pub(crate) fn numeric_option<'a>(alloc: Global) -> Arg<'a>
     ensures rule { rule_of result ≡ numeric }
     ensures local { result.global ≡ false }
 {
-    Arg::new(alloc, "numeric")
-        .long("numeric")
-        .value_name("FILE")
-        .help("Numeric concepts, one a line: URI, space, local name")
-        .action(ArgAction::Set)
+    value_option(
+        alloc,
+        "numeric",
+        "numeric",
+        "FILE",
+        "Numeric concepts, one a line: URI, space, local name",
+    )
 }
 
 /// The option that names the file to which a history is to be written.
@@ -26,11 +75,13 @@ pub(crate) fn history_option<'a>(alloc: Global) -> Arg<'a>
     ensures rule { rule_of result ≡ history }
     ensures local { result.global ≡ false }
 {
-    Arg::new(alloc, "history")
-        .long("history")
-        .value_name("FILE")
-        .help("Where the history goes once the script has ended")
-        .action(ArgAction::Set)
+    value_option(
+        alloc,
+        "history",
+        "history",
+        "FILE",
+        "Where the history goes once the script has ended",
+    )
 }
 
 /// The option that names the file of a history to go on from.
@@ -39,11 +90,13 @@ pub(crate) fn from_option<'a>(alloc: Global) -> Arg<'a>
     ensures rule { rule_of result ≡ from }
     ensures local { result.global ≡ false }
 {
-    Arg::new(alloc, "from")
-        .long("from")
-        .value_name("HISTORY")
-        .help("A history to go on from, which stays as it is")
-        .action(ArgAction::Set)
+    value_option(
+        alloc,
+        "from",
+        "from",
+        "HISTORY",
+        "A history to go on from, which stays as it is",
+    )
 }
 
 /// The option that names the file of a journal.
@@ -52,11 +105,13 @@ pub(crate) fn journal_option<'a>(alloc: Global) -> Arg<'a>
     ensures rule { rule_of result ≡ journal }
     ensures local { result.global ≡ false }
 {
-    Arg::new(alloc, "journal")
-        .long("journal")
-        .value_name("FILE")
-        .help("A journal to go on from: what is committed is kept in it")
-        .action(ArgAction::Set)
+    value_option(
+        alloc,
+        "journal",
+        "journal",
+        "FILE",
+        "A journal to go on from: what is committed is kept in it",
+    )
 }
 
 /// The flag by which each reply waits until its entry is in the journal.
@@ -65,10 +120,12 @@ pub(crate) fn every_reply_flag<'a>(alloc: Global) -> Arg<'a>
     ensures rule { rule_of result ≡ every_reply }
     ensures local { result.global ≡ false }
 {
-    Arg::new(alloc, "every_reply")
-        .long("every-reply")
-        .help("With a journal: each reply waits for its entry")
-        .action(ArgAction::SetTrue)
+    flag(
+        alloc,
+        "every_reply",
+        "every-reply",
+        "With a journal: each reply waits for its entry",
+    )
 }
 
 /// The flag that asks for reasons.
@@ -77,10 +134,12 @@ pub(crate) fn explain_flag<'a>(alloc: Global) -> Arg<'a>
     ensures rule { rule_of result ≡ explain }
     ensures local { result.global ≡ false }
 {
-    Arg::new(alloc, "explain")
-        .long("explain")
-        .help("Says on standard error why, line by line")
-        .action(ArgAction::SetTrue)
+    flag(
+        alloc,
+        "explain",
+        "explain",
+        "Says on standard error why, line by line",
+    )
 }
 
 /// The file of the history that is to be judged.
@@ -89,11 +148,13 @@ pub(crate) fn judged_argument<'a>(alloc: Global) -> Arg<'a>
     ensures rule { rule_of result ≡ judged }
     ensures local { result.global ≡ false }
 {
-    Arg::new(alloc, "judged")
-        .value_name("HISTORY")
-        .help("The history to be judged, as `run --history` writes it")
-        .action(ArgAction::Set)
-        .required(true)
+    needed(
+        alloc,
+        "judged",
+        "HISTORY",
+        "The history to be judged, as `run --history` writes it",
+        ArgAction::Set,
+    )
 }
 
 /// The file of the history of which something is to be shown.
@@ -102,11 +163,13 @@ pub(crate) fn viewed_argument<'a>(alloc: Global) -> Arg<'a>
     ensures rule { rule_of result ≡ viewed }
     ensures local { result.global ≡ false }
 {
-    Arg::new(alloc, "viewed")
-        .value_name("HISTORY")
-        .help("A history, as `run --history` writes it, or a journal")
-        .action(ArgAction::Set)
-        .required(true)
+    needed(
+        alloc,
+        "viewed",
+        "HISTORY",
+        "A history, as `run --history` writes it, or a journal",
+        ArgAction::Set,
+    )
 }
 
 /// The name of a report that is to be shown.
@@ -127,11 +190,13 @@ pub(crate) fn at_option<'a>(alloc: Global) -> Arg<'a>
     ensures rule { rule_of result ≡ at }
     ensures local { result.global ≡ false }
 {
-    Arg::new(alloc, "at")
-        .long("at")
-        .value_name("VERSION")
-        .help("The version by its number; without it the last one")
-        .action(ArgAction::Set)
+    value_option(
+        alloc,
+        "at",
+        "at",
+        "VERSION",
+        "The version by its number; without it the last one",
+    )
 }
 
 /// The files of the scripts that are to be run in threads.
@@ -140,11 +205,13 @@ pub(crate) fn scripts_argument<'a>(alloc: Global) -> Arg<'a>
     ensures rule { rule_of result ≡ scripts }
     ensures local { result.global ≡ false }
 {
-    Arg::new(alloc, "scripts")
-        .value_name("SCRIPT")
-        .help("A script of JSON lines, for a thread of its own; up to 16")
-        .action(ArgAction::Append)
-        .required(true)
+    needed(
+        alloc,
+        "scripts",
+        "SCRIPT",
+        "A script of JSON lines, for a thread of its own; up to 16",
+        ArgAction::Append,
+    )
 }
 
 /// The flag by which a run ends with a status of its own where a line was refused that should not have been.
@@ -153,10 +220,12 @@ pub(crate) fn strict_flag<'a>(alloc: Global) -> Arg<'a>
     ensures rule { rule_of result ≡ strict }
     ensures local { result.global ≡ false }
 {
-    Arg::new(alloc, "strict")
-        .long("strict")
-        .help("Status 5 where a line was malformed or out of place")
-        .action(ArgAction::SetTrue)
+    flag(
+        alloc,
+        "strict",
+        "strict",
+        "Status 5 where a line was malformed or out of place",
+    )
 }
 
 /// The number of the version from which a difference leads.
@@ -165,11 +234,13 @@ pub(crate) fn earlier_argument<'a>(alloc: Global) -> Arg<'a>
     ensures rule { rule_of result ≡ earlier }
     ensures local { result.global ≡ false }
 {
-    Arg::new(alloc, "earlier")
-        .value_name("FROM")
-        .help("The number of a version")
-        .action(ArgAction::Set)
-        .required(true)
+    needed(
+        alloc,
+        "earlier",
+        "FROM",
+        "The number of a version",
+        ArgAction::Set,
+    )
 }
 
 /// The number of the version to which it leads.
@@ -178,11 +249,13 @@ pub(crate) fn later_argument<'a>(alloc: Global) -> Arg<'a>
     ensures rule { rule_of result ≡ later }
     ensures local { result.global ≡ false }
 {
-    Arg::new(alloc, "later")
-        .value_name("TO")
-        .help("The number of a version that it is compared with")
-        .action(ArgAction::Set)
-        .required(true)
+    needed(
+        alloc,
+        "later",
+        "TO",
+        "The number of a version that it is compared with",
+        ArgAction::Set,
+    )
 }
 
 /// The flag by which the log of sessions is drawn.
@@ -191,10 +264,12 @@ pub(crate) fn svg_flag<'a>(alloc: Global) -> Arg<'a>
     ensures rule { rule_of result ≡ svg }
     ensures local { result.global ≡ false }
 {
-    Arg::new(alloc, "svg")
-        .long("svg")
-        .help("Writes a picture of at most 200 sessions, as SVG")
-        .action(ArgAction::SetTrue)
+    flag(
+        alloc,
+        "svg",
+        "svg",
+        "Writes a picture of at most 200 sessions, as SVG",
+    )
 }
 
 /// The option that names the first session of a picture by its number.
@@ -203,11 +278,13 @@ pub(crate) fn first_option<'a>(alloc: Global) -> Arg<'a>
     ensures rule { rule_of result ≡ first }
     ensures local { result.global ≡ false }
 {
-    Arg::new(alloc, "first")
-        .long("first")
-        .value_name("SESSION")
-        .help("The first session of the picture, by its number")
-        .action(ArgAction::Set)
+    value_option(
+        alloc,
+        "first",
+        "first",
+        "SESSION",
+        "The first session of the picture, by its number",
+    )
 }
 
 /// The option that names which duplicates are allowed, whatever a report declares.
@@ -216,11 +293,13 @@ pub(crate) fn allowing_option<'a>(alloc: Global) -> Arg<'a>
     ensures rule { rule_of result ≡ allowing }
     ensures local { result.global ≡ false }
 {
-    Arg::new(alloc, "allowing")
-        .long("as")
-        .value_name("DUPLICATES")
-        .help("What is allowed: none, complete, consistent or all")
-        .action(ArgAction::Set)
+    value_option(
+        alloc,
+        "allowing",
+        "as",
+        "DUPLICATES",
+        "What is allowed: none, complete, consistent or all",
+    )
 }
 
 /// The flag by which lines for people are written.
@@ -229,10 +308,12 @@ pub(crate) fn text_flag<'a>(alloc: Global) -> Arg<'a>
     ensures rule { rule_of result ≡ plain }
     ensures local { result.global ≡ false }
 {
-    Arg::new(alloc, "plain")
-        .long("text")
-        .help("Writes lines for people, and not JSON")
-        .action(ArgAction::SetTrue)
+    flag(
+        alloc,
+        "plain",
+        "text",
+        "Writes lines for people, and not JSON",
+    )
 }
 
 /// The files of the reports that are to be inspected.
@@ -241,9 +322,11 @@ pub(crate) fn reports_argument<'a>(alloc: Global) -> Arg<'a>
     ensures rule { rule_of result ≡ reports }
     ensures local { result.global ≡ false }
 {
-    Arg::new(alloc, "reports")
-        .value_name("REPORT")
-        .help("The file of a report in xBRL-JSON; - is standard input")
-        .action(ArgAction::Append)
-        .required(true)
+    needed(
+        alloc,
+        "reports",
+        "REPORT",
+        "The file of a report in xBRL-JSON; - is standard input",
+        ArgAction::Append,
+    )
 }
