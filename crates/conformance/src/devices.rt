@@ -4,13 +4,11 @@ ghost use Rattle.std.specs.Prelude.{◌≡◌, ◌≤◌, ◌<◌};
 
 use crate::journals::{Keeping, keep_script};
 use anyhow::{Result, anyhow};
-use filing_cli::{
-    MemoryIn, MemoryOut, ScriptFault, judge_history, run_script_within, write_history,
-    write_verdict,
-};
 use filing_core::{Core, Verdict};
 use journal::MemoryFile;
+use line_io::{MemoryIn, MemoryOut, ScriptFault};
 use oim_fact::NumericTable;
+use script_runs::{judge_history, run_script_within, write_history, write_verdict};
 use std::alloc::{AllocError, Global};
 use std::marker::Brand;
 use std::sync::Arc;

@@ -2,13 +2,11 @@
 
 use crate::devices::{Done, Ended, Trial, Work, do_work};
 use anyhow::Result;
-use filing_cli::{
-    JournaledRun, OpenHistoryFault, ScriptFault, Sink, Source, engine_of_history,
-    run_script_with_journal,
-};
 use filing_core::Engine;
 use journal::{Journal, MemoryFile, open, read_lines};
+use line_io::{ScriptFault, Sink, Source};
 use oim_fact::NumericTable;
+use script_runs::{JournaledRun, OpenHistoryFault, engine_of_history, run_script_with_journal};
 use std::alloc::{AllocError, Global};
 use std::sync::Arc;
 

@@ -9,8 +9,8 @@ use crate::lines::{ends_in, is_end, push_line, read_data, read_numeric, read_tex
 use crate::question::part_text;
 use crate::sheet::{Answers, Sheet, compare_rows, compare_sheets};
 use anyhow::Result;
-use filing_cli::{ScriptFault, is_blank};
 use filing_core::{Core, check_run};
+use line_io::{ScriptFault, is_blank};
 use oim_fact::NumericTable;
 use oim_report::{TableFault, json_value, read_table};
 use serde_json::Value;

@@ -3,8 +3,8 @@
 use crate::devices::{Done, Ended, Trial, Work, do_work};
 use crate::lines::{ends_in, is_end, read_data};
 use anyhow::{Result, anyhow};
-use filing_cli::ScriptFault;
 use filing_core::{Core, Verdict};
+use line_io::ScriptFault;
 use oim_fact::NumericTable;
 use oim_report::read_table;
 use std::alloc::{AllocError, Global};

@@ -1,4 +1,4 @@
-//! What is told of facts that may be of one cell, and what pages keep of it.
+//! Sums of facts that may be of one cell, and what pages keep of them.
 ghost use Rattle.std.specs.Prelude.{◌≡◌, ◌++◌, [], ◌∷◌, List, IfSome, IsTrue, true};
 ghost use Rattle.std.specs.Arc.{arc_value};
 ghost use Rattle.std.specs.List.{list_all};
@@ -11,14 +11,14 @@ use oim_fact::{Class, DimSet, Fact, FactTally};
 use std::alloc::Global;
 use std::sync::Arc;
 
-/// What is told of some facts.
+/// A sum of some facts.
 #[derive(Drop)]
 pub enum CellSum {
     /// There are none.
     Empty,
     /// A tally of them.
     Told(FactTally),
-    /// Nothing. They may be of several cells.
+    /// It says nothing: they may be of several cells.
     Mixed,
 }
 
@@ -36,7 +36,7 @@ fn told(tally: FactTally) -> CellSum
     }
 }
 
-/// What is told of one fact. It is nothing where the fact has too many owners.
+/// The sum of one fact. It says nothing where the fact has too many owners.
 fn of_fact(fact: &Arc<Fact>) -> CellSum
     ensures { Tells result (arc_value fact.now ∷ []) }
 {
@@ -46,7 +46,7 @@ fn of_fact(fact: &Arc<Fact>) -> CellSum
     }
 }
 
-/// What a tally tells. It is nothing where the first fact has too many owners.
+/// The sum that is a tally. It says nothing where the first fact has too many owners.
 fn shared(tally: &FactTally) -> CellSum
     ensures { (facts : List PlainFact) → IsTallyOf tally.now facts → Tells result facts }
 {
@@ -110,14 +110,14 @@ impl CellSum {
         }
     }
 
-    /// Whether nothing is told.
+    /// Whether it says nothing.
     pub(crate) fn is_mixed(&self) -> bool
         ensures { IsTrue result → (facts : List PlainFact) → Tells self.now facts }
     {
         matches!(self, CellSum::Mixed)
     }
 
-    /// The class of the facts, where they are told to have these dimensions.
+    /// The class of the facts, where it says that they have these dimensions.
     pub(crate) fn class(self, dims: &DimSet) -> Option<Class>
         ensures { IfSome result (λ class. (facts : List PlainFact) → Tells self facts
             → (list_all (has_dims dims.now) facts ≡ true) × (class ≡ class_of facts)) }

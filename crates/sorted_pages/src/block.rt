@@ -1,4 +1,4 @@
-//! A sorted run of items, with what is told of them and the keys of its ends.
+//! A sorted run of items, with a sum of them and the keys of its ends.
 ghost use Rattle.std.specs.Prelude.{◌≡◌, ◌++◌, ◌<◌, ◌≤◌, List, length, Some};
 ghost use Rattle.std.specs.List.{flat_map};
 ghost use Rattle.std.specs.Arc.{arc_value};
@@ -10,7 +10,7 @@ use std::alloc::Global;
 use std::marker::Model;
 use std::sync::Arc;
 
-/// One to 64 items, with what is told of them, and the keys of the first entry and of the last. Contracts see the list of the items.
+/// One to 64 items, with a sum of them, and the keys of the first entry and of the last. Contracts see the list of the items.
 #[derive(Drop)]
 pub(crate) struct Block<T: Edged> {
     items: Vec<T>,

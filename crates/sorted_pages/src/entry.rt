@@ -11,7 +11,7 @@ use std::cmp::Ordering;
 
 /// What has sums of lists of it, of which each page keeps one.
 pub trait Summed {
-    /// What is told of a list.
+    /// What says something of a list.
     type Sum: Drop;
 
     /// The same in the form in which pages keep it.

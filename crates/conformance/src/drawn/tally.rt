@@ -4,7 +4,7 @@ use crate::draft::SESSIONS;
 use crate::drawn::words::words_of;
 use crate::lines::is_end;
 use crate::question::text_at;
-use filing_cli::is_blank;
+use line_io::is_blank;
 use oim_report::json_value;
 use script_format::line_of;
 use serde_json::Value;

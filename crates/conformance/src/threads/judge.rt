@@ -10,7 +10,7 @@ use crate::devices::{Work, written_in};
 use crate::lines::{is_end, push_line};
 use crate::question::text_at;
 use anyhow::Result;
-use filing_cli::is_blank;
+use line_io::is_blank;
 use oim_fact::NumericTable;
 use oim_report::json_value;
 use serde_json::Value;

@@ -5,11 +5,11 @@ ghost use Rattle.std.specs.Prelude.{◌≡◌, ◌≤◌, ◌<◌, length};
 use crate::devices::{Done, Ended, Trial, Work, do_work};
 use crate::journals::Keeping;
 use anyhow::{Result, anyhow};
-use filing_cli::{
-    JournaledThreads, MemoryOut, Unwatched, entries_of_history, run_threads_with_journal,
-};
+use filing_threads::{JournaledThreads, Unwatched, run_threads_with_journal};
 use journal::{Journal, MemoryFile, open, read_lines};
+use line_io::MemoryOut;
 use oim_fact::NumericTable;
+use script_runs::entries_of_history;
 use std::alloc::Global;
 use std::marker::{Brand, Sync};
 use std::sync::ledger::{Blank, Ledger};

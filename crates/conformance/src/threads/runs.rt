@@ -4,7 +4,8 @@ ghost use Rattle.std.specs.Prelude.{◌≡◌, ◌≤◌, ◌<◌, length};
 
 use crate::lines::{is_end, push_line};
 use anyhow::{Result, anyhow};
-use filing_cli::{MemoryOut, run_threads};
+use filing_threads::run_threads;
+use line_io::MemoryOut;
 use oim_fact::NumericTable;
 use std::alloc::{AllocError, Global};
 use std::marker::{Brand, Sync};
