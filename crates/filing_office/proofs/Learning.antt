@@ -38,9 +38,6 @@ within_more m n o le within = at (receipt_in o) within
 pub all_within_more : {J : Type 0} (m n : ℕ) (os : List (Outcome J)) → m ≤ n → All (IsWithin m) os → All (IsWithin n) os
 all_within_more m n os le within = λ k d lt. within_more m n (slice_index_or os k d) le (within k d lt)
 
-pub nothing_within : {J : Type 0} (n : ℕ) → All (IsWithin {J = J} n) []
-nothing_within n = λ k d lt. absurd (omega (arith, lt))
-
 -- one outcome more
 pub one_more_within : {J : Type 0} (n : ℕ) (os : List (Outcome J)) (i : ℕ) (d : Outcome J) → i < length os
     → All (IsWithin n) (take i os) → IsWithin n (get_or os i d) → All (IsWithin n) (take (i + 1) os)

@@ -51,13 +51,6 @@ pub ends : {J : Type 0} (start now : RunState) (before : List (Outcome J)) (all 
     → RunsOn start now before all [] told → RanAfter start now before all told
 ends start now before all told run = (run.so_far ++ [], run.on now [] (refl, refl), run.are ∙ ap (λ os. before ++ os) (sym (append-nil run.so_far)))
 
--- a run after no outcomes has only its own
-pub from_none : {J : Type 0} (s t : RunState) (before : List (Outcome J)) (steps : List DeskStep) (all : List (Outcome J))
-    → before ≡ [] → RanAfter s t before steps all → Runs s t [] steps all
-from_none s t before steps all none ran =
-    subst (λ os. Runs s t [] steps os) (sym (ran.2 ∙ ap (λ os. os ++ ran.0) none))
-    (subst (λ os. Runs s t os steps ran.0) none ran.1)
-
 pub not_from_true : (b : Bool) → not b ≡ true → b ≡ false
 not_from_true true is = sym is
 not_from_true false is = refl

@@ -1,13 +1,11 @@
 -- What a step is told whatever the history.
-use Rattle.std.specs.Prelude.{IsTrue}
 use Rattle.std.proofs.Common.{sym, refl, ap, ℕ, Option, is_some}
 use Rattle.filing_model.specs.Histories.History.{Step, Load, Open, Ask, Commit, Close, History}
 use Rattle.filing_model.specs.Sessions.Replies as reply
 use Rattle.filing_step.specs.Steps.{reply_of}
 use Rattle.filing_office.specs.declared.answer.Answer.{Answer}
-use Rattle.std.proofs.lemmas.Option.{none-some, same_Some}
-use Rattle.filing_core.specs.Answers.{IsRefused}
-use Rattle.filing_office.specs.Answers.{IsTold, IsToldUnder, is_of_session}
+use Rattle.std.proofs.lemmas.Option.{same_Some}
+use Rattle.filing_office.specs.Answers.{IsTold, IsToldUnder}
 
 pub told_of_entered : {J : Type 0} (old new : History) (session : Option ℕ) (step : Step) (a : Answer J) → IsTold old new session step a → IsToldUnder session step a
 told_of_entered old new session (Load name r) a told = told.under
@@ -15,11 +13,3 @@ told_of_entered old new session (Open kind) a told = (ap is_some told.under, sym
 told_of_entered old new session (Ask call) a told = told.under
 told_of_entered old new session Commit a told = told.under
 told_of_entered old new session Close a told = told.under
-
--- a load and an opening may always follow
-pub refused_is_of_session : (old new : History) (session : Option ℕ) (step : Step) → IsRefused old new session step → IsTrue (is_of_session step)
-refused_is_of_session old new session (Load name r) refused = absurd (none-some _ (sym refused.not_open))
-refused_is_of_session old new session (Open kind) refused = absurd (none-some _ (sym refused.not_open))
-refused_is_of_session old new session (Ask call) refused = refl
-refused_is_of_session old new session Commit refused = refl
-refused_is_of_session old new session Close refused = refl

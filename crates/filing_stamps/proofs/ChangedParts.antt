@@ -322,12 +322,3 @@ stamped fact_changes n stamps changes are upto = λ i part. at part i
         (are.numbered n (moves_have n fact_changes)) (upto part)
         ∙ ap (λ b. cond b n (stamp_in stamps part))
         (are.alike (λ s. is_eq (among_side (part_among part) s)) (λ x y e. ap is_eq (among_alike (part_among part) x y e)) ∙ moves_hit part n fact_changes)
-
--- no part has more than the number of the last fact changes
-pub stamped_upto : (fact_changes : List FactChange) (n : ℕ) (old new : Part → ℕ) → ((part : Part) → old part ≤ n) → new ≡ stamped_by fact_changes n old
-    → (part : Part) → new part ≤ n
-stamped_upto fact_changes n old new h e part = subst (λ f. f part ≤ n) (sym e) (by (is_touched fact_changes part))
-  where
-    by : (b : Bool) → cond b n (old part) ≤ n
-    by true = omega arith
-    by false = h part

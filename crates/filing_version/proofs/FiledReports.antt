@@ -304,13 +304,6 @@ up_to_next : (b : Bool) (number old : ℕ) → old ≤ number → cond b (number
 up_to_next true number old h = omega arith
 up_to_next false number old h = omega arith
 
-pub after_is_stamped_up_to : (number : ℕ) (change : Change) (filed : TextMap Filed) → ChangesWhatIsThere change filed → IsStampedUpTo number filed
-    → IsStampedUpTo (number + 1) (filed_after (number + 1) change.entries filed)
-after_is_stamped_up_to number change filed there h = record {
-  up_to = λ t. subst (λ n. n ≤ number + 1) (sym (stamps_after number change filed there t))
-      (up_to_next (is_stamped (version_of number filed).repository (after_change change (version_of number filed).repository) change t) number (stamp_at filed t) (h.up_to t));
-}
-
 pub with_is_stamped_up_to : (number : ℕ) (name : Text) (r : Report) (filed : TextMap Filed) → get filed name ≡ None → IsStampedUpTo number filed
     → IsStampedUpTo (number + 1) (insert filed name (newly_filed (number + 1) r))
 with_is_stamped_up_to number name r filed absent h = record {

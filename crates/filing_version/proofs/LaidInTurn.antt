@@ -62,12 +62,6 @@ pub record LaysTheOthers (first : Version) (all rest : List (Text × ReportChang
   pub same : laid_in_turn rest so_far.repository ≡ laid_in_turn all first.repository
   pub stamps : so_far.stamp ≡ first.stamp
 
-pub lays_nothing_yet : (first so_far : Version) (all : List (Text × ReportChange)) → so_far ≡ first → LaysTheOthers first all all so_far
-lays_nothing_yet first so_far all is = record {
-  same = ap (λ (v : Version). laid_in_turn all v.repository) is;
-  stamps = ap (λ (v : Version). v.stamp) is;
-}
-
 pub lays_next : (first so_far next : Version) (all : List (Text × ReportChange)) (e : Text × ReportChange) (es : List (Text × ReportChange))
     → next ≡ record so_far { repository = changed_at so_far.repository e } → LaysTheOthers first all (e ∷ es) so_far → LaysTheOthers first all es next
 lays_next first so_far next all e es is h = record {

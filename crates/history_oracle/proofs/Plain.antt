@@ -1,5 +1,5 @@
 -- The plain repository as lists.
-use Rattle.std.proofs.Common.{◌≡◌, ◌∙◌, ap, sym, subst, T, ℕ, ◌+◌, not, cond, List, Some, None}
+use Rattle.std.proofs.Common.{◌≡◌, ◌∙◌, ap, sym, subst, T, ℕ, not, cond, List, Some, None}
 use Rattle.std.specs.Option.{option_map_or}
 use Rattle.std.specs.Cmp.Lexicographic.{nat_list_cmp_total}
 use Rattle.std.specs.List.{filter}
@@ -9,7 +9,7 @@ use Rattle.filing_model.specs.Common.Text.{Text, text_cmp, text_eq}
 use Rattle.filing_model.specs.Common.TextMap.{TextMap, get, insert, remove, from_entries}
 use Rattle.filing_model.specs.Oim.Facts.{Fact}
 use Rattle.filing_model.specs.Oim.Reports.{Report}
-use Rattle.filing_model.specs.Sessions.Repository.{Repository, report_at, with_fact, with_report, with_report_at}
+use Rattle.filing_model.specs.Sessions.Repository.{Repository, report_at, with_fact, with_report_at}
 use Rattle.filing_model.proofs.Common.TextMaps.{get-from_entries, from_entries-put, same_map}
 use Rattle.filing_model.specs.Sessions.Sessions.{refusal_of}
 use Rattle.filing_model.proofs.Common.MapsOfLists.{from_entries-sorted}
@@ -78,11 +78,6 @@ whole_put p r k x news same put_is =
 pub report_found : (n : ℕ) (es : List (Text × Report)) (c : Repository) (q : Text)
     → ◌≡◌ {A = Repository} (record { count = n; reports = from_entries es }) c → find text_cmp q es ≡ report_at c q
 report_found n es c q is = sym (get-from_entries es q) ∙ ap (λ d. report_at d q) is
-
-pub report_put : (n : ℕ) (es news : List (Text × Report)) (c : Repository) (k : Text) (r : Report)
-    → ◌≡◌ {A = Repository} (record { count = n; reports = from_entries es }) c → news ≡ put text_cmp k r es
-    → record { count = n + 1; reports = from_entries news } ≡ with_report c k r
-report_put n es news c k r is put_is = λ i. record { count = (is i).count + 1; reports = map_put k r es news c.reports put_is (ap (λ d. d.reports) is) i }
 
 pub report_set : (n : ℕ) (es news : List (Text × Report)) (c : Repository) (k : Text) (r : Report)
     → ◌≡◌ {A = Repository} (record { count = n; reports = from_entries es }) c → news ≡ put text_cmp k r es

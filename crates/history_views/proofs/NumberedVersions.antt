@@ -102,12 +102,6 @@ sought_now (Some n) e h lawful here =
     let same : n ≡ (repository (e ∷ h)).count = cc in
     sym (ap (version_at (e ∷ h)) same ∙ last_version (e ∷ h) lawful)
 
--- before the first entry
-pub sought_first : (asked : Option ℕ) → (asked ≡ Some 0 → ⊥) → IsSought asked None []
-sought_first None another = refl
-sought_first (Some zero) another = absurd (another refl)
-sought_first (Some (suc n)) another = refl
-
 -- ---- with the names of reports
 
 newly : {X : Type 0} (xs : List X) (x y : X) (n : ℕ) → slice_get xs n ≡ None → slice_get (xs ++ x ∷ []) n ≡ Some y → y ≡ x

@@ -28,10 +28,6 @@ places_after step places places' h e placed is has = record {
       or_from (stages_at q id e.step) (list_any (λ e. stages_at q id e.step) h) (ap (stages_at q id) is ∙ both.0) (has.ids q id both.1);
 }
 
--- a step that has no place
-pub not_placed : (step : Step) (places : Places) → ((q : Text) → loads_name q step ≡ false) → ((q id : Text) → stages_at q id step ≡ false) → IsPlaced step places places
-not_placed step places no_name no_id = record { names = λ q none. (no_name q, none); ids = λ q id none. (no_id q id, none) }
-
 -- ---- one name more
 
 not_inserted : {X : Type 0} (b : Bool) (x : X) (o : Option X) → cond b (Some x) o ≡ None → (b ≡ false) × (o ≡ None)

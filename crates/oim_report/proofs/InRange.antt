@@ -22,25 +22,6 @@ kept : {A B : Type 0} (f : A → B) (o : Option A) → is_some (option_map f o) 
 kept f None = refl
 kept f (Some x) = refl
 
--- ---- items
-
-item_in_at : (o : Option Data) (js : json.Items) → is_some o ≡ true
-    → is_some (option_and_then (λ d. option_map (item d) (of_items js)) o) ≡ is_some (of_items js)
-item_in_at None js h = absurd (true≢false (sym h))
-item_in_at (Some d) js h = kept (item d) (of_items js)
-
--- where an item is in range, all are where those after it are
-pub item_in : (j : json.Json) (js : json.Items) → is_some (of_json j) ≡ true → is_some (of_items (json.item j js)) ≡ is_some (of_items js)
-item_in j js h = item_in_at (of_json j) js h
-
-item_out_at : (o : Option Data) (js : json.Items) → is_some o ≡ false
-    → is_some (option_and_then (λ d. option_map (item d) (of_items js)) o) ≡ false
-item_out_at None js h = refl
-item_out_at (Some d) js h = absurd (true≢false h)
-
-pub item_out : (j : json.Json) (js : json.Items) → is_some (of_json j) ≡ false → is_some (of_items (json.item j js)) ≡ false
-item_out j js h = item_out_at (of_json j) js h
-
 -- ---- members
 
 put_any : (o : Option Data) (k : Text) (ms : json.Members) (f g : Members)
@@ -62,15 +43,6 @@ member_in_at (Some d) k ms f h = any_found ms (put k d f) f
 pub member_in : (k : Text) (j : json.Json) (ms : json.Members) (f : Members) → is_some (of_json j) ≡ true
     → is_some (of_members (json.member k j ms) f) ≡ is_some (of_members ms f)
 member_in k j ms f h = member_in_at (of_json j) k ms f h
-
-member_out_at : (o : Option Data) (k : Text) (ms : json.Members) (f : Members) → is_some o ≡ false
-    → is_some (option_and_then (λ d. of_members ms (put k d f)) o) ≡ false
-member_out_at None k ms f h = refl
-member_out_at (Some d) k ms f h = absurd (true≢false h)
-
-pub member_out : (k : Text) (j : json.Json) (ms : json.Members) (f : Members) → is_some (of_json j) ≡ false
-    → is_some (of_members (json.member k j ms) f) ≡ false
-member_out k j ms f h = member_out_at (of_json j) k ms f h
 
 -- ---- what stands at a name
 

@@ -16,9 +16,9 @@ use Rattle.serde_json.specs.Data.{Data, null, Members, put}
 use Rattle.serde_json.specs.Read.{of_json, of_members}
 use Rattle.filing_model.specs.Common.Text.{Text, text_cmp}
 use Rattle.filing_model.specs.Reading.JsonText.{pairs}
-use Rattle.filing_model.specs.Common.Try.{each, with_front, Fails}
+use Rattle.filing_model.specs.Common.Try.{each, with_front}
 use Rattle.filing_model.proofs.Common.Tests.{both_hold}
-use Rattle.filing_model.proofs.Reading.Tries.{each_more, each_refused}
+use Rattle.filing_model.proofs.Reading.Tries.{each_more}
 use Rattle.oim_report.specs.Borrowed.{Place, are_in_range, data_of, is_in_range, members_at}
 
 abbrev pub At : Type 0
@@ -103,15 +103,6 @@ place_turn seen f left rest k v before later p goal left_is later_is read h =
     ∙ each_more f (map seen before) (k.now, data_of v) (seen p) (pairs (members_at rest)) read
     ∙ ap (λ ps. read_places seen f before ps) (sym left_is)
     ∙ h
-
-pub place_refused : {P X E : Type 0} (seen : P → X) (f : Text × Data → Result X E) (left rest : List At)
-    (k : Bor Text) (v : TextValue Global) (before : List P) (goal : Result (List X) E) (fault : Option E)
-    → left ≡ (k, v) ∷ rest → Fails fault (f (k.now, data_of v))
-    → read_places seen f before left ≡ goal → Fails fault goal
-place_refused seen f left rest k v before goal None left_is fails h = tt
-place_refused seen f left rest k v before goal (Some e) left_is fails h =
-    sym h ∙ ap (λ ps. read_places seen f before ps) left_is
-    ∙ each_refused f (map seen before) (k.now, data_of v) e (pairs (members_at rest)) fails
 
 pub places_read : {P X E : Type 0} (seen : P → X) (f : Text × Data → Result X E) (left : List At) (before : List P) (goal : Result (List X) E)
     → left ≡ [] → read_places seen f before left ≡ goal → goal ≡ Ok (map seen before)

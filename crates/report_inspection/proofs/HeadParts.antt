@@ -1,5 +1,5 @@
 -- What a report says of itself, check by check.
-use Rattle.std.proofs.Common.{◌≡◌, ◌∙◌, ap, sym, subst, refl, ℕ, ◌≤◌, suc, max, nat_le, Bool, true, false, cond, true≢false, List, [], ◌∷◌, ◌++◌, Option, None, Some, is_some, option_and_then, option_map, unwrap_or, Result, Ok, Err, codes, arith, Ordering, Less, Equal, Greater}
+use Rattle.std.proofs.Common.{◌≡◌, ◌∙◌, ap, sym, subst, refl, ℕ, ◌≤◌, max, Bool, true, false, cond, true≢false, List, [], ◌++◌, Option, None, Some, is_some, option_and_then, unwrap_or, Ok, Err, arith, Ordering, Less, Equal, Greater}
 use Rattle.std.proofs.Math.Nat.{le-max_left, le-max_right}
 use Rattle.std.proofs.lemmas.Bool.{le-leb}
 use Rattle.std.proofs.lemmas.List.{append-nil}
@@ -10,10 +10,9 @@ use Rattle.serde_json.specs.Find.{as_object, get, get_member}
 use Rattle.serde_json.specs.Read.{max_depth}
 use Rattle.serde_json.specs.Written.{has_float, compact_text}
 use Rattle.filing_model.specs.Common.Text.{Text, text_cmp}
-use Rattle.filing_model.specs.Oim.Facts.{Names, Table}
+use Rattle.filing_model.specs.Oim.Facts.{Table}
 use Rattle.filing_model.specs.Reading.JsonText.{an_object}
-use Rattle.filing_model.specs.Reading.ReadReport.{ReportFault, NotJson, NotWhole, WrongDocumentType, WrongShape, whole_text_of}
-use Rattle.filing_model.specs.declared.duplicates.Allowed.{Allowed}
+use Rattle.filing_model.specs.Reading.ReadReport.{NotJson, NotWhole, WrongDocumentType, WrongShape, whole_text_of}
 use Rattle.filing_model.specs.declared.duplicates.Allowed.TheVariants.{All}
 use Rattle.oim_report.specs.Readings.{declared_names, document_info_at, has_document_type}
 use Rattle.report_inspection.specs.EachFault.{allowed_declared, fault_in, info_faults, value_in}
@@ -32,16 +31,6 @@ typed (boolean b) h = absurd (true≢false (sym h))
 typed (number n) h = absurd (true≢false (sym h))
 typed (string s) h = absurd (true≢false (sym h))
 typed (array ds) h = absurd (true≢false (sym h))
-
-pub has_type : (d : Data) (faults : List Fault) → is_some (as_object d) ≡ true → has_document_type d ≡ true
-    → AddsFaults (fault_in (document_info_at (Some d))) faults faults
-has_type d faults is h = of_value (document_info_at (Some d)) d faults (typed d is ∙ ap (λ b. cond b (Ok d) (Err WrongDocumentType)) h)
-
-pub has_no_type : (d : Data) (before after : List Fault) → is_some (as_object d) ≡ true → has_document_type d ≡ false
-    → TellsFault (Some WrongDocumentType) before after → AddsFaults (fault_in (document_info_at (Some d))) before after
-has_no_type d before after is h told =
-    of_reading (document_info_at (Some d)) (Some WrongDocumentType) before after
-    (typed d is ∙ ap (λ b. cond b (Ok d) (Err WrongDocumentType)) h) told
 
 -- ---- whole numbers
 

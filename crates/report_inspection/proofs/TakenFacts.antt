@@ -1,12 +1,12 @@
 -- Facts of a report that are taken one by one.
-use Rattle.std.proofs.Common.{◌≡◌, ◌∙◌, ap, sym, subst, refl, ℕ, Bool, true, false, List, [], ◌∷◌, ◌++◌, map, length, Option, None, Some, is_some, option_map, option_and_then, Result, Err, unwrap_or, true≢false, Bor, Ordering, Less, Equal, Greater, suc}
+use Rattle.std.proofs.Common.{◌≡◌, ◌∙◌, ap, sym, subst, refl, ℕ, true, false, List, [], ◌∷◌, ◌++◌, length, Option, None, Some, is_some, option_map, option_and_then, Err, unwrap_or, true≢false, Bor, Ordering, Less, Equal, Greater, suc}
 use Rattle.std.proofs.lemmas.Grind.{flat_map-append}
 use Rattle.std.proofs.lemmas.List.{append-nil, append_assoc}
 use Rattle.std.proofs.lemmas.List.Elements.{filter_map-append}
 use Rattle.std.specs.Prelude.{IfSome}
 use Rattle.std.specs.BTreeMap.{insert_entry}
 use Rattle.std.specs.List.{cons_option}
-use Rattle.std.specs.Option.{option_flatten, option_map_or, option_to_list}
+use Rattle.std.specs.Option.{option_flatten, option_to_list}
 use Rattle.filing_model.specs.Common.Try.{Fails}
 use Rattle.filing_model.specs.declared.faults.Trouble.{Trouble}
 use Rattle.std.specs.Ordering.{match_ordering}
@@ -17,20 +17,18 @@ use Rattle.json.specs.Json as json
 use Rattle.json.specs.Value.{value_view}
 use Rattle.serde_json.specs.Data.{Data, Members, no_members, null, boolean, number, string, array, object}
 use Rattle.serde_json.specs.Find.{as_object, get}
-use Rattle.serde_json.specs.Read.{of_json, of_items, of_members, number_of}
-use Rattle.filing_model.specs.Reading.ReadReport.{WrongShape}
+use Rattle.serde_json.specs.Read.{of_json, of_members}
 use Rattle.filing_model.specs.Common.Text.{Text}
 use Rattle.filing_model.specs.Oim.Facts.{Names}
 use Rattle.filing_model.specs.Reading.JsonText.{pairs}
-use Rattle.oim_report.specs.Borrowed.{Place, are_in_range, data_of, is_in_range, members_at, read_object}
+use Rattle.oim_report.specs.Borrowed.{are_in_range, data_of, is_in_range, members_at, read_object}
 use Rattle.oim_report.proofs.InRange.{get_of, part_in, the_value}
 use Rattle.oim_report.proofs.OrderedMembers.{name_cmp, range_turn}
-use Rattle.report_inspection.specs.EachFault.{fact_faults, fact_judged, facts_read, value_in, member_fact, member_faults, members_of, shape_fault}
-use Rattle.report_inspection.specs.Found.{PlaceRef, Takes, TakesEach, TakesFacts, places_behind}
-use Rattle.report_inspection.specs.Inspections.{AddsFaults, TellsFault}
+use Rattle.report_inspection.specs.EachFault.{fact_faults, fact_judged, facts_read, value_in, member_fact, member_faults}
+use Rattle.report_inspection.specs.Found.{PlaceRef, Takes, TakesEach, places_behind}
+use Rattle.report_inspection.specs.Inspections.{AddsFaults}
 use Rattle.oim_report.specs.Parts.{facts_view}
 use Rattle.report_inspection.specs.declared.facts.Found.{Found}
-use Rattle.report_inspection.specs.declared.fault.Fault.{Fault}
 use Rattle.report_inspection.proofs.ToldFaults.{no_more, then_more}
 
 -- ---- one behind another
@@ -96,11 +94,6 @@ pub record Taking (names : Option Names) (all left : List PlaceRef) (before now 
 pub taking_begins : (names : Option Names) (all : List PlaceRef) (found : Found) → are_in_range (places_behind all) ≡ true → Taking names all all found found
 taking_begins names all found range = record { done = []; parts = refl; takes = takes_none names found; range = range }
 
-pub next_in_range : (left rest : List PlaceRef) (k : Bor Text) (v : Bor (TextValue Global)) → left ≡ (k, v) ∷ rest
-    → are_in_range (places_behind left) ≡ true → is_in_range v.now ≡ true
-next_in_range left rest k v left_is range =
-    (range_turn (places_behind left) (places_behind rest) k v.now (ap places_behind left_is) range).0
-
 pub taking_steps : (names : Option Names) (all left rest : List PlaceRef) (k : Bor Text) (v : Bor (TextValue Global)) (before now later : Found)
     → Taking names all left before now → left ≡ (k, v) ∷ rest → Takes names (k.now, data_of v.now) now later → Taking names all rest before later
 taking_steps names all left rest k v before now later h left_is one = record {
@@ -112,10 +105,6 @@ taking_steps names all left rest k v before now later h left_is one = record {
   takes = takes_one_more names h.done (k.now, data_of v.now) before now later h.takes one;
   range = (range_turn (places_behind left) (places_behind rest) k v.now (ap places_behind left_is) h.range).1;
 }
-
-pub members_are : (names : Option Names) (o : Option Members) (all : List PlaceRef) (before now : Found) → o ≡ Some (members_at (places_behind all))
-    → TakesEach names (pairs (members_at (places_behind all))) before now → TakesEach names (pairs (unwrap_or o no_members)) before now
-members_are names o all before now is h = subst (λ o. TakesEach names (pairs (unwrap_or o no_members)) before now) (sym is) h
 
 pub as_many : (o : Option Members) (all : List PlaceRef) (n : ℕ) → o ≡ Some (members_at (places_behind all)) → n ≡ length all
     → n ≡ length (pairs (unwrap_or o no_members))
@@ -142,50 +131,6 @@ put_behind (p ∷ ps) k v =
     by_order Equal = refl
     by_order Greater = refl
 
--- ---- what stands at `facts`
-
-pub takes_nothing : (names : Option Names) (found : Found) → TakesFacts names None found found
-takes_nothing names found = record { taken = sym (append-nil (facts_view found.facts.items)); faults = no_more found.faults.items }
-
-pub takes_object : (names : Option Names) (d : Data) (o : Option Members) (before after : Found) → as_object d ≡ o → is_some o ≡ true
-    → TakesEach names (pairs (unwrap_or o no_members)) before after → TakesFacts names (Some d) before after
-takes_object names (object ms) o before after is some h =
-    let each : TakesEach names (pairs ms) before after = subst (λ o. TakesEach names (pairs (unwrap_or o no_members)) before after) (sym is) h in
-    record { taken = each.facts; faults = each.faults }
-takes_object names null o before after is some h = absurd (true≢false (sym some ∙ ap is_some (sym is)))
-takes_object names (boolean b) o before after is some h = absurd (true≢false (sym some ∙ ap is_some (sym is)))
-takes_object names (number n) o before after is some h = absurd (true≢false (sym some ∙ ap is_some (sym is)))
-takes_object names (string s) o before after is some h = absurd (true≢false (sym some ∙ ap is_some (sym is)))
-takes_object names (array ds) o before after is some h = absurd (true≢false (sym some ∙ ap is_some (sym is)))
-
-pub counts_object : (d : Data) (o : Option Members) (n : ℕ) → as_object d ≡ o → is_some o ≡ true
-    → n ≡ length (pairs (unwrap_or o no_members)) → n ≡ length (members_of (Some d))
-counts_object d None n is some h = absurd (true≢false (sym some))
-counts_object d (Some ms) n is some h = h ∙ ap (λ o. length (option_map_or pairs o [])) (sym is)
-
-no_shape : (d : Data) → as_object d ≡ None → shape_fault (Some d) ≡ WrongShape ∷ []
-no_shape (object ms) is = absurd (cc)
-no_shape null is = refl
-no_shape (boolean b) is = refl
-no_shape (number n) is = refl
-no_shape (string s) is = refl
-no_shape (array ds) is = refl
-
-pub takes_no_object : (names : Option Names) (d : Data) (before after : Found) → as_object d ≡ None
-    → TellsFault (Some WrongShape) before.faults.items after.faults.items → after.facts ≡ before.facts → TakesFacts names (Some d) before after
-takes_no_object names d before after is told same = record {
-  taken =
-      (λ i. facts_view (same i).items)
-      ∙ sym (append-nil (facts_view before.facts.items))
-      ∙ ap (λ o. facts_view before.facts.items ++ facts_read names (option_map_or pairs o [])) (sym is);
-  faults =
-      subst (λ o. AddsFaults (shape_fault (Some d) ++ fact_faults names (option_map_or pairs o [])) before.faults.items after.faults.items) (sym is)
-      (subst (λ fs. AddsFaults (fs ++ []) before.faults.items after.faults.items) (sym (no_shape d is)) told);
-}
-
-pub counts_no_object : (d : Data) → as_object d ≡ None → 0 ≡ length (members_of (Some d))
-counts_no_object d is = ap (λ o. length (option_map_or pairs o [])) (sym is)
-
 -- ---- objects by what was read
 
 kept : {A B : Type 0} (f : A → B) (o : Option A) → is_some (option_map f o) ≡ is_some o
@@ -195,10 +140,6 @@ kept f (Some x) = refl
 object_of : (o : Option Members) → is_some o ≡ true → as_object (unwrap_or (option_map object o) null) ≡ o
 object_of None some = absurd (true≢false (sym some))
 object_of (Some ms) some = refl
-
-no_object_of : {A : Type 0} (f : A → Data) (o : Option A) → ((x : A) → as_object (f x) ≡ None) → as_object (unwrap_or (option_map f o) null) ≡ None
-no_object_of f None none = refl
-no_object_of f (Some x) none = none x
 
 -- the members of an object in range
 pub is_object : (m : json.Json) (ms : json.Members) → Some ms ≡ read_object m → is_some (of_json m) ≡ true
@@ -211,14 +152,6 @@ is_object (json.boolean b) ms is some = absurd (cc)
 is_object (json.number s) ms is some = absurd (cc)
 is_object (json.string s) ms is some = absurd (cc)
 is_object (json.array js) ms is some = absurd (cc)
-
-pub is_no_object : (m : json.Json) → None ≡ read_object m → as_object (unwrap_or (of_json m) null) ≡ None
-is_no_object (json.object ns) is = absurd (cc)
-is_no_object json.null is = refl
-is_no_object (json.boolean b) is = refl
-is_no_object (json.number s) is = no_object_of number (number_of s) (λ n. refl)
-is_no_object (json.string s) is = refl
-is_no_object (json.array js) is = no_object_of array (of_items js) (λ ds. refl)
 
 -- ---- what stands at a name
 

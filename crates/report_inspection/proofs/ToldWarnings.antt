@@ -131,6 +131,3 @@ more_concepts a b c h k = record {
 -- of those that are told behind none
 pub all_told : (Are : List Told → Type 0) (before after : List Warning) → before ≡ [] → Tells Are before after → Are (map told after)
 all_told Are before after none h = subst Are (sym (h.behind ∙ ap (λ ws. map told ws ++ h.told_now) none)) h.are
-
-pub of_kept : (facts kept : List (Text × Json)) (before after : List Warning) → facts ≡ kept → Tells (AreOfFacts facts) before after → Tells (AreOfFacts kept) before after
-of_kept facts kept before after is h = subst (λ fs. Tells (AreOfFacts fs) before after) is h

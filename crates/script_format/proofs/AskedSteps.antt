@@ -1,12 +1,12 @@
 -- What a step that a line asks for says of the call that was read.
-use Rattle.std.proofs.Common.{◌≡◌, ◌∙◌, ap, sym, refl, Result, Ok, Err, String, string_bytes, is_ok, true≢false}
+use Rattle.std.proofs.Common.{◌≡◌, ap, sym, refl, Result, Ok, Err, String, string_bytes, is_ok, true≢false}
 use Rattle.std.specs.declared.alloc.Global.{Global}
 use Rattle.filing_model.specs.Common.Text.{Text}
 use Rattle.filing_model.specs.Sessions.Calls.{Call}
 use Rattle.filing_model.specs.Histories.History as model
 use Rattle.filing_step.specs.Steps.{step_of}
 use Rattle.filing_step.specs.declared.step.Step.{Step}
-use Rattle.script_format.specs.Script.{State, ReplyNow, judged_step, judged_asking}
+use Rattle.script_format.specs.Script.{State, ReplyNow, judged_asking}
 use Rattle.script_format.specs.AskedStep.{IsAsked}
 
 -- the step in it, or another
@@ -30,13 +30,6 @@ pub refusal_of_asked : (text : String Global) (reading : Result Call Text) → I
     → reading ≡ Err (string_bytes text)
 refusal_of_asked text (Ok c) asked = absurd (true≢false (ap is_ok (sym asked)))
 refusal_of_asked text (Err told) asked = ap (λ r. Err (text_in told r)) (sym asked)
-
--- the line comes to that step of its session
-pub asked_is_judged : (state : State) (session : Text) (s : Step) (reading : Result Call Text) → IsAsked (Ok s) reading
-    → judged_asking state session reading ≡ judged_step state session (step_of s)
-asked_is_judged state session s reading asked =
-    let (c, (is_read, makes)) = call_of_asked s reading asked in
-    ap (judged_asking state session) is_read ∙ ap (judged_step state session) (sym makes)
 
 -- or to that reply
 pub refusal_is_judged : (state : State) (session : Text) (text : String Global) (reading : Result Call Text) → IsAsked (Err text) reading

@@ -1,9 +1,6 @@
 -- Where the report of a load stands in its line.
 use Rattle.std.proofs.Common.{◌≡◌, ◌∙◌, ap, sym, subst, refl, true, false, cond, Option, Some, None}
-use Rattle.std.proofs.Common.{is_some, unwrap_or, ◌||◌, Result, Ok, Err, IfOk, String}
-use Rattle.std.proofs.Common.{string_bytes}
-use Rattle.std.specs.declared.alloc.Global.{Global}
-use Rattle.std.specs.declared.alloc.AllocError.{AllocError}
+use Rattle.std.proofs.Common.{is_some, unwrap_or, ◌||◌}
 use Rattle.serde_json.specs.Data.{Data}
 use Rattle.serde_json.specs.Find.{at, as_str, as_object}
 use Rattle.std.specs.Option.{option_map_or}
@@ -62,11 +59,3 @@ load_told state after d r report key name text is named part told =
     ap (λ o. answered state (option_map_or (judged_line state) o (ReplyNow bad_line_text))) (sym is)
     ∙ (λ i. answered state (judged_load state (sym named i) (report_in state.table (same i))))
     ∙ told
-
--- the answer to a load of the third part is that to the line
-pub load_answered : (result : Result (String Global) AllocError) (state after : State) (d r report : Data) (key name : Text)
-    → Some (Load key r) ≡ line_of d → name ≡ key → Some report ≡ at 2 d
-    → IfOk result (λ text. answered state (judged_load state name (report_in state.table report)) ≡ (string_bytes text, after))
-    → IfOk result (λ text. value_answer state (Some d) ≡ (string_bytes text, after))
-load_answered (Ok text) state after d r report key name is named part told = load_told state after d r report key name (string_bytes text) is named part told
-load_answered (Err e) state after d r report key name is named part told = told

@@ -4,24 +4,15 @@ use Rattle.std.specs.Result.{result_map_both}
 use Rattle.filing_model.specs.Common.Text.{Text}
 use Rattle.filing_model.specs.Oim.Dimensions as dimensions
 use Rattle.filing_model.specs.Oim.Facts.{RawFact}
-use Rattle.filing_model.specs.Oim.Reports.{Report}
 use Rattle.filing_model.specs.Sessions.Calls as call
 use Rattle.filing_model.specs.Sessions.Calls.{Call}
 use Rattle.filing_model.specs.Common.Faults.{fact_trouble}
-use Rattle.filing_model.specs.Reading.ReadReport.{ReportFault}
 use Rattle.filing_model.specs.Common.Try.{Fails}
 use Rattle.filing_model.specs.declared.faults.DimFault.TheVariants as dim
 use Rattle.filing_model.specs.declared.faults.Trouble.{Trouble}
 use Rattle.filing_model.specs.declared.faults.Trouble.TheVariants.{WrongShape, NotWhole, Dims, Fit, NoMemory}
-use Rattle.script_format.specs.ReplyText.{bad_fact_text, bad_report_text, told_fault}
-use Rattle.script_format.specs.Script.{State, answered, bad_dims_text, judged_load}
-
--- the reply to a fault of a reading is the answer to a load of what is read
-pub load_is_refused : (fault : Option ReportFault) (reading : Result Report ReportFault) (state : State) (name text : Text)
-    → Fails fault reading → Some text ≡ option_map bad_report_text fault → answered state (judged_load state name reading) ≡ (text, state)
-load_is_refused None reading state name text fails told = absurd (true≢false (ap is_some told))
-load_is_refused (Some fault) reading state name text fails told =
-    ap (λ r. answered state (judged_load state name r)) fails ∙ (λ i. (unwrap_or (sym told i) text, state))
+use Rattle.script_format.specs.ReplyText.{bad_fact_text, told_fault}
+use Rattle.script_format.specs.Script.{bad_dims_text}
 
 -- what a reading is told as, by these words
 abbrev told_as : {A : Type 0} → (A → Call) → (Trouble → Text) → Result A Trouble → Result Call Text

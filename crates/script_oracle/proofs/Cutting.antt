@@ -15,9 +15,6 @@ pub record IsCutSo (before : List Text) (begun left script : Text) : Type 0 wher
   pub whole : before ++ whole_from begun left ≡ whole_from [] script
   pub rest : rest_from begun left ≡ rest_from [] script
 
-pub not_begun : (script : Text) → IsCutSo [] [] script script
-not_begun script = record { whole = refl; rest = refl }
-
 whole_at_feed : (begun : Text) (b : ℕ) (rest : Text) → is_line_feed b ≡ true → whole_from begun (b ∷ rest) ≡ begun ∷ whole_from [] rest
 unfolding whole_from
 whole_at_feed begun b rest is = ap (λ c. cond c (begun ∷ whole_from [] rest) (whole_from (begun ++ b ∷ []) rest)) is

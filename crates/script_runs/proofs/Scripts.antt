@@ -11,9 +11,8 @@ use Rattle.line_io.specs.Devices.{SourceState, SinkState, Took}
 use Rattle.line_io.specs.Lines.{lines_of, spoken, lines_text}
 use Rattle.line_io.specs.Run.{Runs}
 use Rattle.script_format.specs.Script.{State, line_answer, script_output, script_history}
-use Rattle.filing_core.specs.States.{CoreState}
 use Rattle.script_runs.specs.Resumed.{GoesOn, IsStoppedOn, history_on, output_on, resumed}
-use Rattle.script_runs.specs.ScriptRun.{IsReply, IsScriptEnded, IsScriptStopped, ScriptRunsWithin, TakerRuns}
+use Rattle.script_runs.specs.ScriptRun.{IsReply, IsScriptStopped, TakerRuns}
 use Rattle.script_runs.specs.StepsTaken.{AnswersLine, carried}
 use Rattle.script_runs.specs.declared.script_machine.ScriptMachine.{ScriptMachine}
 use Rattle.script_runs.proofs.CarriedRuns.{answers_carried, stops_carried}
@@ -88,11 +87,3 @@ module _ {T S : Type 0} (has_taken : T → History → Type 0) (state : S → So
   pub script_cut : (fault : ScriptFault) → IsStoppedOn state reads table [] source source' sink sink' fault
       → IsScriptStopped state reads table source source' sink sink' fault
   script_cut fault stopped = record { after = stopped.after; runs = stopped.runs }
-
--- a core has taken its history
-pub core_runs : {S : Type 0} (state : S → SourceState) (reads : ℕ) (table : Table) (result : Result CoreState ScriptFault) (source source' : S) (sink sink' : SinkState)
-    → TakerRuns (λ core h. core.history ≡ h) state reads table result source source' sink sink'
-    → ScriptRunsWithin state reads table result source source' sink sink'
-core_runs state reads table (Ok core) source source' sink sink' (h, (ended, is)) =
-    subst (λ h. IsScriptEnded table (state source) (state source') sink sink' h) (sym is) ended
-core_runs state reads table (Err fault) source source' sink sink' p = p

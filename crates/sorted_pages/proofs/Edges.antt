@@ -1,6 +1,6 @@
 -- The place where a test stops to hold.
 use Rattle.std.proofs.Common.{◌≡◌, ◌∙◌, ap, sym, subst, refl, ℕ, ◌+◌, ◌<◌, arith, Bool, true, false, not, cond, ◌&&◌, ◌||◌, ◌-◌, T, suc, List, [], ◌∷◌, ◌++◌, take, drop, length, get_or}
-use Rattle.std.proofs.lemmas.List.{take_more, drop_more, drop_all}
+use Rattle.std.proofs.lemmas.List.{take_more}
 use Rattle.sorted_pages.specs.Edges.{answer_of, ends_with, begins_with, first_passes, last_passes, is_before_edge}
 
 pub ends_with-push : {X : Type 0} (p : X → Bool) (xs : List X) (x : X) → ends_with p (xs ++ x ∷ []) ≡ p x
@@ -23,12 +23,6 @@ refused b p q h e = subst (λ c. T (cond c p q)) e h
 pub passed_more : {X : Type 0} (p : X → Bool) (xs : List X) (i : ℕ) (x : X) → i < length xs → x ≡ get_or xs i x → T (p x) → T (ends_with p (take (i + 1) xs))
 passed_more p xs i x h read e =
     subst T (sym (ap (ends_with p) (take_more xs i x h) ∙ ends_with-push p (take i xs) (get_or xs i x) ∙ ap p (sym read))) e
-
-pub failed_from : {X : Type 0} (p : X → Bool) (xs : List X) (i : ℕ) (x : X) → i < length xs → x ≡ get_or xs i x → T (p x) → T (begins_with p (drop i xs))
-failed_from p xs i x h read e = subst T (sym (ap (begins_with p) (drop_more xs i x h) ∙ ap p (sym read))) e
-
-pub failed_at_end : {X : Type 0} (p : X → Bool) (xs : List X) → T (begins_with p (drop (length xs) xs))
-failed_at_end p xs = subst (λ ys. T (begins_with p ys)) (sym (drop_all (length xs) xs (omega arith))) tt
 
 pub both : (a b : Bool) → T a → T b → T (a && b)
 both true b g h = h

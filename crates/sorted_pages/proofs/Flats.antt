@@ -1,6 +1,5 @@
 -- The items of a level one after another.
-use Rattle.std.proofs.Common.{◌≡◌, ◌∙◌, ap, sym, refl, List, [], ◌∷◌, ◌++◌, append_assoc, append-nil, length, take, get_or, arith, ◌<◌, ℕ, ◌+◌}
-use Rattle.std.proofs.lemmas.List.{take_more}
+use Rattle.std.proofs.Common.{◌≡◌, ◌∙◌, ap, sym, refl, List, [], ◌∷◌, ◌++◌, append_assoc, append-nil, length, arith, ◌<◌, ◌+◌}
 use Rattle.std.specs.declared.sync.Arc.{Arc}
 use Rattle.std.specs.List.{flat_map}
 use Rattle.sorted_pages.specs.Pages.{single, held, IsFirstBlock}
@@ -27,15 +26,6 @@ pub parted : {X E Z : Type 0} (v : X → List E) (left before from rest : List (
     → IsFirstBlock from items rest → flat_map (held v) left ≡ flat_map (held v) before ++ (flat_map v items ++ flat_map (held v) rest)
 parted v left before from rest items e f =
     ap (flat_map (held v)) e ∙ flat_map-append (held v) before from ∙ ap (λ es. flat_map (held v) before ++ es) (first_block v from rest items f)
-
--- one more item is shared
-pub shared_more : {X E : Type 0} (v : X → List E) (items : List X) (i : ℕ) (x y : X) (start done new : List E)
-    → done ≡ start ++ flat_map v (take i items) → i < length items → x ≡ get_or items i x → y ≡ x → new ≡ done ++ v y
-    → new ≡ start ++ flat_map v (take (i + 1) items)
-shared_more v items i x y start done new d h read e n =
-    n ∙ (λ j. d j ++ v (e j)) ∙ append_assoc start (flat_map v (take i items)) (v x)
-    ∙ ap (λ es. start ++ es) (sym (flat_map-push v (take i items) x)
-    ∙ sym (ap (flat_map v) (take_more items i x h ∙ ap (λ z. take i items ++ z ∷ []) (sym read))))
 
 pub no_items : {X : Type 0} (xs : List X) → length xs ≡ 0 → xs ≡ []
 no_items [] h = refl

@@ -9,8 +9,3 @@ cuts_one v above new block rest after item n e =
     ap (λ es. es ++ flat_map v after) n ∙ append_assoc above (flat_map v block) (flat_map v after)
     ∙ ap (λ es. above ++ es) (sym (flat_map-append v block after) ∙ ap (flat_map v) e ∙ flat_map-push v rest item)
     ∙ sym (append_assoc above (flat_map v rest) (v item))
-
-pub cuts_none : {X E : Type 0} (v : X → List E) (above : List E) (rest after : List X) (item : X)
-    → after ≡ rest ++ item ∷ [] → above ++ flat_map v after ≡ (above ++ flat_map v rest) ++ v item
-cuts_none v above rest after item e =
-    ap (λ es. above ++ es) (ap (flat_map v) e ∙ flat_map-push v rest item) ∙ sym (append_assoc above (flat_map v rest) (v item))

@@ -164,7 +164,7 @@ impl<E: PageEntry, T: Level<E>> Level<E> for Arc<Block<T>> {
     ghost last_keys = { λ block key told. block_ends T.entries T.last_key E.key T.last_keys (arc_value block) key told };
 
     fn most() -> usize {
-        32
+        16
     }
 
     fn first(&self) -> &E {

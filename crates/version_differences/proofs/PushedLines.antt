@@ -10,11 +10,6 @@ use Rattle.version_differences.specs.LineText.{line_text, lines_text}
 pub text_joined : (xs ys : List Line) → lines_text (xs ++ ys) ≡ lines_text xs ++ lines_text ys
 text_joined xs ys = flat_map-append line_text xs ys
 
--- some more are written
-pub written_more : (out out' whole : Text) (xs ys : List Line) → out' ≡ out ++ lines_text xs → out ++ lines_text (xs ++ ys) ≡ whole → out' ++ lines_text ys ≡ whole
-written_more out out' whole xs ys is so_far =
-    ap (λ t. t ++ lines_text ys) is ∙ append_assoc out (lines_text xs) (lines_text ys) ∙ ap (λ t. out ++ t) (sym (text_joined xs ys)) ∙ so_far
-
 -- one after another
 pub written_both : (start out out' : Text) (xs ys : List Line) → out ≡ start ++ lines_text xs → out' ≡ out ++ lines_text ys → out' ≡ start ++ lines_text (xs ++ ys)
 written_both start out out' xs ys first then =

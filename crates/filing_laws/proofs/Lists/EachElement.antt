@@ -1,5 +1,5 @@
 -- What holds of each element of a list, and of what an option holds.
-use Rattle.std.proofs.Common.{◌≡◌, refl, Bool, false, ◌||◌, List, [], ◌∷◌, ◌++◌, Option, Some, None, flat_map}
+use Rattle.std.proofs.Common.{◌≡◌, refl, Bool, false, List, [], ◌∷◌, Option, Some, None}
 use Rattle.std.proofs.lemmas.Bool.{or_parts}
 use Rattle.std.specs.List.{list_any, cons_option}
 
@@ -30,17 +30,3 @@ IsNever test xs = list_any test xs ≡ false
 
 pub never_parts : {A : Type 0} (test : A → Bool) (x : A) (xs : List A) → IsNever test (x ∷ xs) → (test x ≡ false) × IsNever test xs
 never_parts test x xs h = or_parts (test x) (list_any test xs) h
-
-pub never_appended : {A : Type 0} (test : A → Bool) (xs ys : List A) → IsNever test (xs ++ ys) → IsNever test xs × IsNever test ys
-never_appended test [] ys h = (refl, h)
-never_appended test (x ∷ xs) ys h =
-    let parts = never_parts test x (xs ++ ys) h in
-    let more = never_appended test xs ys parts.1 in
-    ((λ i. parts.0 i || more.0 i), more.1)
-
--- nor of what is made of each element
-pub never_flat : {A B : Type 0} (test : B → Bool) (f : A → List B) (xs : List A) → IsNever test (flat_map f xs) → Each (λ x. IsNever test (f x)) xs
-never_flat test f [] h = tt
-never_flat test f (x ∷ xs) h =
-    let parts = never_appended test (f x) (flat_map f xs) h in
-    (parts.0, never_flat test f xs parts.1)

@@ -18,10 +18,6 @@ pub solo_replies_more : (kind : Kind) (c : Repository) (calls : List Call) (call
 solo_replies_more kind c [] call = refl
 solo_replies_more kind c (first ∷ calls) call = ap (λ rs. (answer kind first c).0 ∷ rs) (solo_replies_more kind (answer kind first c).1 calls call)
 
-pub solo_copy_more : (kind : Kind) (c : Repository) (calls : List Call) (call : Call) → solo_copy kind c (calls ++ call ∷ []) ≡ (answer kind call (solo_copy kind c calls)).1
-solo_copy_more kind c [] call = refl
-solo_copy_more kind c (first ∷ calls) call = solo_copy_more kind (answer kind first c).1 calls call
-
 abbrev pub IsSoloAt : (kind : Kind) → Repository → ℕ → History → Type 0
 IsSoloAt kind c s h = replies_of s h ≡ solo_replies kind c (calls_of s h)
 

@@ -1,12 +1,11 @@
 -- The least of some dimensions, whatever their order.
 use Rattle.std.proofs.Common.{◌≡◌, ◌∙◌, ap, sym, refl, Bool, true, false, cond, ◌&&◌, ◌||◌, List, [], ◌∷◌, filter}
-use Rattle.std.proofs.Common.{fold, Some, Ordering, Less, Equal, Greater, is_lt, true≢false, IsPermutation, T}
+use Rattle.std.proofs.Common.{fold, Some, Ordering, Less, Equal, Greater, is_lt, true≢false, T}
 use Rattle.std.proofs.Common.{subst}
 use Rattle.std.specs.List.{list_any}
 use Rattle.std.specs.Ordering.{ord_min, ordering_reverse}
 use Rattle.std.proofs.lemmas.Bool.{or_parts, or_right}
 use Rattle.std.proofs.lemmas.Cmp.{tied_itself}
-use Rattle.std.proofs.lemmas.List.Sorted.{list_any-IsPermutation}
 use Rattle.filing_model.specs.Oim.Dimensions.{Dims, dims_cmp, dims_eq}
 use Rattle.filing_model.specs.Oim.Duplicates.{lesser_dims, least_dims}
 use Rattle.filing_model.proofs.Oim.DimensionSets.{dims_cmp-total, dims_cmp-Equal, dims_decides, dims_eq-refl}
@@ -117,8 +116,3 @@ any_kept test kept (d ∷ ds) = elim (kept d) as
       | true ↦ ap (λ b. test d || b) (any_kept test kept ds)
       | false ↦ any_kept test kept ds
     ]
-
-pub least_kept-IsPermutation : (kept : Dims → Bool) (ds es : List Dims) → IsPermutation ds es → least_dims (filter kept ds) ≡ least_dims (filter kept es)
-least_kept-IsPermutation kept ds es moved =
-    same_least (filter kept ds) (filter kept es)
-    (λ test. any_kept test kept ds ∙ list_any-IsPermutation (λ d. kept d && test d) ds es moved ∙ sym (any_kept test kept es))
