@@ -1,3 +1,4 @@
+pub mod HashKeys
 pub mod States
 pub mod ReadThings
 pub mod Effects
