@@ -2,7 +2,7 @@
 
 use crate::devices::{Done, Ended, Trial, Work, do_work};
 use anyhow::Result;
-use filing_core::Engine;
+use filing_core::{Engine, HashKeys};
 use journal::{Journal, MemoryFile, open, read_lines};
 use line_io::{ScriptFault, Sink, Source};
 use oim_fact::NumericTable;
@@ -30,7 +30,7 @@ pub(crate) fn engine_of(
     table: &Arc<NumericTable>,
     lines: &[u8],
 ) -> Result<Option<Engine>, AllocError> {
-    match engine_of_history(alloc, lines, table) {
+    match engine_of_history(alloc, HashKeys::Fixed, lines, table) {
         Ok(engine) => Ok(Some(engine)),
         Err(OpenHistoryFault::Departs(_)) => Ok(None),
         Err(OpenHistoryFault::NoMemory) => Err(AllocError),

@@ -7,9 +7,10 @@ ghost use Rattle.filing_publish.specs.Lists.{EndsWith};
 
 use crate::sample::{report, text};
 use anyhow::{Result, anyhow};
-use filing_core::{Core, Step};
+use filing_core::{Core, HashKeys, Step};
 use filing_office::{Answer, Blanks, Desk, FinishFault, Naming, Office, Receipt, Review, Reviewer};
 use std::alloc::AllocError;
+use std::random::RandomSource;
 use std::sync::ledger::Ledger;
 use std::sync::{Arc, Wait};
 
@@ -85,8 +86,8 @@ fn work<L: Ledger + Naming, M: Ledger, R: Wait + AllocGlobal>(
     }
 }
 
-/// Runs an office of two desks and a reviewer to its end. The review goes on.
-pub fn run_office<L: Ledger + Naming, M: Ledger, R: Wait + AllocGlobal>(
+/// Runs an office of two desks and a reviewer to its end. The review goes on. Its keys are drawn, so that nobody can make the office slow by the names of facts.
+pub fn run_office<L: Ledger + Naming, M: Ledger, R: Wait + RandomSource + AllocGlobal>(
     rt: &R,
     blanks: Blanks,
 ) -> Result<(Core, Review)>
@@ -96,7 +97,8 @@ pub fn run_office<L: Ledger + Naming, M: Ledger, R: Wait + AllocGlobal>(
         × (blanks.receipts.parts ≡ 2) }
     ensures { IfOk result (λ left. IsSerial left.0.history) }
 {
-    let (office, desks, reviewers) = Office::<L, M>::open(rt, rt.alloc(), 2, 1, blanks)?;
+    let keys = HashKeys::draw(rt)?;
+    let (office, desks, reviewers) = Office::<L, M>::open(rt, rt.alloc(), keys, 2, 1, blanks)?;
     let (mut desks, mut reviewers) = (desks, reviewers);
     match work(rt, &office, &mut desks, &mut reviewers) {
         Ok(review) => Ok((end(rt, office, desks)?, review)),

@@ -35,6 +35,7 @@ pub use check::check_run;
 pub use engine::Engine;
 pub use engine_fault::EngineFault;
 pub use fault::CoreFault;
+pub use filing_session::HashKeys;
 pub use filing_step::{Entry, Kind, Reply, Step};
 pub use kept_core::Core;
 pub use prepared::Prepared;

@@ -5,7 +5,7 @@ ghost use Rattle.std.specs.Prelude.{◌≡◌, ◌<◌, ◌≤◌, [], IfOk};
 use crate::blanks::Blanks;
 use crate::fault::FinishFault;
 use crate::office::Office;
-use filing_core::Core;
+use filing_core::{Core, HashKeys};
 use filing_publish::{Naming, OfficeFault};
 use std::alloc::Global;
 use std::sync::Wait;
@@ -28,7 +28,14 @@ pub fn opened_and_finished<L: Ledger + Naming, M: Ledger, R: Wait>(
         × (blanks.receipts.parts ≡ desks) }
     ensures { IfOk result (λ c. c.history ≡ []) }
 {
-    let (office, desks, reviewers) = Office::<L, M>::open(rt, alloc, desks, reviewers, blanks)?;
+    let (office, desks, reviewers) = Office::<L, M>::open(
+        rt,
+        alloc,
+        HashKeys::Fixed,
+        desks,
+        reviewers,
+        blanks,
+    )?;
     drop(reviewers);
     match office.finish(rt, desks) {
         Ok(core) => Ok(core),

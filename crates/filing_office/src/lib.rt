@@ -45,7 +45,7 @@ pub use blanks::Blanks;
 pub use desk::Desk;
 pub use desk_task::{DeskTask, TaskAtDesk, TaskResult, run_tasks};
 pub use fault::{FinishFault, RunFault};
-pub use filing_core::{Core, CoreFault};
+pub use filing_core::{Core, CoreFault, HashKeys};
 pub use filing_publish::{Naming, OfficeFault, Receipt, Review, Reviewer, UnopenedLog};
 pub use law::opened_and_finished;
 pub use named_desk::NamedDesk;

@@ -11,7 +11,7 @@ use crate::fault::FinishFault;
 use crate::locked::Locked;
 use crate::roster::Roster;
 use crate::shared::Shared;
-use filing_core::Core;
+use filing_core::{Core, HashKeys};
 use filing_publish::{Naming, OfficeFault, Reviewer};
 use std::alloc::{AllocError, Global};
 use std::sync::ledger::{Ledger, Share};
@@ -32,6 +32,7 @@ impl<L: Ledger + Naming, M: Ledger> Office<L, M> {
     pub fn open<R: Wait>(
         rt: &R,
         alloc: Global,
+        keys: HashKeys,
         desks: usize,
         reviewers: usize,
         blanks: Blanks,
@@ -53,7 +54,7 @@ impl<L: Ledger + Naming, M: Ledger> Office<L, M> {
         let (steps, mut all_steps) = steps.open::<L>();
         let (receipts, mut all_receipts) = receipts.open::<M>();
         let shares = hand_out(alloc, desks, &mut all_steps, &mut all_receipts)?;
-        let (shared, reviewers) = Shared::open(rt, alloc, unopened_log, reviewers)?;
+        let (shared, reviewers) = Shared::open(rt, alloc, keys, unopened_log, reviewers)?;
         let locked = Locked::new(shared, steps, receipts, all_steps, all_receipts);
         let office = Office {
             locked: Mutex::new(locked),

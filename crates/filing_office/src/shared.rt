@@ -10,7 +10,7 @@ ghost use Rattle.filing_step.specs.Steps.{step_of};
 ghost use Rattle.filing_office.specs.Answers.{ApplyAnswers};
 
 use crate::answer::Answer;
-use filing_core::{Core, CoreFault, Prepared, Step};
+use filing_core::{Core, CoreFault, HashKeys, Prepared, Step};
 use filing_publish::{
     Naming, OfficeFault, PendingPublish, Publisher, Receipt, Reviewer, UnopenedLog,
 };
@@ -80,6 +80,7 @@ impl<J: Naming> Shared<J> {
     pub fn open<R: Wait>(
         rt: &R,
         alloc: Global,
+        keys: HashKeys,
         unopened_log: UnopenedLog,
         reviewers: usize,
     ) -> Result<(Shared<J>, Vec<Reviewer<J>>), OfficeFault>
@@ -89,7 +90,7 @@ impl<J: Naming> Shared<J> {
         ensures reviewers { IfOk result (λ o. vec_len o.1 ≡ reviewers) }
         ensures seen { IfOk result (λ o. All (λ r. r ≡ nothing ∷ []) o.1.items) }
     {
-        let core = Core::new(alloc)?;
+        let core = Core::with_keys(alloc, keys)?;
         match Publisher::open(rt, alloc, unopened_log, reviewers) {
             Ok((publisher, reviewers)) => Ok((Shared { core, publisher }, reviewers)),
             Err(fault) => {

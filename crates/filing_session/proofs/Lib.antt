@@ -2,7 +2,7 @@
 pub mod CallEffects
 pub mod PagesSoFar
 pub mod PutsStaged
-pub mod EnteredThings
+pub mod ThingsEntered
 pub mod PendingChanges
 -- ---- whole runs
 pub mod RunStates

@@ -3,8 +3,7 @@
 //! - `session`: an open session.
 //! - `staging`: what a session has staged.
 //! - `ready`: what is made ready of a call before anything changes.
-//! - `read_things`: what a session has read.
-//! - `thing_index`: how one of many things is found.
+//! - `hash_keys`: the keys of the hashes by which it finds what it has read.
 //! - `reads`: the calls that only read, but for pages.
 //! - `pages`: the calls that read a page.
 //! - `writes`: the calls that stage.
@@ -16,19 +15,19 @@
 //! It knows nothing of histories, of other sessions, or of how a commit is decided.
 #![tactic(auto)]
 
+mod hash_keys;
 mod pages;
-mod read_things;
 mod reads;
 mod ready;
 mod reviewed;
 mod runs;
 mod session;
 mod staging;
-mod thing_index;
 mod writes;
 
 pub use filing_model::Kind;
 pub use filing_step::{Call, Limit, PageQuery, PeriodFilter, Reply, Thing};
+pub use hash_keys::HashKeys;
 pub use pages::period_of;
 pub use reads::texts_of;
 pub use ready::Ready;

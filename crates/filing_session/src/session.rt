@@ -1,6 +1,7 @@
 //! `Session`: what it reads and stages over the version of its opening.
-ghost use Rattle.std.specs.Prelude.{◌≡◌, map, true, option_map, string_bytes, IfOk, OnOk};
+ghost use Rattle.std.specs.Prelude.{◌≡◌, ◌<◌, map, true, option_map, string_bytes, IfOk, OnOk};
 ghost use Rattle.std.specs.Arc.{arc_value};
+ghost use Rattle.indexmap.specs.IndexSet.{spare};
 ghost use Rattle.std.specs.Option.{option_map_or};
 ghost use Rattle.filing_model.specs.Sessions.Calls as call;
 ghost use Rattle.filing_model.specs.Sessions.Calls.{report_of_call};
@@ -14,13 +15,14 @@ ghost use Rattle.filing_session.specs.Effects.{effect_in, effect_on, effect_of, 
 ghost use Rattle.filing_session.specs.OpenSession.{Answers};
 ghost use Rattle.filing_model.specs.Sessions.Sessions.{may_make};
 
-use crate::read_things::ReadThings;
+use crate::hash_keys::HashKeys;
 use crate::ready::Ready;
 use crate::staging::Staging;
 use crate::{pages, reads, writes};
 use filing_model::Kind;
 use filing_step::{Call, Limit, PageQuery, PeriodFilter, Reply, Thing};
 use filing_version::{Change, KeyCache, RepoVersion};
+use indexmap::IndexSet;
 use oim_fact::{Allowed, DimSet, RawFact};
 use std::alloc::{AllocError, Global};
 use std::marker::Model;
@@ -32,7 +34,7 @@ use std::sync::Arc;
 struct Work {
     staging: Staging,
     key_cache: KeyCache,
-    reads: ReadThings,
+    reads: IndexSet<Thing, HashKeys>,
 }
 
 /// An open session. Contracts see its state as its calls leave it, and whether there is room for one more thing read.
@@ -50,7 +52,10 @@ impl Model for Session {
 
     ghost Value = { OpenSession };
 
+    ghost use Rattle.std.specs.Prelude.{map, nat_lt};
     ghost use Rattle.std.specs.Arc.{arc_value};
+    ghost use Rattle.indexmap.specs.IndexSet.{spare};
+    ghost use Rattle.filing_step.specs.Steps.{thing_of};
     ghost use Rattle.filing_version.specs.Filed.{repository_in};
 
     ghost view = { λ s. record {
@@ -59,9 +64,9 @@ impl Model for Session {
         base = repository_in (arc_value s.base);
         copy = s.work.value.staging.0;
         change = s.work.value.staging.1;
-        reads = s.work.value.reads.things;
+        reads = map thing_of s.work.value.reads.keys;
       };
-      has_room = s.work.value.reads.has_room;
+      has_room = nat_lt 0 (spare s.work.value.reads);
     } };
 }
 
@@ -128,12 +133,15 @@ pub(crate) fn effect(
 }
 
 /// Enters a thing that was read behind the others, unless it is among them. There is room for it.
-fn enter(reads: &mut ReadThings, thing: Option<Thing>)
-    requires { reads.old.has_room ≡ true }
-    ensures { reads.new.things ≡ with_thing reads.old.things (option_map thing_of thing) }
+fn enter(reads: &mut IndexSet<Thing, HashKeys>, thing: Option<Thing>)
+    requires { 0 < spare reads.old }
+    ensures { map thing_of reads.new.keys ≡ with_thing (map thing_of reads.old.keys) (option_map thing_of thing) }
 {
     if let Some(thing) = thing {
-        reads.add(thing);
+        match reads.insert(thing) {
+            Ok(_) => {}
+            Err(_) => unreachable!(),
+        }
     }
 }
 
@@ -152,11 +160,23 @@ impl Session {
     pub fn open(alloc: Global, kind: Kind, base: Arc<RepoVersion>) -> Result<Session, AllocError>
         ensures { IfOk result (λ s. s.state ≡ opened kind (repository_in (arc_value base))) }
     {
+        Session::open_with_keys(alloc, HashKeys::Fixed, kind, base)
+    }
+
+    /// A session at this version, which hashes what it reads by these keys.
+    pub fn open_with_keys(
+        alloc: Global,
+        keys: HashKeys,
+        kind: Kind,
+        base: Arc<RepoVersion>,
+    ) -> Result<Session, AllocError>
+        ensures { IfOk result (λ s. s.state ≡ opened kind (repository_in (arc_value base))) }
+    {
         let version = Arc::try_clone(&base)?;
         let work = Work {
             staging: Staging::new(alloc, version),
             key_cache: KeyCache::new(alloc),
-            reads: ReadThings::new(alloc),
+            reads: IndexSet::with_hasher(alloc, keys),
         };
         Ok(Session {
             alloc,
@@ -180,10 +200,10 @@ impl Session {
     }
 
     /// The things that it has read, in the order in which it first read each.
-    pub fn reads(&self) -> &[Thing]
-        ensures { map thing_of result.now ≡ self.now.state.reads }
+    pub fn reads(&self) -> &IndexSet<Thing, HashKeys>
+        ensures { map thing_of result.now.keys ≡ self.now.state.reads }
     {
-        self.work.reads.list()
+        &self.work.reads
     }
 
     /// What it has staged.
@@ -200,7 +220,7 @@ impl Session {
         ensures state { self.new.state ≡ self.old.state }
     {
         let work: &mut Work = &mut self.work;
-        work.reads.make_room()?;
+        work.reads.reserve(1)?;
         apply_pending_for(self.alloc, &mut work.staging, &call)?;
         effect(
             self.alloc,

@@ -9,6 +9,7 @@ use crate::fault::ThreadsFault;
 use crate::on_history::run_on_history;
 use crate::watch::Watch;
 use crate::written::write_replies;
+use filing_core::HashKeys;
 use filing_office::{Core, OfficeFault};
 use filing_step::Entry;
 use line_io::Sink;
@@ -30,6 +31,7 @@ pub struct ThreadsOnHistory {
 pub fn run_threads_on_history<W: Sink, R: Threads + Wait + Sync, V: Watch>(
     rt: &R,
     alloc: Global,
+    keys: HashKeys,
     scripts: &[Vec<u8>],
     first: &[Entry],
     output: &mut W,
@@ -42,7 +44,7 @@ pub fn run_threads_on_history<W: Sink, R: Threads + Wait + Sync, V: Watch>(
     ensures { ThreadsWriteOn Brand (arc_value table.now) scripts.now (reverse first.now)
         (option_map (λ c. c.history) result.core) result.ended (W.state output.old) (W.state output.new) }
 {
-    match run_on_history(rt, alloc, watch, scripts, table, first) {
+    match run_on_history(rt, alloc, keys, watch, scripts, table, first) {
         Ok((core, all_replies)) => ThreadsOnHistory {
             ended: write_replies(all_replies, output),
             core: Some(core),

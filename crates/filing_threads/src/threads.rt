@@ -8,6 +8,7 @@ use crate::fault::ThreadsFault;
 use crate::office::run_at_office;
 use crate::watch::{Unwatched, Watch};
 use crate::written::write_replies;
+use filing_core::HashKeys;
 use filing_office::{OfficeFault, UnopenedLog};
 use line_io::Sink;
 use oim_fact::NumericTable;
@@ -21,6 +22,7 @@ use std::thread::Threads;
 pub fn run_threads_watched<W: Sink, R: Threads + Wait + Sync, V: Watch>(
     rt: &R,
     alloc: Global,
+    keys: HashKeys,
     scripts: &[Vec<u8>],
     output: &mut W,
     table: &Arc<NumericTable>,
@@ -34,6 +36,7 @@ pub fn run_threads_watched<W: Sink, R: Threads + Wait + Sync, V: Watch>(
     match run_at_office::<Brand, Brand, R, V>(
         rt,
         alloc,
+        keys,
         watch,
         scripts,
         table,
@@ -59,5 +62,13 @@ pub fn run_threads<W: Sink, R: Threads + Wait + Sync>(
     requires few { length scripts.now ≤ 16 }
     ensures { ThreadsWrite Brand (arc_value table.now) scripts.now result (W.state output.old) (W.state output.new) }
 {
-    run_threads_watched(rt, alloc, scripts, output, table, &Unwatched)
+    run_threads_watched(
+        rt,
+        alloc,
+        HashKeys::Fixed,
+        scripts,
+        output,
+        table,
+        &Unwatched,
+    )
 }

@@ -16,7 +16,7 @@ use crate::placed::PlacedVersions;
 use crate::shown::Shown;
 use crate::sought::SoughtVersion;
 use crate::viewed::{ViewedHistory, view_history};
-use filing_core::{Engine, Verdict};
+use filing_core::{Engine, HashKeys, Verdict};
 use filing_version::RepoVersion;
 use line_io::{ScriptFault, Sink, Source, write_all};
 use oim_fact::NumericTable;
@@ -59,6 +59,7 @@ fn found_text(
 /// Reads a history as `version_of_history` does, and gives the lines that turn its version of one number into that of another: for all reports, or for the one of a name.
 pub fn difference_of_history<R: Source>(
     alloc: Global,
+    keys: HashKeys,
     input: &mut R,
     table: &Arc<NumericTable>,
     from: u64,
@@ -81,7 +82,7 @@ pub fn difference_of_history<R: Source>(
         verdict,
         engine,
         view,
-    } = view_history(alloc, input, table, sought)?;
+    } = view_history(alloc, keys, input, table, sought)?;
     let PlacedVersions { from, to, places } = view;
     let SoughtVersion { found: from, .. } = from;
     let SoughtVersion { found: to, .. } = to;

@@ -10,7 +10,7 @@ ghost use Rattle.history_views.specs.Versions.{version_asked, version_kept};
 
 use crate::sought::SoughtVersion;
 use crate::viewed::{ViewedHistory, view_history};
-use filing_core::{Engine, Verdict};
+use filing_core::{Engine, HashKeys, Verdict};
 use filing_version::RepoVersion;
 use line_io::{ScriptFault, Source};
 use oim_fact::NumericTable;
@@ -30,6 +30,7 @@ pub struct FoundVersion {
 /// Reads a history to its end, judges it as `judge_history` does, and gives its version of a number, counted from 0, or the last one where no number is given. No entry is kept.
 pub fn version_of_history<R: Source>(
     alloc: Global,
+    keys: HashKeys,
     input: &mut R,
     table: &Arc<NumericTable>,
     number: Option<u64>,
@@ -48,7 +49,7 @@ pub fn version_of_history<R: Source>(
         verdict,
         engine,
         view,
-    } = view_history(alloc, input, table, sought)?;
+    } = view_history(alloc, keys, input, table, sought)?;
     match view.into_version(&engine) {
         Ok(version) => Ok(FoundVersion {
             verdict,

@@ -6,7 +6,7 @@ ghost use Rattle.std.specs.Prelude.{◌≡◌, ◌≤◌, ◌<◌};
 
 use crate::rows::show_title;
 use anyhow::{Result, anyhow};
-use filing_core::Verdict;
+use filing_core::{HashKeys, Verdict};
 use history_views::{
     Shown, difference_of_history, listing_of_history, log_of_history, version_of_history,
 };
@@ -78,7 +78,15 @@ fn write_difference<R: Source, W: Sink>(
     versions: (u64, u64),
     report: Option<&str>,
 ) -> Result<(Verdict, Shown), ScriptFault> {
-    let found = difference_of_history(alloc, source, table, versions.0, versions.1, report)?;
+    let found = difference_of_history(
+        alloc,
+        HashKeys::Fixed,
+        source,
+        table,
+        versions.0,
+        versions.1,
+        report,
+    )?;
     let shown = found.write(sink);
     Ok((found.verdict, shown?))
 }
@@ -93,11 +101,11 @@ fn write_version<R: Source, W: Sink>(
     report: Option<&str>,
 ) -> Result<(Verdict, Shown), ScriptFault> {
     let Some(name) = report else {
-        let found = listing_of_history(alloc, source, table, number)?;
+        let found = listing_of_history(alloc, HashKeys::Fixed, source, table, number)?;
         let shown = found.write(sink);
         return Ok((found.verdict, shown?));
     };
-    let found = version_of_history(alloc, source, table, number)?;
+    let found = version_of_history(alloc, HashKeys::Fixed, source, table, number)?;
     let shown = found.write_report(alloc, sink, name);
     Ok((found.verdict, shown?))
 }
@@ -110,7 +118,7 @@ fn write_sessions<R: Source, W: Sink>(
     table: &Arc<NumericTable>,
     drawn: bool,
 ) -> Result<(Verdict, Shown), ScriptFault> {
-    let found = log_of_history(alloc, source, table)?;
+    let found = log_of_history(alloc, HashKeys::Fixed, source, table)?;
     let written = if drawn {
         found.write_picture(alloc, 1, sink)
     } else {

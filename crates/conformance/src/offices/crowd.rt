@@ -10,6 +10,7 @@ use crate::offices::places::made_of_each;
 use crate::offices::readers::Readers;
 use crate::offices::rounds::work_of;
 use anyhow::{Result, anyhow};
+use filing_core::HashKeys;
 use filing_office::{Blanks, Core, Desk, DeskStep, Naming, Office, Outcome, Ran, Work, run_desks};
 use std::alloc::{AllocError, Global};
 use std::marker::{Send, Sync};
@@ -235,7 +236,8 @@ pub(crate) fn take_rounds<
     requires receipts { (blanks.receipts.name ≡ M.name) × (blanks.receipts.parts ≡ M.parts)
         × (blanks.receipts.parts ≡ 4) }
 {
-    let (office, desks, reviewers) = Office::<L, M>::open(rt, rt.alloc(), 4, 1, blanks)?;
+    let keys = HashKeys::Fixed;
+    let (office, desks, reviewers) = Office::<L, M>::open(rt, rt.alloc(), keys, 4, 1, blanks)?;
     let mut readers = Readers::of(rt.alloc(), reviewers);
     let ended = match run_rounds(rt, &office, desks, way) {
         Ok(ran) => end_crowd(rt, office, ran, &mut readers),

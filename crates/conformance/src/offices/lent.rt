@@ -8,6 +8,7 @@ use crate::lines::push_line;
 use crate::offices::acts::step_at;
 use crate::offices::ends::core_text;
 use anyhow::Result;
+use filing_core::HashKeys;
 use filing_office::{Answer, CoreFault, Naming, Receipt, Shared, UnopenedLog, apply_in};
 use oim_report::json_value;
 use script_format::reply_text;
@@ -74,7 +75,13 @@ pub(crate) fn play_lent<J: Naming, R: Wait + AllocGlobal>(
 ) -> Result<Vec<u8>>
     requires { unopened_log.seen.book ≡ J.book }
 {
-    let (mut shared, reviewers) = Shared::<J>::open(rt, rt.alloc(), unopened_log, 1)?;
+    let (mut shared, reviewers) = Shared::<J>::open(
+        rt,
+        rt.alloc(),
+        HashKeys::Fixed,
+        unopened_log,
+        1,
+    )?;
     drop(reviewers);
     let mut all_told = Vec::new(rt.alloc());
     let acts = str::from_utf8(acts).unwrap_or("");

@@ -10,6 +10,7 @@ use crate::offices::ends::{Desks, end, give_up};
 use crate::offices::readers::Readers;
 use crate::question::{number_at, text_at};
 use anyhow::{Result, anyhow};
+use filing_core::HashKeys;
 use filing_office::{Blanks, Desk, Naming, Office};
 use filing_step::Step;
 use oim_report::json_value;
@@ -126,7 +127,8 @@ pub(crate) fn play<L: Ledger + Naming, M: Ledger, R: Wait + AllocGlobal>(
     requires receipts { (blanks.receipts.name ≡ M.name) × (blanks.receipts.parts ≡ M.parts)
         × (blanks.receipts.parts ≡ 2) }
 {
-    let (office, desks, reviewers) = Office::<L, M>::open(rt, rt.alloc(), 2, 2, blanks)?;
+    let keys = HashKeys::Fixed;
+    let (office, desks, reviewers) = Office::<L, M>::open(rt, rt.alloc(), keys, 2, 2, blanks)?;
     let mut readers = Readers::of(rt.alloc(), reviewers);
     let mut all_told = Vec::new(rt.alloc());
     let acts = str::from_utf8(acts).unwrap_or("");

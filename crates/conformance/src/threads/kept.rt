@@ -5,6 +5,7 @@ ghost use Rattle.std.specs.Prelude.{◌≡◌, ◌≤◌, ◌<◌, length};
 use crate::devices::{Done, Ended, Trial, Work, do_work};
 use crate::journals::Keeping;
 use anyhow::{Result, anyhow};
+use filing_core::HashKeys;
 use filing_threads::{JournaledThreads, Unwatched, run_threads_with_journal};
 use journal::{Journal, MemoryFile, open, read_lines};
 use line_io::MemoryOut;
@@ -68,11 +69,19 @@ fn kept_in_threads<K: Ledger, R: AllocGlobal + Threads + Wait + Sync>(
     let alloc = rt.alloc();
     let mut file = MemoryFile::new(alloc, bytes.clone()?);
     let lines = open(&mut file, bytes.clone()?)?;
-    let entries = entries_of_history(alloc, &lines, table)?;
+    let entries = entries_of_history(alloc, HashKeys::Fixed, &lines, table)?;
     let journal = Journal::new(file, lines.len());
     let mut sink: MemoryOut<K> = MemoryOut::new(alloc, ROOM, PIECE, blank)?;
     let JournaledThreads { ended, journal } = run_threads_with_journal(
-        rt, alloc, scripts, &entries, journal, &mut sink, table, &Unwatched,
+        rt,
+        alloc,
+        HashKeys::Fixed,
+        scripts,
+        &entries,
+        journal,
+        &mut sink,
+        table,
+        &Unwatched,
     );
     ended?;
     Ok((
