@@ -1,9 +1,9 @@
 """Shapes that read things of one hash.
 
-A session that has read many things enters them under hashes, by the toolchain's `FoldHasher`. The seed of that is fixed. It
-takes a text by blocks of 16 bytes, and a block whose first word is the state leaves 0, whatever its second word is. So texts
-that differ in such a word alone have one hash, and no search is needed: all but the first are then found by their order. By
-another hasher these are plain texts.
+A session finds what it has read by a hash whose keys the program draws, so that nobody can choose such things. These have one
+hash by the toolchain's `FoldHasher`, whose seed is fixed: it takes a text by blocks of 16 bytes, and a block whose first word is
+the state leaves 0, whatever its second word is. So texts that differ in such a word alone have one hash, and no search is
+needed. By another hasher these are plain texts; they tell whether a hash without keys comes back.
 """
 import itertools
 import json
