@@ -18,7 +18,7 @@ use std::sync::ledger::Blank;
 use std::sync::{Arc, Wait};
 use std::thread::Threads;
 
-/// As `run_threads`. The watch is called for each step that is taken, and is also given what is left at the end.
+/// As `run_threads`, with keys that hash things read. The watch is called for each step that is taken, and is also given what is left at the end.
 pub fn run_threads_watched<W: Sink, R: Threads + Wait + Sync, V: Watch>(
     rt: &R,
     alloc: Global,

@@ -27,7 +27,7 @@ pub struct FoundVersion {
     pub version: Option<Arc<RepoVersion>>,
 }
 
-/// Reads a history to its end, judges it as `judge_history` does, and gives its version of a number, counted from 0, or the last one where no number is given. No entry is kept.
+/// Reads a history to its end, judges it as `judge_history` does, with keys that hash things read, and gives its version of a number, counted from 0, or the last one where no number is given. No entry is kept.
 pub fn version_of_history<R: Source>(
     alloc: Global,
     keys: HashKeys,

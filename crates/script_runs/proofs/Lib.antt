@@ -9,6 +9,7 @@ pub mod Scripts
 pub mod ObservedRuns
 -- ---- histories
 pub mod PlainEntries
+pub mod TakenCalls
 pub mod JudgedByEngine
 pub mod JudgedLines
 pub mod HistoryRuns
