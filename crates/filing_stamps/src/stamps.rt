@@ -232,4 +232,21 @@ impl Stamps {
         let stamps = self.stamps.after(alloc, &changes)?;
         Ok(Stamps { stamps })
     }
+
+    /// The same, in place where no others hold what changes.
+    pub fn into_after(
+        self,
+        alloc: Global,
+        fact_changes: &[FactChange],
+        number: u64,
+    ) -> Result<Stamps, AllocError>
+        requires { (part : Part) → stamp_in self part ≤ number }
+        ensures { IfOk result (λ s. stamp_in s ≡ stamped_by fact_changes.now number (stamp_in self)) }
+    {
+        let left = left_by(alloc, fact_changes, number)?;
+        let changes = puts(alloc, left)?;
+        let Stamps { stamps: before } = self;
+        let stamps = before.into_after(alloc, &changes)?;
+        Ok(Stamps { stamps })
+    }
 }

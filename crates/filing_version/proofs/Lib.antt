@@ -1,3 +1,4 @@
 pub mod FiledReports
 pub mod StampedReports
+pub mod TakenReports
 pub mod LaidInTurn

@@ -103,6 +103,17 @@ mapped-insert m name r = same_map _ _ (λ q.
     by q true = refl
     by q false = refl
 
+-- with its change, in the place of the one before
+pub stamped_one : (number : ℕ) (m next : TextMap StampedReport) (part : Text × ReportChange) (old new : StampedReport)
+    → get m part.0 ≡ Some old → filed_of new ≡ changed_filed number part.1 (filed_of old) → next ≡ insert m part.0 new
+    → mapped filed_of next ≡ filed_after number (part ∷ []) (mapped filed_of m)
+stamped_one number m next part old new held made put =
+    let seen : get (mapped filed_of m) part.0 ≡ Some (filed_of old) = get-mapped filed_of m part.0 ∙ ap (option_map filed_of) held in
+    ap (mapped filed_of) put
+    ∙ mapped-insert m part.0 new
+    ∙ ap (insert (mapped filed_of m) part.0) made
+    ∙ sym (ap (λ o. option_map_or (λ (f : Filed). insert (mapped filed_of m) part.0 (changed_filed number part.1 f)) o (mapped filed_of m)) seen)
+
 -- ---- the reports of a change laid one after another
 
 -- what the rest of the changes makes of the reports so far is what all make of the first ones, and no stamp is greater than the number

@@ -1,8 +1,8 @@
 //! `RepoVersion`: one unchanging state of the repository.
-ghost use Rattle.std.specs.Prelude.{◌≡◌, ◌+◌, ◌<◌, ◌^◌, [], ◌∷◌, None, Ok, true, Option, option_map, option_and_then, string_bytes, unwrap_or, IfOk};
+ghost use Rattle.std.specs.Prelude.{◌≡◌, ◌≤◌, ◌+◌, ◌<◌, ◌^◌, [], ◌∷◌, None, Some, Ok, true, Option, option_map, option_and_then, string_bytes, unwrap_or, IfOk, IfSome};
 ghost use Rattle.std.specs.Arc.{arc_value};
 ghost use Rattle.filing_model.specs.Common.Text.{Text};
-ghost use Rattle.filing_model.specs.Common.TextMap.{get as value_at, insert};
+ghost use Rattle.filing_model.specs.Common.TextMap.{get as value_at, insert, remove};
 ghost use Rattle.filing_model.specs.Sessions.Repository.{Repository, report_at, fact_in, with_report_at};
 ghost use Rattle.filing_model.specs.Sessions.Things as thing;
 ghost use Rattle.filing_model.specs.Histories.Stamps.{first_version, version_after, version_with};
@@ -11,10 +11,12 @@ ghost use Rattle.filing_model.specs.Oim.Duplicates.{class_of, least_disallowed};
 ghost use Rattle.filing_model.specs.Sessions.Queries.{cell_facts, cell_ids, ids_for};
 ghost use Rattle.filing_model.specs.Sessions.Sessions.{repository_obeys, refusal_of};
 ghost use Rattle.filing_laws.specs.Updating.NetChange.{refusal_at};
+ghost use Rattle.filing_facts.specs.FactChanges.{Part};
 ghost use Rattle.filing_facts.specs.PeriodFilterRef.{period_filter_of};
+ghost use Rattle.filing_stamps.specs.Stamps.{stamp_in as part_stamp};
 ghost use Rattle.filing_version.specs.Found.{got_of};
 ghost use Rattle.filing_version.specs.Filed.{StampedReport as PlainStampedReport, KeepsItsStamps, version_in, repository_in};
-ghost use Rattle.filing_version.specs.Filed.{mapped, filed_of, filed_after, IsStampedUpTo};
+ghost use Rattle.filing_version.specs.Filed.{mapped, filed_of, filed_after, changed_filed, IsStampedUpTo};
 
 use crate::change::Change;
 use crate::changed_report::ChangedReport;
@@ -62,6 +64,45 @@ fn changed_entry(
     NamedValue::new(alloc, name, changed)
 }
 
+/// The same, stamped with this number.
+fn stamped_entry(
+    alloc: Global,
+    name: String,
+    filed: StampedReport,
+    change: &ChangedReport,
+    number: u64,
+) -> Result<NamedValue<StampedReport>, AllocError>
+    requires { (part : Part) → part_stamp filed.stamps part ≤ number }
+    ensures name { IfOk result (λ n. n.0 ≡ string_bytes name) }
+    ensures report { IfOk result (λ n. filed_of n.1 ≡ changed_filed number change.now (filed_of filed)) }
+{
+    let next = filed.into_after(alloc, change, number)?;
+    NamedValue::new(alloc, name, next)
+}
+
+/// Takes the report of a name out of a few reports, where nothing else holds it.
+fn take_alone(
+    alloc: Global,
+    reports: TextPages<StampedReport>,
+    name: &str,
+) -> Result<(TextPages<StampedReport>, Option<(String, StampedReport)>), AllocError>
+    ensures none { IfOk result (λ r. r.1 ≡ None → r.0 ≡ reports) }
+    ensures some { IfOk result (λ r. IfSome r.1 (λ taken. (string_bytes taken.0 ≡ name.now)
+        × (value_at reports name.now ≡ Some taken.1) × (r.0 ≡ remove reports name.now))) }
+{
+    let (reports, taken) = reports.take(alloc, name);
+    let Some(named) = taken else {
+        return Ok((reports, None));
+    };
+    match named.into_parts() {
+        Ok(parts) => Ok((reports, Some(parts))),
+        Err(named) => {
+            let reports = reports.put_back(alloc, named)?;
+            Ok((reports, None))
+        }
+    }
+}
+
 /// The reports with an entry, where it could be made.
 fn with_entry(
     alloc: Global,
@@ -101,7 +142,7 @@ fn with_stamped_part(
 }
 
 /// The same in the place of these reports, which stay where it is not there.
-fn into_stamped_part(
+fn into_copied_stamped_part(
     alloc: Global,
     reports: TextPages<StampedReport>,
     part: &NamedValue<ChangedReport>,
@@ -121,6 +162,27 @@ fn into_stamped_part(
             drop(reports);
             Err(error)
         }
+    }
+}
+
+/// The same, in place where no other version holds what changes.
+fn into_stamped_part(
+    alloc: Global,
+    reports: TextPages<StampedReport>,
+    part: &NamedValue<ChangedReport>,
+    number: u64,
+) -> Result<TextPages<StampedReport>, AllocError>
+    requires { IsStampedUpTo number (mapped filed_of reports) }
+    ensures { IfOk result (λ next. mapped filed_of next
+        ≡ filed_after number (part.now ∷ []) (mapped filed_of reports)) }
+{
+    let (reports, taken) = take_alone(alloc, reports, part.name())?;
+    match taken {
+        Some((name, filed)) => {
+            let changed = stamped_entry(alloc, name, filed, part.value(), number);
+            with_entry(alloc, reports, changed)
+        }
+        None => into_copied_stamped_part(alloc, reports, part, number),
     }
 }
 
@@ -221,8 +283,21 @@ impl RepoVersion {
         requires few { (repository_in self.now).count + 1 < 2 ^ 64 }
         ensures { IfOk result (λ v. version_in v ≡ version_after change.now (version_in self.now)) }
     {
-        let number = self.number + 1;
-        let mut reports = self.reports.share(alloc)?;
+        let version = self.again(alloc)?;
+        version.into_after(alloc, change)
+    }
+
+    /// The version as `after` has it, in place where no other version holds what changes.
+    pub fn into_after(self, alloc: Global, change: &Change) -> Result<RepoVersion, AllocError>
+        requires there { (name : Text) → report_at (repository_in self) name ≡ None → value_at change.now name ≡ None }
+        requires few { (repository_in self).count + 1 < 2 ^ 64 }
+        ensures { IfOk result (λ v. version_in v ≡ version_after change.now (version_in self)) }
+    {
+        let RepoVersion {
+            number: before,
+            mut reports,
+        } = self;
+        let number = before + 1;
         for part in change.reports() {
             reports = into_stamped_part(alloc, reports, part, number)?;
         }
@@ -342,19 +417,14 @@ impl RepoVersion {
             ≡ record (version_in self) { repository = changed_at (repository_in self) part.now }) }
     {
         let RepoVersion { number, reports } = self;
-        let (reports, taken) = reports.take(alloc, part.name());
-        let Some(named) = taken else {
-            let same = RepoVersion { number, reports };
-            return same.into_with_copied_part(alloc, part);
-        };
-        match named.into_parts() {
-            Ok((name, filed)) => {
+        let (reports, taken) = take_alone(alloc, reports, part.name())?;
+        match taken {
+            Some((name, filed)) => {
                 let changed = changed_entry(alloc, name, filed, part.value());
                 let reports = with_entry(alloc, reports, changed)?;
                 Ok(RepoVersion { number, reports })
             }
-            Err(named) => {
-                let reports = reports.put_back(alloc, named)?;
+            None => {
                 let same = RepoVersion { number, reports };
                 same.into_with_copied_part(alloc, part)
             }

@@ -3,7 +3,7 @@ use Rattle.std.specs.Option.{option_map_or}
 use Rattle.filing_model.specs.Common.TextMap.{get, insert}
 use Rattle.filing_version.specs.Filed.{Filed, mapped, filed_of, changed_filed}
 use Rattle.filing_version.proofs.FiledReports.{get-mapped}
-use Rattle.filing_version.proofs.StampedReports.{parts_up_to, mapped-insert}
+use Rattle.filing_version.proofs.StampedReports.{parts_up_to, stamped_one}
 use Rattle.filing_version.proofs.version.with_stamped_part.Goals as goal
 
 pub after-requires : goal.after-requires
@@ -16,16 +16,12 @@ returns c =
     let m = c.args.reports.now in
     let part = c.args.part.now in
     let filed = c.in-Some.filed.now in
-    let held : get (mapped filed_of m) part.0 ≡ Some (filed_of filed) =
-    get-mapped filed_of m part.0 ∙ ap (option_map filed_of) (ap (get m) (sym c.name.ensures) ∙ sym c.in-Some.ensures) in
+    let held : get m part.0 ≡ Some filed = ap (get m) (sym c.name.ensures) ∙ sym c.in-Some.ensures in
     let made : filed_of c.in_ok-next.next ≡ changed_filed number part.1 (filed_of filed) =
     c.in_ok-next.ensures ∙ ap (λ change. changed_filed number change (filed_of filed)) c.value.ensures in
     let put : c.in_ok-reports.reports ≡ insert m part.0 c.in_ok-next.next =
     c.in_ok-reports.ensures ∙ ap (λ name. insert m name c.in_ok-next.next) (c.in_ok-name.ensures.ok ∙ c.name-2.ensures) in
-    ap (mapped filed_of) put
-    ∙ mapped-insert m part.0 c.in_ok-next.next
-    ∙ ap (insert (mapped filed_of m) part.0) made
-    ∙ sym (ap (λ o. option_map_or (λ (f : Filed). insert (mapped filed_of m) part.0 (changed_filed number part.1 f)) o (mapped filed_of m)) held)
+    stamped_one number m c.in_ok-reports.reports part filed c.in_ok-next.next held made put
 
 pub returns-in_default : goal.returns-in_default
 returns-in_default c =

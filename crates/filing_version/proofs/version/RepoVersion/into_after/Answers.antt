@@ -4,7 +4,7 @@ use Rattle.filing_model.specs.Sessions.Changes.{ReportChange}
 use Rattle.filing_version.specs.Filed.{StampedReports, mapped, filed_of, filed_after, version_of, ChangesWhatIsThere, IsStampedUpTo}
 use Rattle.filing_version.proofs.FiledReports.{version_after_change}
 use Rattle.filing_version.proofs.StampedReports.{LaysTheRest, lays_next, absent_seen}
-use Rattle.filing_version.proofs.version.RepoVersion.after.Goals as goal
+use Rattle.filing_version.proofs.version.RepoVersion.into_after.Goals as goal
 
 pub into_stamped_part-requires : goal.into_stamped_part-requires
 into_stamped_part-requires c =
@@ -13,20 +13,20 @@ into_stamped_part-requires c =
 
 pub loop-part-preserved : goal.loop-part-preserved
 loop-part-preserved c =
-    let number = c.args.self.now.number + 1 in
+    let number = c.args.self.number + 1 in
     let all = c.args.change.now.entries in
-    let first = mapped filed_of c.args.self.now.reports in
+    let first = mapped filed_of c.args.self.reports in
     let m = mapped filed_of c.loop-part.reports in
     let part = c.in-Some.part.now in
     let rest : List (Text × ReportChange) = c.next.new.self in
     let steps : c.loop-part.part-iterator ≡ part ∷ rest = c.in-Some.ensures.steps in
-    lays_next number all first part rest m (mapped filed_of c.in_ok-reports-2.reports)
-    (c.in_ok-reports-2.ensures ∙ ap (λ (v : StampedReports). filed_after (v.number + 1) (part ∷ []) m) c.self.view_is)
+    lays_next number all first part rest m (mapped filed_of c.in_ok-reports.reports)
+    (c.in_ok-reports.ensures ∙ ap (λ (v : StampedReports). filed_after (v.number + 1) (part ∷ []) m) c.self.view_is)
     (subst (λ ps. LaysTheRest number all first ps m) steps c.loop-part.invariant)
 
 pub returns : goal.returns
 returns c =
-    let before = c.args.self.now in
+    let before = c.args.self in
     let number = before.number + 1 in
     let change = c.args.change.now in
     let m = mapped filed_of c.loop-part.reports in
