@@ -1,27 +1,45 @@
 -- One change made at its place.
-use Rattle.std.proofs.Common.{◌≡◌, ◌∙◌, ap, sym, subst, refl, Bool, true, false, cond, ◌&&◌, ◌||◌, T, not, ℕ, zero, suc, ◌+◌, ◌<◌, ◌≤◌, arith, List, [], ◌∷◌, ◌++◌, take, drop, length, get_or, Some, Result, Ok, Err, IfOk, Ordering, Less, Equal, Greater, is_lt}
+use Rattle.std.proofs.Common.{◌≡◌, ◌∙◌, ap, sym, subst, refl, Bool, true, false, cond, ◌&&◌, ◌||◌, T, not, ℕ, suc, ◌+◌, ◌<◌, arith, List, [], ◌∷◌, ◌++◌, take, drop, set, length, get_or, Some, Result, Ok, Err, IfOk, OnErr, Ordering, Less, Equal, Greater, is_lt}
 use Rattle.std.proofs.Math.Seq.{take-append_seam, drop-append_seam, drop-append-add}
 use Rattle.std.specs.Cmp.{IsTotalOrder}
-use Rattle.std.specs.List.{flat_map, insert, remove, list_all}
+use Rattle.std.specs.List.{flat_map, remove, list_all}
 use Rattle.std.specs.Ordering.{is_gt, is_eq, eq_by_cmp, ordering_reverse}
-use Rattle.std.proofs.lemmas.List.{length-append}
+use Rattle.std.proofs.lemmas.List.{drop-set, length-append, set-get_or, take-append-drop, take-set}
 use Rattle.sorted_pages.specs.declared.edit.Edit.{Edit}
 use Rattle.sorted_pages.specs.declared.edit.Edit.TheVariants.{Remove}
 use Rattle.sorted_pages.specs.Ranges.{IsMonotone, first_within}
 use Rattle.sorted_pages.specs.Sorted.{IsRising, is_below, AllBelow}
-use Rattle.sorted_pages.specs.Changes.{entry_of, entries_put, with_change, with_changes, without_tied}
+use Rattle.sorted_pages.specs.Changes.{entry_of, entries_put, with_change, without_tied}
 use Rattle.sorted_pages.specs.Edges.{ends_with, begins_with, first_passes, is_before_edge, is_none}
 use Rattle.sorted_pages.proofs.Edges.{first, second}
 use Rattle.sorted_pages.proofs.Flats.{flat_map-append}
 use Rattle.sorted_pages.proofs.Orders.{greater_from, less_from, turned_greater, below_from, below_right, rising_left, rising_right, rising_apart, all_pass, AllBelow-none, AllBelow_left}
 use Rattle.sorted_pages.proofs.Parts.{laid_apart, laid_one, rising-with_changes}
-use Rattle.sorted_pages.proofs.Steps.{less_all_below}
+use Rattle.sorted_pages.proofs.Steps.{less_all_below, rising_parts}
 
--- an item that is taken out and another one in its place
-pub back_in : {X : Type 0} (xs : List X) (i : ℕ) (y : X) → i < length xs → insert (remove xs i) i y ≡ take i xs ++ y ∷ drop (suc i) xs
-back_in [] i y h = absurd (omega (arith, h))
-back_in (x ∷ xs) zero y h = refl
-back_in (x ∷ xs) (suc i) y h = ap (λ zs. x ∷ zs) (back_in xs i y (omega (arith, h)))
+-- a fact of an answer that is no error, or of an error, that follows from another one
+pub at_ok : {X Y : Type 0} {P Q : X → Type 0} (r : Result X Y) → ((x : X) → P x → Q x) → IfOk r P → IfOk r Q
+at_ok (Ok x) f h = f x h
+at_ok (Err y) f h = tt
+
+pub at_err : {X Y P Q : Type 0} (r : Result X Y) → (P → Q) → OnErr r P → OnErr r Q
+at_err (Ok x) f h = tt
+at_err (Err y) f h = f h
+
+-- an item in the place of another one
+pub set_apart : {X : Type 0} (xs : List X) (i : ℕ) (y : X) → i < length xs → set xs i y ≡ take i xs ++ y ∷ drop (i + 1) xs
+set_apart xs i y h = sym (take-append-drop i (set xs i y)) ∙ (λ j. take-set xs i y j ++ drop-set xs i y h j)
+
+pub set_between : {X : Type 0} (items before from : List X) (y : X) → items ≡ before ++ from → length before < length items
+    → set items (length before) y ≡ before ++ y ∷ drop 1 from
+set_between items before from y e h =
+    set_apart items (length before) y h
+    ∙ (λ j. take (length before) (e j) ++ y ∷ drop (length before + 1) (e j))
+    ∙ (λ j. take-append_seam before from j ++ y ∷ drop-append-add before from 1 j)
+
+-- the same item in its place
+pub set_again : {X : Type 0} (xs : List X) (i : ℕ) (x y : X) → y ≡ x → x ≡ get_or xs i x → set xs i y ≡ xs
+set_again xs i x y e h = ap (set xs i) (e ∙ h) ∙ set-get_or xs i x
 
 -- the item at the place where the others begin
 pub there : {X : Type 0} (before from : List X) (b : X) → length before < length (before ++ from)
@@ -29,6 +47,12 @@ pub there : {X : Type 0} (before from : List X) (b : X) → length before < leng
 there [] [] b h e = absurd (omega (arith, h))
 there [] (y ∷ ys) b h e = ap (λ z. z ∷ ys) (sym e)
 there (x ∷ before) from b h e = there before from b (omega (arith, h)) e
+
+pub items_there : {X : Type 0} (items before from : List X) (b : X) → items ≡ before ++ from → length before < length items
+    → b ≡ get_or items (length before) b → items ≡ before ++ b ∷ drop 1 from
+items_there items before from b e h eb =
+    e ∙ ap (λ zs. before ++ zs)
+    (there before from b (subst (λ zs. length before < length zs) e h) (eb ∙ ap (λ zs. get_or zs (length before) b) e))
 
 -- the items without the one at the place where the others begin
 pub with_out : {X : Type 0} (items before from : List X) (i : ℕ) (removed : List X) → items ≡ before ++ from → i ≡ length before
@@ -48,14 +72,6 @@ with_passes p from tail x e h = sym (h ∙ ap (first_passes p) e)
 pub longer : {X : Type 0} (before from : List X) → 0 < length from → length before < length (before ++ from)
 longer before from h = let all = length-append before from in omega (arith, h, all)
 
-pub with_back_in : {X : Type 0} (items before from : List X) (i : ℕ) (y : X) (removed new : List X) → items ≡ before ++ from → i ≡ length before
-    → i < length items → removed ≡ remove items i → new ≡ insert removed i y → new ≡ before ++ y ∷ drop 1 from
-with_back_in items before from i y removed new e ei h er en =
-    let next : suc i ≡ length before + 1 = omega (arith, ei) in
-    en ∙ ap (λ zs. insert zs i y) er ∙ back_in items i y h
-    ∙ (λ j. take (ei j) (e j) ++ y ∷ drop (next j) (e j))
-    ∙ (λ j. take-append_seam before from j ++ y ∷ drop-append-add before from 1 j)
-
 pub either_end : {X : Type 0} (n : Bool) (i j : ℕ) (xs : List X) → drop (cond n i j) xs ≡ cond n (drop i xs) (drop j xs)
 either_end true i j xs = refl
 either_end false i j xs = refl
@@ -66,9 +82,14 @@ module _ {E : Type 0} (R : E → E → Ordering) (o : IsTotalOrder R) where
   without_first x (e ∷ es) = refl
 
   -- it rises with the change made, and where it was not
-  pub rises_made : (c : Edit E) (old new : List E) (made : Bool) → new ≡ cond made (with_change R c old) old → IsRising R old → IsRising R new
+  rises_made : (c : Edit E) (old new : List E) (made : Bool) → new ≡ cond made (with_change R c old) old → IsRising R old → IsRising R new
   rises_made c old new true e h = subst (IsRising R) (sym e) (rising-with_changes R o (c ∷ []) old h)
   rises_made c old new false e h = subst (IsRising R) (sym e) h
+
+  pub rises_after : {X : Type 0} (c : Edit E) (old new : List E) (r : Result Bool X) → IfOk r (λ made. new ≡ cond made (with_change R c old) old)
+      → OnErr r (new ≡ old) → IsRising R old → IsRising R new
+  rises_after c old new (Ok made) e f h = rises_made c old new made e h
+  rises_after c old new (Err x) e f h = subst (IsRising R) (sym f) h
 
   -- ---- an entry
 
@@ -178,16 +199,18 @@ module _ {E : Type 0} (R : E → E → Ordering) (o : IsTotalOrder R) where
     changed_in d x before b b' rest false ex a t e =
         flat_map-append v before (b' ∷ rest) ∙ ap (λ es. flat_map v before ++ (es ++ flat_map v rest)) e ∙ sym (flat_map-append v before (b ∷ rest))
 
--- a list of one item
-pub only : {X : Type 0} (xs : List X) (x : X) → 1 ≤ length xs → length xs < 2 → x ≡ get_or xs 0 x → xs ≡ x ∷ []
-only [] x h k e = absurd (omega (arith, h))
-only (y ∷ []) x h k e = ap (λ z. z ∷ []) (sym e)
-only (y ∷ z ∷ ys) x h k e = absurd (omega (arith, k))
+    pub changed_at_place : {X : Type 0} (d : Edit E) (x : E) (items before from : List B) (b b' : B) (r : Result Bool X) → x ≡ entry_of d
+        → items ≡ before ++ from → length before < length items → b ≡ get_or items (length before) b
+        → AllBelow R (flat_map v before) (x ∷ []) → T (is_below R x (flat_map v (drop 1 from)))
+        → IfOk r (λ made. v b' ≡ cond made (with_change R d (v b)) (v b))
+        → IfOk r (λ made. flat_map v (set items (length before) b') ≡ cond made (with_change R d (flat_map v items)) (flat_map v items))
+    changed_at_place d x items before from b b' r ex ei hi eb a t e =
+        at_ok r (λ made em. ap (flat_map v) (set_between items before from b' ei hi)
+        ∙ changed_in d x before b b' (drop 1 from) made ex a t em
+        ∙ ap (λ zs. cond made (with_change R d (flat_map v zs)) (flat_map v zs)) (sym (items_there items before from b ei hi eb))) e
 
--- the list after one change, which was made in place or is made then
-pub completes : {E X : Type 0} (R : E → E → Ordering) (r : Result (List E) X) (made : Bool) (one : List (Edit E)) (c : Edit E) (list es old : List E)
-    → one ≡ c ∷ [] → es ≡ old → list ≡ cond made (with_change R c es) es
-    → IfOk r (λ p. p ≡ cond made list (with_changes R one list)) → IfOk r (λ p. p ≡ with_changes R one old)
-completes R (Ok p) true one c list es old eo ee el h = h ∙ el ∙ ap (with_change R c) ee ∙ ap (λ cs. with_changes R cs old) (sym eo)
-completes R (Ok p) false one c list es old eo ee el h = h ∙ ap (with_changes R one) (el ∙ ee)
-completes R (Err e) made one c list es old eo ee el h = tt
+    pub rises_there : (items before from : List B) (b : B) → IsRising R (flat_map v items) → items ≡ before ++ from
+        → length before < length items → b ≡ get_or items (length before) b → IsRising R (v b)
+    rises_there items before from b h ei hi eb =
+        (rising_parts R o (flat_map v before) (v b) (flat_map v (drop 1 from)) (flat_map v items)
+        (ap (flat_map v) (items_there items before from b ei hi eb) ∙ flat_map-append v before (b ∷ drop 1 from)) h).0

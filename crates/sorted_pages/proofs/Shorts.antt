@@ -1,5 +1,5 @@
 -- Lists whose entries stand in place, and those whose entries stand in groups.
-use Rattle.std.proofs.Common.{◌≡◌, ◌∙◌, ap, subst, refl, ◌<◌, arith, List, [], ◌∷◌, ◌++◌}
+use Rattle.std.proofs.Common.{◌≡◌, ◌∙◌, ap, sym, subst, refl, ◌<◌, ◌≤◌, arith, List, [], ◌∷◌, ◌++◌}
 use Rattle.std.proofs.Common.{append-nil, length, Ordering}
 use Rattle.std.specs.List.{flat_map}
 use Rattle.std.specs.declared.sync.Arc.{Arc}
@@ -30,3 +30,18 @@ module _ {E X Y Z : Type 0} (R : E → E → Ordering) (entries : List E)
 
   pub rises_short : IsShortOrLong R entries groups → length groups ≡ 0 → IsRising R (flat_map single entries)
   rises_short is h = subst (IsRising R) (of_short h) is.rises
+
+  pub still_short : length groups ≡ 0 → IsRising R (flat_map single entries) → length entries ≤ 64 → IsShortOrLong R entries groups
+  still_short none h few = record {
+    rises = subst (IsRising R) (sym (of_short none)) h;
+    few = few;
+    apart = λ some. absurd (omega (arith, none, some));
+  }
+
+  pub still_long : (before : List (Arc (List (Arc (List (Arc (List E) Z)) Y)) X)) → IsShortOrLong R entries before
+      → 0 < length before → IsRising R (flat_map of_group groups) → IsShortOrLong R entries groups
+  still_long before is some h = record {
+    rises = subst (λ es. IsRising R (ahead es [] [] groups)) (sym (is.apart some)) h;
+    few = is.few;
+    apart = λ _. is.apart some;
+  }

@@ -1,12 +1,16 @@
 //! A sorted run of items, with a sum of them and the keys of its ends.
-ghost use Rattle.std.specs.Prelude.{◌≡◌, ◌++◌, ◌<◌, ◌≤◌, List, length, Some};
+ghost use Rattle.std.specs.Prelude.{◌≡◌, ◌++◌, ◌<◌, ◌≤◌, List, length, Some, if◌then◌else◌, IfOk, OnErr, IsFalse};
 ghost use Rattle.std.specs.List.{flat_map};
 ghost use Rattle.std.specs.Arc.{arc_value};
 ghost use Rattle.sorted_pages.specs.Keys.{first_of, last_of};
 ghost use Rattle.sorted_pages.specs.Pages.{held, IsFirst, IsLast};
+ghost use Rattle.sorted_pages.specs.Sorted.{IsRising};
+ghost use Rattle.sorted_pages.specs.Changes.{with_change};
 
-use crate::entry::Edged;
-use std::alloc::Global;
+use crate::edit::Edit;
+use crate::entry::{Edged, PageEntry};
+use crate::in_place::InPlace;
+use std::alloc::{AllocError, Global};
 use std::marker::Model;
 use std::sync::Arc;
 
@@ -95,16 +99,6 @@ impl<T: Edged> Block<T> {
         }
     }
 
-    /// The items, which stand in no block then.
-    pub(crate) fn into_items(self) -> Vec<T>
-        ensures items { result.items ≡ self }
-        ensures some { 0 < length self }
-        ensures few { length self ≤ 64 }
-    {
-        let Block { items, .. } = self;
-        items
-    }
-
     pub(crate) fn items(&self) -> &[T]
         ensures items { result.now ≡ self.now }
         ensures some { 0 < length self.now }
@@ -124,6 +118,27 @@ impl<T: Edged> Block<T> {
     {
         last_of(&self.items)
     }
+}
+
+/// Makes a change in the items of a block, and says whether it did. Else, and at an error, the block stays as it was.
+pub(crate) fn change_items<E: PageEntry, T: InPlace<E>>(
+    block: &mut Block<T>,
+    change: &Edit<E>,
+) -> Result<bool, AllocError>
+    requires { IsRising E.order (flat_map T.entries block.old) }
+    ensures entries { IfOk result (λ is_made. flat_map T.entries block.new
+        ≡ (if is_made then with_change E.order change.now (flat_map T.entries block.old)
+        else flat_map T.entries block.old)) }
+    ensures same { IfOk result (λ is_made. IsFalse is_made → block.new ≡ block.old) }
+    ensures failed { OnErr result (block.new ≡ block.old) }
+{
+    if !T::change(&mut block.items, change)? {
+        return Ok(false);
+    }
+    block.kept = kept_of(*block.items.allocator(), &block.items);
+    block.first_key = first_key_of(&block.items);
+    block.last_key = last_key_of(&block.items);
+    Ok(true)
 }
 
 impl<T: Edged> Edged for Arc<Block<T>> {

@@ -1,5 +1,5 @@
 //! One change made in pages, runs and groups that no other list holds. Where there is room it copies no page.
-ghost use Rattle.std.specs.Prelude.{◌≡◌, ◌++◌, ◌∷◌, [], ◌<◌, ◌≤◌, ◌+◌, take, drop, length, not, if◌then◌else◌, IfOk, T as Holds};
+ghost use Rattle.std.specs.Prelude.{◌≡◌, ◌++◌, ◌<◌, ◌≤◌, ◌+◌, take, drop, length, if◌then◌else◌, IfOk, OnErr, IsFalse, T as Holds};
 ghost use Rattle.std.specs.List.{flat_map};
 ghost use Rattle.std.specs.Ordering.{eq_by_cmp};
 ghost use Rattle.sorted_pages.specs.Edges.{first_passes};
@@ -8,83 +8,69 @@ ghost use Rattle.sorted_pages.specs.Sorted.{IsRising};
 ghost use Rattle.sorted_pages.specs.Changes.{entries_put, with_change};
 
 use crate::apply::split_at_place;
-use crate::block::Block;
+use crate::block::{Block, change_items};
 use crate::edge::{Before, split_at_edge};
 use crate::edit::Edit;
 use crate::entry::PageEntry;
 use crate::level::{Leaf, Level};
 use crate::spans::Tie;
-use std::alloc::{AllocError, Global};
+use std::alloc::AllocError;
 use std::sync::Arc;
 
 /// A level in whose items a change can be made in place.
 pub(crate) trait InPlace<E: PageEntry>: Level<E> {
-    /// Makes a change in these items, and says whether it did. Where they share what it changes, or where it would leave too many or none, they are as they were.
-    fn change(
-        alloc: Global,
-        items: Vec<Self>,
-        change: &Edit<E>,
-    ) -> Result<(Vec<Self>, bool), AllocError>
-        requires { IsRising E.order (flat_map Self.entries items.items) }
-        ensures entries { IfOk result (λ r. flat_map Self.entries r.0.items
-            ≡ (if r.1 then with_change E.order change.now (flat_map Self.entries items.items)
-            else flat_map Self.entries items.items)) }
-        ensures some { IfOk result (λ r. 0 < length items.items → 0 < length r.0.items) }
-        ensures few { IfOk result (λ r. length items.items ≤ 64 → length r.0.items ≤ 64) };
-}
-
-/// The entries with another one in the place of the one there.
-fn replaced<E: PageEntry>(
-    entries: Vec<Leaf<E>>,
-    place: usize,
-    entry: E,
-) -> Result<Vec<Leaf<E>>, AllocError>
-    requires { place < length entries.items }
-    ensures entries { IfOk result (λ r. r.items ≡ take place entries.items ++ entry ∷ drop (place + 1) entries.items) }
-    ensures same { IfOk result (λ r. length r.items ≡ length entries.items) }
-{
-    let mut entries = entries;
-    entries.remove(place);
-    entries.insert(place, Leaf::of(entry))?;
-    Ok(entries)
+    /// Makes a change in these items, and says whether it did.
+    ///
+    /// They stay as they were where they share what it changes, where too many or none would be left, and at an error.
+    fn change(items: &mut Vec<Self>, change: &Edit<E>) -> Result<bool, AllocError>
+        requires { IsRising E.order (flat_map Self.entries items.old.items) }
+        ensures entries { IfOk result (λ is_made. flat_map Self.entries items.new.items
+            ≡ (if is_made then with_change E.order change.now (flat_map Self.entries items.old.items)
+            else flat_map Self.entries items.old.items)) }
+        ensures same { IfOk result (λ is_made. IsFalse is_made → items.new.items ≡ items.old.items) }
+        ensures failed { OnErr result (items.new.items ≡ items.old.items) }
+        ensures some { 0 < length items.old.items → 0 < length items.new.items }
+        ensures few { length items.old.items ≤ 64 → length items.new.items ≤ 64 };
 }
 
 /// Makes a change at a place, where an entry ties with it or none does.
 fn change_at<E: PageEntry>(
-    entries: Vec<Leaf<E>>,
+    entries: &mut Vec<Leaf<E>>,
     place: usize,
     ties: bool,
     change: &Edit<E>,
-) -> Result<(Vec<Leaf<E>>, bool), AllocError>
-    requires there { place ≤ length entries.items }
-    requires tied { Holds ties → place < length entries.items }
-    ensures entries { IfOk result (λ r. r.0.items
-        ≡ (if r.1 then take place entries.items ++ (entries_put change.now ++ drop (if ties then place + 1 else place) entries.items)
-        else entries.items)) }
-    ensures some { IfOk result (λ r. 0 < length entries.items → 0 < length r.0.items) }
-    ensures few { IfOk result (λ r. length entries.items ≤ 64 → length r.0.items ≤ 64) }
+) -> Result<bool, AllocError>
+    requires there { place ≤ length entries.old.items }
+    requires tied { Holds ties → place < length entries.old.items }
+    ensures entries { IfOk result (λ is_made. entries.new.items
+        ≡ (if is_made then take place entries.old.items
+        ++ (entries_put change.now ++ drop (if ties then place + 1 else place) entries.old.items)
+        else entries.old.items)) }
+    ensures failed { OnErr result (entries.new.items ≡ entries.old.items) }
+    ensures some { 0 < length entries.old.items → 0 < length entries.new.items }
+    ensures few { length entries.old.items ≤ 64 → length entries.new.items ≤ 64 }
 {
-    let mut entries = entries;
     match change {
         Edit::Put(entry) => {
             if ties {
-                return Ok((replaced(entries, place, entry.share()?)?, true));
+                entries[place] = Leaf::of(entry.share()?);
+                return Ok(true);
             }
             if entries.len() >= E::most_in_page() {
-                return Ok((entries, false));
+                return Ok(false);
             }
             entries.insert(place, Leaf::of(entry.share()?))?;
-            Ok((entries, true))
+            Ok(true)
         }
         Edit::Remove(_) => {
             if !ties {
-                return Ok((entries, true));
+                return Ok(true);
             }
             if entries.len() < 2 {
-                return Ok((entries, false));
+                return Ok(false);
             }
             entries.remove(place);
-            Ok((entries, true))
+            Ok(true)
         }
     }
 }
@@ -100,66 +86,55 @@ fn is_tied<E: PageEntry>(entries: &[Leaf<E>], entry: &E) -> bool
 }
 
 impl<E: PageEntry> InPlace<E> for Leaf<E> {
-    fn change(
-        _alloc: Global,
-        items: Vec<Leaf<E>>,
-        change: &Edit<E>,
-    ) -> Result<(Vec<Leaf<E>>, bool), AllocError>
-        requires { IsRising E.order (flat_map single items.items) }
-        ensures entries { IfOk result (λ r. flat_map single r.0.items
-            ≡ (if r.1 then with_change E.order change.now (flat_map single items.items)
-            else flat_map single items.items)) }
-        ensures some { IfOk result (λ r. 0 < length items.items → 0 < length r.0.items) }
-        ensures few { IfOk result (λ r. length items.items ≤ 64 → length r.0.items ≤ 64) }
+    fn change(items: &mut Vec<Leaf<E>>, change: &Edit<E>) -> Result<bool, AllocError>
+        requires { IsRising E.order (flat_map single items.old.items) }
+        ensures entries { IfOk result (λ is_made. flat_map single items.new.items
+            ≡ (if is_made then with_change E.order change.now (flat_map single items.old.items)
+            else flat_map single items.old.items)) }
+        ensures same { IfOk result (λ is_made. IsFalse is_made → items.new.items ≡ items.old.items) }
+        ensures failed { OnErr result (items.new.items ≡ items.old.items) }
+        ensures some { 0 < length items.old.items → 0 < length items.new.items }
+        ensures few { length items.old.items ≤ 64 → length items.new.items ≤ 64 }
     {
         let entry = change.entry();
-        let (less, rest) = split_at_edge(&items, &Before(&Tie(entry)));
+        let (less, rest) = split_at_edge(items, &Before(&Tie(entry)));
         let (place, ties) = (less.len(), is_tied(rest, entry));
-        let (changed, is_made) = change_at(items, place, ties, change)?;
-        Ok((changed, is_made))
+        change_at(items, place, ties, change)
     }
 }
 
-/// Makes a change in a block, and says whether it did.
+/// Makes a change in a block, and says whether it did. A block that others hold stays as it is.
 fn change_block<E: PageEntry, T: InPlace<E>>(
-    alloc: Global,
-    block: Arc<Block<T>>,
+    block: &mut Arc<Block<T>>,
     change: &Edit<E>,
-) -> Result<(Arc<Block<T>>, bool), AllocError>
-    requires { IsRising E.order (held T.entries block) }
-    ensures { IfOk result (λ r. held T.entries r.0
-        ≡ (if r.1 then with_change E.order change.now (held T.entries block) else held T.entries block)) }
+) -> Result<bool, AllocError>
+    requires { IsRising E.order (held T.entries block.old) }
+    ensures entries { IfOk result (λ is_made. held T.entries block.new
+        ≡ (if is_made then with_change E.order change.now (held T.entries block.old) else held T.entries block.old)) }
+    ensures same { IfOk result (λ is_made. IsFalse is_made → block.new ≡ block.old) }
+    ensures failed { OnErr result (block.new ≡ block.old) }
 {
-    match Arc::try_unwrap(block) {
-        Err(shared) => Ok((shared, false)),
-        Ok(block) => {
-            let (items, is_made) = T::change(alloc, block.into_items(), change)?;
-            Ok((Arc::new(alloc, Block::of(items))?, is_made))
-        }
+    match Arc::get_mut(block) {
+        Some(block) => change_items(block, change),
+        None => Ok(false),
     }
 }
 
 impl<E: PageEntry, T: InPlace<E>> InPlace<E> for Arc<Block<T>> {
-    fn change(
-        alloc: Global,
-        items: Vec<Arc<Block<T>>>,
-        change: &Edit<E>,
-    ) -> Result<(Vec<Arc<Block<T>>>, bool), AllocError>
-        requires { IsRising E.order (flat_map (held T.entries) items.items) }
-        ensures entries { IfOk result (λ r. flat_map (held T.entries) r.0.items
-            ≡ (if r.1 then with_change E.order change.now (flat_map (held T.entries) items.items)
-            else flat_map (held T.entries) items.items)) }
-        ensures some { IfOk result (λ r. 0 < length items.items → 0 < length r.0.items) }
-        ensures few { IfOk result (λ r. length items.items ≤ 64 → length r.0.items ≤ 64) }
+    fn change(items: &mut Vec<Arc<Block<T>>>, change: &Edit<E>) -> Result<bool, AllocError>
+        requires { IsRising E.order (flat_map (held T.entries) items.old.items) }
+        ensures entries { IfOk result (λ is_made. flat_map (held T.entries) items.new.items
+            ≡ (if is_made then with_change E.order change.now (flat_map (held T.entries) items.old.items)
+            else flat_map (held T.entries) items.old.items)) }
+        ensures same { IfOk result (λ is_made. IsFalse is_made → items.new.items ≡ items.old.items) }
+        ensures failed { OnErr result (items.new.items ≡ items.old.items) }
+        ensures some { 0 < length items.old.items → 0 < length items.new.items }
+        ensures few { length items.old.items ≤ 64 → length items.new.items ≤ 64 }
     {
-        let mut blocks = items;
-        let place = split_at_place(&blocks, change.entry()).0.len();
-        if place >= blocks.len() {
-            return Ok((blocks, false));
-        }
-        let block = blocks.remove(place);
-        let (block, is_made) = change_block(alloc, block, change)?;
-        blocks.insert(place, block)?;
-        Ok((blocks, is_made))
+        let place = split_at_place(items, change.entry()).0.len();
+        let Some(block) = items.get_mut(place) else {
+            return Ok(false);
+        };
+        change_block(block, change)
     }
 }

@@ -151,35 +151,6 @@ fn long_after<E: PageEntry>(
     Ok(Paged::long(alloc, groups))
 }
 
-/// The list after a change of entries that stand in place, where it can be made there, and whether it was.
-fn short_changed<E: PageEntry>(
-    alloc: Global,
-    entries: Vec<Leaf<E>>,
-    change: &Edit<E>,
-) -> Result<(Paged<E>, bool), AllocError>
-    requires rises { IsRising E.order (flat_map single entries.items) }
-    requires few { length entries.items ≤ 64 }
-    ensures { IfOk result (λ r. r.0 ≡ (if r.1 then with_change E.order change.now (flat_map single entries.items)
-        else flat_map single entries.items)) }
-{
-    let (entries, is_made) = Leaf::change(alloc, entries, change)?;
-    Ok((Paged::short(alloc, entries), is_made))
-}
-
-/// The same of entries that stand in groups.
-fn long_changed<E: PageEntry>(
-    alloc: Global,
-    groups: Vec<Group<E>>,
-    change: &Edit<E>,
-) -> Result<(Paged<E>, bool), AllocError>
-    requires { IsRising E.order (flat_map of_group groups.items) }
-    ensures { IfOk result (λ r. r.0 ≡ (if r.1 then with_change E.order change.now (flat_map of_group groups.items)
-        else flat_map of_group groups.items)) }
-{
-    let (groups, is_made) = Group::change(alloc, groups, change)?;
-    Ok((Paged::long(alloc, groups), is_made))
-}
-
 impl<E: PageEntry> Paged<E> {
     /// The list of no entry. It takes no memory.
     pub fn new(alloc: Global) -> Paged<E>
@@ -238,41 +209,29 @@ impl<E: PageEntry> Paged<E> {
         }
     }
 
-    /// This list where a change is made already, and else the list after it.
-    fn completed(
-        self,
-        alloc: Global,
-        one: &[Edit<E>],
-        is_made: bool,
-    ) -> Result<Paged<E>, AllocError>
-        requires { IsRising E.order (map entry_of one.now) }
-        ensures { IfOk result (λ p. p ≡ (if is_made then self else with_changes E.order one.now self)) }
+    /// Makes a change in place where no other list holds what it changes and there is room, and says whether it did.
+    fn change(&mut self, change: &Edit<E>) -> Result<bool, AllocError>
+        ensures { IfOk result (λ is_made. self.new
+            ≡ (if is_made then with_change E.order change.now self.old else self.old)) }
     {
-        if is_made {
-            return Ok(self);
+        if self.groups.is_empty() {
+            return Leaf::change(&mut self.entries, change);
         }
-        let after = self.after(alloc, one);
-        drop(self);
-        after
+        Group::change(&mut self.groups, change)
     }
 
-    /// The list after one change, in place where no other list holds what it changes and there is room.
-    fn changed(self, alloc: Global, one: &[Edit<E>]) -> Result<Paged<E>, AllocError>
+    /// Makes one change, in place where that can be done, and else in a copy.
+    fn make(&mut self, alloc: Global, one: &[Edit<E>]) -> Result<(), AllocError>
         requires { IsRising E.order (map entry_of one.now) }
-        ensures { IfOk result (λ p. p ≡ with_changes E.order one.now self) }
+        ensures { IfOk result (λ _. self.new ≡ with_changes E.order one.now self.old) }
     {
-        let [change] = one else {
-            return self.completed(alloc, one, false);
-        };
-        let Paged { entries, groups } = self;
-        if groups.is_empty() {
-            drop(groups);
-            let (list, is_made) = short_changed(alloc, entries, change)?;
-            return list.completed(alloc, one, is_made);
+        if let [change] = one
+            && self.change(change)?
+        {
+            return Ok(());
         }
-        drop(entries);
-        let (list, is_made) = long_changed(alloc, groups, change)?;
-        list.completed(alloc, one, is_made)
+        *self = self.after(alloc, one)?;
+        Ok(())
     }
 
     /// The list after changes whose entries rise, in place where no other list holds what they change and there is room. Many changes take as long as so many single ones.
@@ -284,7 +243,7 @@ impl<E: PageEntry> Paged<E> {
         let mut ahead = changes;
         while !ahead.is_empty() {
             let (one, later) = ahead.split_at(1);
-            list = list.changed(alloc, one)?;
+            list.make(alloc, one)?;
             ahead = later;
         }
         Ok(list)
