@@ -1,6 +1,6 @@
 //! What was touched of the things that a session read.
 
-ghost use Rattle.std.specs.Prelude.{◌≡◌, option_map};
+ghost use Rattle.std.specs.Prelude.{◌≡◌, max, option_map};
 ghost use Rattle.filing_model.specs.Sessions.Things as thing;
 ghost use Rattle.filing_step.specs.Steps.{thing_of};
 ghost use Rattle.filing_version.specs.Filed.{version_in};
@@ -10,25 +10,32 @@ use filing_session::{Session, period_of};
 use filing_step::{PageQuery, Thing};
 use filing_version::RepoVersion;
 
-/// The number of the last commit that touched a range, or 0.
-fn stamp_of_range(version: &RepoVersion, report: &str, query: &PageQuery, upto: Option<&str>) -> u64
-    ensures { result ≡ (version_in version.now).stamp
-        (thing.Range report.now query.now (option_map (λ t. t.now) upto.entry)) }
+/// The number of the last commit that touched a range where it is greater than `since`, or else a number that is not greater either.
+fn stamp_of_range(
+    version: &RepoVersion,
+    report: &str,
+    query: &PageQuery,
+    upto: Option<&str>,
+    since: u64,
+) -> u64
+    ensures { max since result ≡ max since ((version_in version.now).stamp
+        (thing.Range report.now query.now (option_map (λ t. t.now) upto.entry))) }
 {
     let period = period_of(&query.period);
-    version.stamp_range(report, &query.concept, period, query.after.as_deref(), upto)
+    let after = query.after.as_deref();
+    version.stamp_range_since(report, &query.concept, period, after, upto, since)
 }
 
-/// The number of the last load or commit that touched a thing, or 0.
-fn stamp_of(version: &RepoVersion, thing: &Thing) -> u64
-    ensures { result ≡ (version_in version.now).stamp (thing_of thing.now) }
+/// The same of the last load or commit that touched a thing.
+fn stamp_of(version: &RepoVersion, thing: &Thing, since: u64) -> u64
+    ensures { max since result ≡ max since ((version_in version.now).stamp (thing_of thing.now)) }
 {
     match thing {
         Thing::Report(report) => version.stamp_report(report),
-        Thing::Id(report, id) => version.stamp_id(report, id),
-        Thing::Cell(report, dims) => version.stamp_cell(report, dims),
+        Thing::Id(report, id) => version.stamp_id_since(report, id, since),
+        Thing::Cell(report, dims) => version.stamp_cell_since(report, dims, since),
         Thing::Range(report, query, upto) => {
-            stamp_of_range(version, report, query, upto.as_deref())
+            stamp_of_range(version, report, query, upto.as_deref(), since)
         }
         Thing::Policy(report) => version.stamp_policy(report),
     }
@@ -41,7 +48,7 @@ pub(crate) fn conflict<'a>(version: &RepoVersion, session: &'a Session) -> Optio
 {
     let opened_at = session.base().number();
     for thing in session.reads() {
-        let stamp = stamp_of(version, thing);
+        let stamp = stamp_of(version, thing, opened_at);
         if opened_at < stamp {
             return Some((stamp, thing));
         }

@@ -32,7 +32,7 @@ impl Model for Spare {
     ghost view = { λ s. record { version = arc_value s.version; lacking = s.lacking } };
 }
 
-/// The version as it is. The next one may be made out of the version before it, which most often nobody has any more: its pages are changed where they lie, so that none is copied, and the current version is as it was where memory is wanted or a change is refused. Contracts see the version as it is.
+/// The version as it is. The next one may be made out of the version before it, which most often nobody has any more: its pages are changed where they lie, so that none is copied, and the current version is as it was where memory or a change is refused. Contracts see the version as it is.
 #[derive(Drop)]
 pub(crate) struct Current {
     version: Arc<RepoVersion>,

@@ -1,5 +1,5 @@
 -- Which parts the stamps of fact changes stand in, and what they make of the stamps before.
-use Rattle.std.proofs.Common.{◌≡◌, ◌∙◌, ap, sym, subst, refl, ℕ, ◌≤◌, arith, Bool, true, false, cond, ◌&&◌, ◌||◌}
+use Rattle.std.proofs.Common.{◌≡◌, ◌∙◌, ap, sym, subst, refl, ℕ, ◌≤◌, Bool, true, false, cond, ◌&&◌, ◌||◌}
 use Rattle.std.proofs.Common.{List, [], ◌∷◌, ◌++◌, Option, Some, None, is_none, Ordering, Less, Equal, Greater}
 use Rattle.std.proofs.Common.{is_eq, true≢false}
 use Rattle.std.proofs.Math.Bool.{or_self}
@@ -130,7 +130,7 @@ stands_in (Id x) id fact = text_eq x id
 stands_in (Cell dims) id fact = has_dims dims fact
 stands_in (Range query upto) id fact = is_within query.after upto id && answers_query query.concept query.period fact
 
-abbrev hits : Part → List Stamp → Bool
+abbrev pub hits : Part → List Stamp → Bool
 hits part stamps = list_any (λ s. is_eq (among_side (part_among part) s)) stamps
 
 -- a stamp of a kind that stands before that of a part or past it, and one of four alone
@@ -277,7 +277,7 @@ move_stands (Id x) move = ap (λ (b : Bool). b) (id_stands (text_eq x move.id) m
 move_stands (Cell dims) move = refl
 move_stands (Range query upto) move = either_both (is_within query.after upto move.id) (answers_query query.concept query.period) move.old move.new
 
-moves_hit : (part : Part) (n : ℕ) (fact_changes : List FactChange) → hits part (flat_map (stamps_of_change n) fact_changes) ≡ is_touched fact_changes part
+pub moves_hit : (part : Part) (n : ℕ) (fact_changes : List FactChange) → hits part (flat_map (stamps_of_change n) fact_changes) ≡ is_touched fact_changes part
 moves_hit part n [] = refl
 moves_hit part n (move ∷ fact_changes) =
     list_any-append (λ s. is_eq (among_side (part_among part) s)) (stamps_of_change n move) (flat_map (stamps_of_change n) fact_changes)
@@ -301,7 +301,7 @@ between_has n id (Some old) (Some new) = by (dims_eq old.dims new.dims)
     by true = fact_has n id (Some new)
     by false = both_have n (stamps_of n (id, old)) (stamps_of n (id, new)) (fact_has n id (Some old)) (fact_has n id (Some new))
 
-moves_have : (n : ℕ) (fact_changes : List FactChange) → AllHave (λ s. s.number) n (flat_map (stamps_of_change n) fact_changes)
+pub moves_have : (n : ℕ) (fact_changes : List FactChange) → AllHave (λ s. s.number) n (flat_map (stamps_of_change n) fact_changes)
 moves_have n [] = tt
 moves_have n (move ∷ fact_changes) =
     both_have n (stamps_of_change n move) (flat_map (stamps_of_change n) fact_changes) (between_has n move.id move.old move.new)

@@ -2,5 +2,9 @@ pub mod OrderedGroups
 pub mod StampKinds
 pub mod StampTies
 pub mod PutNumbers
+pub mod LaterPuts
 pub mod ChangedParts
 pub mod GatheredStamps
+pub mod GreatestNumbers
+pub mod NewestStamps
+pub mod RecentStamps

@@ -24,11 +24,11 @@ abbrev pub AllHave : {E : Type 0} → (E → ℕ) → ℕ → List E → Type 0
 AllHave f n es = AllByRecursion (λ e. f e ≡ n) es
 
 module _ {E : Type 0} (R : E → E → Ordering) (f : E → ℕ) (side : E → Ordering) where
-  abbrev best : List E → ℕ
+  abbrev pub best : List E → ℕ
   best es = greatest f (within side es)
 
   -- the greatest with one entry more
-  best_more : (e : E) (es : List E) → best (e ∷ es) ≡ cond (is_eq (side e)) (max (f e) (best es)) (best es)
+  pub best_more : (e : E) (es : List E) → best (e ∷ es) ≡ cond (is_eq (side e)) (max (f e) (best es)) (best es)
   best_more e es =
       elim (is_eq (side e)) as (λ b. greatest f (cond b (e ∷ within side es) (within side es)) ≡ cond b (max (f e) (best es)) (best es)) [ true ↦ refl | false ↦ refl ]
 

@@ -1,9 +1,8 @@
 -- The code of a stamp tells its kind.
-use Rattle.std.proofs.Common.{◌≡◌, ap, ℕ, ◌<◌, ◌≤◌, arith, cond}
+use Rattle.std.proofs.Common.{◌≡◌, ap, ℕ, ◌<◌, ◌≤◌, cond}
 use Rattle.std.specs.Prelude.{nat_lt}
 use Rattle.std.proofs.lemmas.Bool.{lt-ltb, le-ltb}
 use Rattle.filing_stamps.specs.declared.stamp.StampKind.{StampKind}
-use Rattle.filing_stamps.specs.declared.stamp.StampKind.TheVariants as kind
 
 -- past a bound, the later kinds are left
 later : (code bound : ℕ) (k others : StampKind) → bound ≤ code → cond (nat_lt code bound) k others ≡ others

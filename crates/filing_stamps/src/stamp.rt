@@ -325,6 +325,13 @@ impl Stamp {
         self.code
     }
 
+    /// The number of the last touch.
+    pub(crate) fn number(&self) -> u64
+        ensures { result ≡ self.now.number }
+    {
+        self.number
+    }
+
     pub(crate) fn group(&self) -> Group<'_>
         ensures { result ≡ self.now.group }
     {

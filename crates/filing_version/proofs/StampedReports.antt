@@ -1,7 +1,7 @@
 -- The version that stamped reports are, look-up by look-up, and after a load or a change.
 use Rattle.std.proofs.Common.{◌≡◌, ◌∙◌, ap, sym, refl, subst, cond, true, false, Bool, ◌||◌, filter, filter_map}
 use Rattle.std.proofs.Common.{fold, true≢false, List, [], ◌∷◌, Option, Some, None, option_map, option_and_then}
-use Rattle.std.proofs.Common.{is_some, ℕ, arith}
+use Rattle.std.proofs.Common.{is_some, ℕ, max, arith}
 use Rattle.std.specs.Prelude.{◌≤◌}
 use Rattle.std.specs.Option.{option_map_or, option_or}
 use Rattle.std.proofs.lemmas.Bool.{and_parts}
@@ -59,6 +59,13 @@ stamp_there m t r is = sym (stamped m t ∙ ap (λ o. option_map_or (λ r. stamp
 -- where it is not
 pub stamp_nowhere : (m : TextMap StampedReport) (t : Thing) → get m (report_of t) ≡ None → 0 ≡ stamp_at (mapped filed_of m) t
 stamp_nowhere m t none = sym (stamped m t ∙ ap (λ o. option_map_or (λ r. stamp_in t (filed_of r)) o 0) none)
+
+-- where no version came since, none is greater
+pub none_since : (number since : ℕ) (v : StampedReports) (t : Thing) → IsStampedUpTo number (mapped filed_of v.reports) → number ≤ since
+    → max since 0 ≡ max since ((version_in v).stamp t)
+none_since number since v t stamped least =
+    let under : stamp_at (mapped filed_of v.reports) t ≤ number = stamped.up_to t in
+    omega (arith, under, least)
 
 -- where no report is seen, none is held
 pub absent_held : (v : StampedReports) (name : Text) → report_at (repository_in v) name ≡ None → get (mapped filed_of v.reports) name ≡ None

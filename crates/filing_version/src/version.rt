@@ -1,5 +1,5 @@
 //! `RepoVersion`: one unchanging state of the repository.
-ghost use Rattle.std.specs.Prelude.{◌≡◌, ◌≤◌, ◌+◌, ◌<◌, ◌^◌, [], ◌∷◌, None, Some, Ok, true, Option, option_map, option_and_then, string_bytes, unwrap_or, IfOk, IfSome};
+ghost use Rattle.std.specs.Prelude.{◌≡◌, ◌≤◌, ◌+◌, ◌<◌, ◌^◌, [], ◌∷◌, max, None, Some, Ok, true, Option, option_map, option_and_then, string_bytes, unwrap_or, IfOk, IfSome};
 ghost use Rattle.std.specs.Arc.{arc_value};
 ghost use Rattle.filing_model.specs.Common.Text.{Text};
 ghost use Rattle.filing_model.specs.Common.TextMap.{get as value_at, insert, remove};
@@ -504,8 +504,18 @@ impl RepoVersion {
     pub fn stamp_id(&self, report: &str, id: &str) -> u64
         ensures { result ≡ (version_in self.now).stamp (thing.Id report.now id.now) }
     {
+        self.stamp_id_since(report, id, 0)
+    }
+
+    /// The same where it is greater than `since`, or else a number that is not greater either. Nothing is looked for where no version came since.
+    pub fn stamp_id_since(&self, report: &str, id: &str, since: u64) -> u64
+        ensures { max since result ≡ max since ((version_in self.now).stamp (thing.Id report.now id.now)) }
+    {
+        if self.number <= since {
+            return 0;
+        }
         match self.reports.get(report) {
-            Some(filed) => filed.stamps().of_id(id),
+            Some(filed) => filed.stamps().of_id_since(id, since),
             None => 0,
         }
     }
@@ -514,8 +524,18 @@ impl RepoVersion {
     pub fn stamp_cell(&self, report: &str, dims: &DimSet) -> u64
         ensures { result ≡ (version_in self.now).stamp (thing.Cell report.now dims.now) }
     {
+        self.stamp_cell_since(report, dims, 0)
+    }
+
+    /// The same where it is greater than `since`, or else a number that is not greater either. Nothing is looked for where no version came since.
+    pub fn stamp_cell_since(&self, report: &str, dims: &DimSet, since: u64) -> u64
+        ensures { max since result ≡ max since ((version_in self.now).stamp (thing.Cell report.now dims.now)) }
+    {
+        if self.number <= since {
+            return 0;
+        }
         match self.reports.get(report) {
-            Some(filed) => filed.stamps().of_cell(dims),
+            Some(filed) => filed.stamps().of_cell_since(dims, since),
             None => 0,
         }
     }
@@ -535,8 +555,33 @@ impl RepoVersion {
           after = option_map (λ t. t.now) after.entry;
         }) (option_map (λ t. t.now) upto.entry)) }
     {
+        self.stamp_range_since(report, concept, period, after, upto, 0)
+    }
+
+    /// The same where it is greater than `since`, or else a number that is not greater either. Nothing is looked for where no version came since.
+    pub fn stamp_range_since(
+        &self,
+        report: &str,
+        concept: &str,
+        period: PeriodFilterRef<'_>,
+        after: Option<&str>,
+        upto: Option<&str>,
+        since: u64,
+    ) -> u64
+        ensures { max since result ≡ max since ((version_in self.now).stamp (thing.Range report.now (record {
+          concept = concept.now;
+          period = period_filter_of period.entry;
+          after = option_map (λ t. t.now) after.entry;
+        }) (option_map (λ t. t.now) upto.entry))) }
+    {
+        if self.number <= since {
+            return 0;
+        }
         match self.reports.get(report) {
-            Some(filed) => filed.stamps().of_range(concept, period, after, upto),
+            Some(filed) => {
+                let stamps = filed.stamps();
+                stamps.of_range_since(concept, period, after, upto, since)
+            }
             None => 0,
         }
     }

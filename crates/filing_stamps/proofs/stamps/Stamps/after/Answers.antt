@@ -1,12 +1,26 @@
-use Rattle.std.proofs.Common.{◌∙◌, ap}
-use Rattle.sorted_pages.specs.Changes.{with_changes}
-use Rattle.filing_stamps.specs.Stamps.{stamp_cmp, stamp_in, stamps_of_changes, ArePuts}
-use Rattle.filing_stamps.proofs.ChangedParts.{puts_of_these, stamped}
+use Rattle.std.proofs.Common.{◌≡◌, sym, subst, List}
+use Rattle.std.specs.List.{AllByRecursion}
+use Rattle.filing_stamps.specs.Stamps.{Stamp}
+use Rattle.filing_stamps.specs.Recent.{AreWith}
+use Rattle.filing_stamps.proofs.ChangedParts.{moves_have}
+use Rattle.filing_stamps.proofs.GatheredStamps.{if_ok}
+use Rattle.filing_stamps.proofs.RecentStamps.{stamped_with}
 use Rattle.filing_stamps.proofs.stamps.Stamps.after.Goals as goal
 
-pub returns : goal.returns
-returns c =
-    let are : ArePuts (stamps_of_changes c.args.number c.args.fact_changes.now) c.deref.result.now =
-    puts_of_these c.in_ok-left.ensures c.deref.ensures.value c.in_ok-changes.ensures.all in
-    ap stamp_in (c.in_ok-stamps.ensures ∙ ap (with_changes stamp_cmp c.deref.result.now) c.self.view_is)
-    ∙ stamped c.args.fact_changes.now c.args.number c.args.self.now c.deref.result.now are c.requires
+pub with_left-requires-clause-numbered : goal.with_left-requires-clause-numbered
+with_left-requires-clause-numbered c =
+    subst (λ (ss : List Stamp). AllByRecursion (λ (s : Stamp). s.number ≡ c.args.number) ss) (sym c.in_ok-left.ensures) (moves_have c.args.number c.args.fact_changes.now)
+
+pub with_all_gathered-requires-clause-numbered : goal.with_all_gathered-requires-clause-numbered
+with_all_gathered-requires-clause-numbered c =
+    subst (λ (ss : List Stamp). AllByRecursion (λ (s : Stamp). s.number ≡ c.args.number) ss) (sym c.in_ok-left.ensures) (moves_have c.args.number c.args.fact_changes.now)
+
+pub returns-then-has_room : goal.returns-then-has_room
+returns-then-has_room c =
+    if_ok (λ s is. stamped_with c.args.fact_changes.now c.args.number c.args.self.now s c.requires
+    (subst (λ (ls : List Stamp). AreWith ls c.args.self.now s) c.in_ok-left.ensures is)) c.with_left.result c.with_left.ensures
+
+pub returns-else-has_room : goal.returns-else-has_room
+returns-else-has_room c =
+    if_ok (λ s is. stamped_with c.args.fact_changes.now c.args.number c.args.self.now s c.requires
+    (subst (λ (ls : List Stamp). AreWith ls c.args.self.now s) c.in_ok-left.ensures is)) c.with_all_gathered.result c.with_all_gathered.ensures
