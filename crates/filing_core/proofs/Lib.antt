@@ -6,12 +6,10 @@ pub mod ChangedReports
 -- ---- loads and commits
 pub mod RefusedReports
 pub mod CommitsByVersion
-pub mod ToldAtOnce
 -- ---- what is kept
 pub mod KeptAfter
 pub mod Preparing
 pub mod EngineSteps
-pub mod CommitsAtOnce
 pub mod CoreSteps
 -- ---- entries of others
 pub mod Following

@@ -3,7 +3,6 @@ pub mod States
 pub mod Standing
 pub mod OpenSessions
 pub mod Outcomes
-pub mod Spares
 pub mod Prepared
 pub mod Kept
 pub mod Engines

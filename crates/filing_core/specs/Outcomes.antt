@@ -37,8 +37,3 @@ amendment_told v s = option_map_or (λ c. reply.Conflict c.0 c.1) (first_stamped
 abbrev pub commit_told : Version → SessionState → Kind → Reply
 commit_told v s Review = reply.Closed
 commit_told v s Amend = amendment_told v s
-
--- what is plain before the change is looked at: a review is closed, and an amendment is told its first conflict
-abbrev pub told_at_once : Version → SessionState → Kind → Option Reply
-told_at_once v s Review = Some reply.Closed
-told_at_once v s Amend = option_map (λ c. reply.Conflict c.0 c.1) (first_stamped s.base.count v.stamp s.reads)

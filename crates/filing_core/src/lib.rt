@@ -6,7 +6,6 @@
 //! - `fault`: why a step was not taken.
 //! - `prepared`: a load or a commit that is ready to be entered.
 //! - `sessions`: the open sessions by their numbers.
-//! - `current`: the version as it is, and what the next one is made of.
 //! - `outcome`: the reply to a load or a commit, and the version that it makes.
 //! - `conflict`: what was touched of the things that a session read.
 //! - `disallowed`: how a cell that its report does not allow is reported.
@@ -22,7 +21,6 @@
 mod check;
 mod compared_replies;
 mod conflict;
-mod current;
 mod disallowed;
 mod engine;
 mod engine_fault;

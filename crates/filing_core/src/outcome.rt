@@ -1,6 +1,6 @@
 //! `Outcome`: the reply to a load or a commit, and the version that it makes.
 
-ghost use Rattle.std.specs.Prelude.{◌≡◌, ◌+◌, ◌<◌, ◌^◌, None, true, option_map, IfOk, IfSome};
+ghost use Rattle.std.specs.Prelude.{◌≡◌, ◌+◌, ◌<◌, ◌^◌, None, true, IfOk};
 ghost use Rattle.std.specs.Arc.{arc_value};
 ghost use Rattle.filing_model.specs.Common.Text.{Text};
 ghost use Rattle.filing_model.specs.Common.TextMap.{get as value_at};
@@ -8,13 +8,11 @@ ghost use Rattle.filing_model.specs.Sessions.Repository.{report_at};
 ghost use Rattle.filing_model.specs.Sessions.Sessions.{repository_obeys};
 ghost use Rattle.filing_step.specs.Steps.{reply_of};
 ghost use Rattle.filing_version.specs.Filed.{repository_in, version_in};
-ghost use Rattle.filing_core.specs.Outcomes.{Makes, change_told, commit_told, told_at_once};
-ghost use Rattle.filing_core.specs.Spares.{Lacks};
+ghost use Rattle.filing_core.specs.Outcomes.{Makes, change_told, commit_told};
 ghost use Rattle.filing_model.specs.Histories.Lawful.{load_reply};
 ghost use Rattle.filing_model.specs.Histories.Stamps.{version_after, version_with};
 
 use crate::conflict::conflict;
-use crate::current::{Spare, next_version};
 use crate::disallowed::disallowed;
 use filing_session::Session;
 use filing_step::{Kind, Reply};
@@ -42,7 +40,7 @@ impl Model for Outcome {
 }
 
 /// A reply that leaves the version as it is.
-pub(crate) fn reply_alone(reply: Reply) -> Outcome
+fn reply_alone(reply: Reply) -> Outcome
     ensures { result ≡ record { reply = reply_of reply; next = None } }
 {
     Outcome { reply, next: None }
@@ -76,39 +74,20 @@ pub(crate) fn load_outcome(
     }
 }
 
-/// The answer to a commit that is plain before its change is looked at: a review is closed, and an amendment gets its first conflict.
-pub(crate) fn answered_at_once(
-    current: &RepoVersion,
-    session: &Session,
-) -> Result<Option<Reply>, AllocError>
-    ensures { IfOk result (λ o. option_map reply_of o
-        ≡ told_at_once (version_in current.now) session.now.state session.now.state.kind) }
-{
-    match session.kind() {
-        Kind::Review => Ok(Some(Reply::Closed)),
-        Kind::Amend => match conflict(current, session) {
-            Some((number, thing)) => Ok(Some(Reply::Conflict(number, thing.clone()?))),
-            None => Ok(None),
-        },
-    }
-}
-
-/// Of a change that no conflict refuses. The version that it makes is made of the spare one, if there is one.
-pub(crate) fn change_outcome(
+/// Of a change that no conflict refuses.
+fn change_outcome(
     alloc: Global,
     current: &RepoVersion,
-    spare: Option<Spare>,
     change: &Change,
 ) -> Result<Outcome, AllocError>
     requires there { (name : Text) → report_at (repository_in current.now) name ≡ None
         → value_at change.now name ≡ None }
     requires few { (repository_in current.now).count + 1 < 2 ^ 64 }
     requires obeys { repository_obeys (repository_in current.now) ≡ true }
-    requires spare { IfSome spare (λ s. Lacks s current.now) }
     ensures { IfOk result (λ o. Makes o (change_told (version_in current.now) change.now)
         (version_after change.now (version_in current.now))) }
 {
-    let next = next_version(alloc, current, spare, change)?;
+    let next = current.after(alloc, change)?;
     match next.first_disallowed(change) {
         None => Ok(Outcome {
             reply: Reply::Committed(next.number()),
@@ -135,8 +114,11 @@ pub(crate) fn commit_outcome(
     ensures { IfOk result (λ o. Makes o (commit_told (version_in current.now) session.now.state session.now.state.kind)
         (version_after session.now.state.change (version_in current.now))) }
 {
-    match answered_at_once(current, session)? {
-        Some(reply) => Ok(reply_alone(reply)),
-        None => change_outcome(alloc, current, None, session.change()),
+    match session.kind() {
+        Kind::Review => Ok(reply_alone(Reply::Closed)),
+        Kind::Amend => match conflict(current, session) {
+            Some((number, thing)) => Ok(reply_alone(Reply::Conflict(number, thing.clone()?))),
+            None => change_outcome(alloc, current, session.change()),
+        },
     }
 }

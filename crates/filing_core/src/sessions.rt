@@ -39,11 +39,6 @@ impl Sessions {
         self.by_number.get(&number)
     }
 
-    /// Whether no more than one is open.
-    pub(crate) fn is_single(&self) -> bool {
-        self.by_number.len() < 2
-    }
-
     /// Puts a session under a number that is not open.
     pub(crate) fn insert(&mut self, number: u64, session: Session) -> Result<(), AllocError>
         ensures ok { OnOk result ((n : ℕ)
@@ -54,19 +49,11 @@ impl Sessions {
         Ok(())
     }
 
-    /// Takes a session out, where it is open. It takes no memory.
-    pub(crate) fn take_out(&mut self, number: u64) -> Option<Session>
-        ensures taken { result ≡ session_of self.old number }
-        ensures gone { (n : ℕ) → session_of self.new n ≡ cond (n == number) None (session_of self.old n) }
-    {
-        self.by_number.remove(&number)
-    }
-
-    /// The same of one that leaves nothing.
+    /// Takes a session out. It takes no memory.
     pub(crate) fn remove(&mut self, number: u64)
         ensures { (n : ℕ) → session_of self.new n ≡ cond (n == number) None (session_of self.old n) }
     {
-        drop(self.take_out(number));
+        drop(self.by_number.remove(&number));
     }
 
     /// Makes a call of a session, where it is open.
