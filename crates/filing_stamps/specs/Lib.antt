@@ -1,7 +1,7 @@
 pub mod Stamps
 pub mod StampSpans
-pub mod Recent
-pub mod LastPuts
+pub mod Layers
+pub mod LastStamps
 -- ---- laws that orders carry
 pub mod Lexicographic
 pub mod StampOrders

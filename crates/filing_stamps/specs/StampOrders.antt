@@ -86,3 +86,7 @@ among_is_monotone among =
     then_monotone (λ s. s.code) nat_cmp_total among.code
     (then_monotone (λ s. s.rank) nat_cmp_total among.rank
     (then_monotone (λ s. s.group) group_cmp-total among.group (named_monotone among.ids)))
+
+-- all stamps are a range
+pub all_is_monotone : IsMonotone stamp_cmp (λ s. Equal)
+all_is_monotone = record { before = λ x y l h. h; until = λ x y l h. h }

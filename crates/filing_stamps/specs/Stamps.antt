@@ -1,14 +1,12 @@
 -- The stamps of one report: what touched facts leave behind, each with the number of the last touch. The project's own.
-use Rattle.std.specs.Prelude.{◌≡◌, ℕ, ◌+◌, ◌*◌, ◌/◌, min, nat_lt, Bool, true, false, cond, not}
-use Rattle.std.specs.Prelude.{List, [], ◌∷◌, ◌++◌, map, Option, Some, None}
-use Rattle.std.specs.List.{AllByRecursion, flat_map, list_any}
+use Rattle.std.specs.Prelude.{ℕ, ◌+◌, ◌*◌, ◌/◌, min, nat_lt, Bool, true, false, cond, not}
+use Rattle.std.specs.Prelude.{List, [], ◌∷◌, ◌++◌, Option, Some, None}
+use Rattle.std.specs.List.{flat_map}
 use Rattle.std.specs.Option.{option_cmp, option_map, option_map_or}
 use Rattle.std.specs.Ordering.{on, then_cmp, ordering_then, nat_cmp, is_lt}
 use Rattle.std.specs.declared.cmp.Ordering.{Ordering}
 use Rattle.std.specs.declared.cmp.Ordering.TheVariants.{Less, Equal, Greater}
 use Rattle.sorted_pages.specs.Pages.{greatest}
-use Rattle.sorted_pages.specs.declared.edit.Edit.{Edit}
-use Rattle.sorted_pages.specs.declared.edit.Edit.TheVariants.{Put}
 use Rattle.sorted_pages.specs.Ranges.{within}
 use Rattle.filing_model.specs.Common.Text.{Text, text_cmp}
 use Rattle.filing_model.specs.Oim.Dimensions.{Dims, dims_cmp, dims_eq, concept_of, period_of}
@@ -145,15 +143,6 @@ stamps_of_change number move =
 -- each that fact changes leave, some more than once
 abbrev pub stamps_of_changes : ℕ → List FactChange → List Stamp
 stamps_of_changes number fact_changes = flat_map (stamps_of_change number) fact_changes
-
--- puts of stamps, each of these or of one that ties with it: they have the one number that all of these have, and nothing that
--- treats those that tie alike tells them from these
-pub record ArePuts (stamps : List Stamp) (changes : List (Edit Stamp)) : Type 0 where
-  pub entries : List Stamp
-  pub puts : changes ≡ map Put entries
-  pub numbered : (n : ℕ) → AllByRecursion (λ s. s.number ≡ n) stamps → AllByRecursion (λ s. s.number ≡ n) entries
-  pub alike : (test : Stamp → Bool) → ((x y : Stamp) → stamp_cmp x y ≡ Equal → test x ≡ test y)
-      → list_any test entries ≡ list_any test stamps
 
 -- ---- the stamp of a part
 
