@@ -213,15 +213,6 @@ impl Session {
         self.work.staging.change()
     }
 
-    /// What it has staged, where it ends: all versions that it held are given up. It takes no memory.
-    pub fn into_change(self) -> Change
-        ensures { result ≡ self.state.change }
-    {
-        let Session { work, .. } = self;
-        let Work { staging, .. } = Box::into_inner(work);
-        staging.into_change()
-    }
-
     /// Prepares a call: allocates all that it needs. No reply changes, and nothing is read or staged.
     pub fn ready(&mut self, call: Call) -> Result<Ready, AllocError>
         ensures effect { IfOk result (λ r. r ≡ effect_on (call_of call) self.old.state) }

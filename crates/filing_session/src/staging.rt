@@ -147,14 +147,6 @@ impl Staging {
         &self.change
     }
 
-    /// What was staged, which is given up with its versions. It takes no memory.
-    pub(crate) fn into_change(self) -> Change
-        ensures { result ≡ self.1 }
-    {
-        let Staging { change, .. } = self;
-        change
-    }
-
     /// What stands at an identifier. It takes no memory, nor do the two below.
     pub(crate) fn get(&self, report: &str, id: &str) -> Got<'_>
         ensures { got_of result ≡ option_map (λ r. fact_in r id.now) (report_at self.now.0 report.now) }

@@ -1,14 +1,12 @@
--- Which parts the stamps of fact changes stand in, and what they make of the stamps before.
-use Rattle.std.proofs.Common.{◌≡◌, ◌∙◌, ap, sym, subst, refl, ℕ, ◌≤◌, Bool, true, false, cond, ◌&&◌, ◌||◌}
+-- Which parts the stamps of fact changes stand in, and their number.
+use Rattle.std.proofs.Common.{◌≡◌, ◌∙◌, ap, sym, refl, ℕ, Bool, true, false, cond, ◌&&◌, ◌||◌}
 use Rattle.std.proofs.Common.{List, [], ◌∷◌, ◌++◌, Option, Some, None, is_none, Ordering, Less, Equal, Greater}
 use Rattle.std.proofs.Common.{is_eq, true≢false}
 use Rattle.std.proofs.Math.Bool.{or_self}
 use Rattle.std.specs.Cmp.{Equal-is, tied_itself, tied_then, nat_cmp_total, eq_by_cmp_equiv}
-use Rattle.std.specs.List.{list_any, flat_map}
+use Rattle.std.specs.List.{AllByRecursion, list_any, flat_map}
 use Rattle.std.specs.Option.{option_cmp, option_eq, option_map, option_map_or}
 use Rattle.std.specs.Ordering.{nat_cmp, ordering_then}
-use Rattle.sorted_pages.specs.declared.edit.Edit.{Edit}
-use Rattle.sorted_pages.specs.Changes.{with_changes}
 use Rattle.filing_model.specs.Common.Text.{Text, text_cmp, text_eq}
 use Rattle.filing_model.specs.Oim.Dimensions.{Dims, dims_cmp, dims_eq, concept_of, period_of}
 use Rattle.filing_model.specs.Oim.Facts.{Fact}
@@ -20,16 +18,18 @@ use Rattle.filing_model.proofs.Common.Texts.{text_cmp-Equal, text_eq-sym}
 use Rattle.text_map.specs.Heads.{name_key}
 use Rattle.filing_model.proofs.Oim.DimensionSets.{dims_cmp-total, dims_cmp-Equal, dims_same, nullable_Equal}
 use Rattle.filing_model.proofs.Common.Tests.{both_are_equal}
-use Rattle.filing_facts.specs.FactChanges.{FactChange, Part, Id, Cell, Range, is_touched, is_touched_by, stamped_by}
+use Rattle.filing_facts.specs.FactChanges.{FactChange, Part, Id, Cell, Range, is_touched, is_touched_by}
 use Rattle.filing_stamps.specs.declared.stamp.StampKind.{StampKind}
 use Rattle.filing_stamps.specs.declared.stamp.StampKind.TheVariants as kind
-use Rattle.filing_stamps.specs.Stamps.{Group, no_group, group_cmp, group_hash, code_of, stamp_code, Stamp, stamp_cmp, stamps_of}
-use Rattle.filing_stamps.specs.Stamps.{stamps_if_there, stamps_between, stamps_of_change, stamps_of_changes}
-use Rattle.filing_stamps.specs.Stamps.{ArePuts, Between, is_upto}
-use Rattle.filing_stamps.specs.Stamps.{ids_side, among_side, part_among, stamp_in}
+use Rattle.filing_stamps.specs.Stamps.{Group, no_group, group_cmp, group_hash, code_of, stamp_code, Stamp, stamps_of}
+use Rattle.filing_stamps.specs.Stamps.{stamps_if_there, stamps_between, stamps_of_change}
+use Rattle.filing_stamps.specs.Stamps.{Between, is_upto}
+use Rattle.filing_stamps.specs.Stamps.{ids_side, among_side, part_among}
 use Rattle.std.proofs.lemmas.List.Folds.{list_any-append}
-use Rattle.filing_stamps.proofs.StampTies.{among_alike}
-use Rattle.filing_stamps.proofs.PutNumbers.{AllHave, put_all}
+
+-- all have the number
+abbrev pub AllHave : {E : Type 0} → (E → ℕ) → ℕ → List E → Type 0
+AllHave f n es = AllByRecursion (λ e. f e ≡ n) es
 
 -- ---- tests
 
@@ -306,19 +306,3 @@ moves_have n [] = tt
 moves_have n (move ∷ fact_changes) =
     both_have n (stamps_of_change n move) (flat_map (stamps_of_change n) fact_changes) (between_has n move.id move.old move.new)
     (moves_have n fact_changes)
-
-pub puts_of_these : {left these : List Stamp} {changes others : List (Edit Stamp)} → left ≡ these → others ≡ changes → ArePuts left changes → ArePuts these others
-puts_of_these {left} {these} {changes} {others} e same are = subst (λ (ss : List Stamp). ArePuts ss others) e (subst (λ (cs : List (Edit Stamp)). ArePuts left cs) (sym same) are)
-
--- stamps of fact changes that are put in: what they touch has their number, all else keeps its own
-pub stamped : (fact_changes : List FactChange) (n : ℕ) (stamps : List Stamp) (changes : List (Edit Stamp)) → ArePuts (stamps_of_changes n fact_changes) changes
-    → ((part : Part) → stamp_in stamps part ≤ n) → stamp_in (with_changes stamp_cmp changes stamps) ≡ stamped_by fact_changes n (stamp_in stamps)
-stamped fact_changes n stamps changes are upto = λ i part. at part i
-  where
-    at : (part : Part) → stamp_in (with_changes stamp_cmp changes stamps) part ≡ stamped_by fact_changes n (stamp_in stamps) part
-    at part =
-        ap (λ (cs : List (Edit Stamp)). stamp_in (with_changes stamp_cmp cs stamps) part) are.puts
-        ∙ put_all stamp_cmp (λ s. s.number) (among_side (part_among part)) (among_alike (part_among part)) n are.entries stamps
-        (are.numbered n (moves_have n fact_changes)) (upto part)
-        ∙ ap (λ b. cond b n (stamp_in stamps part))
-        (are.alike (λ s. is_eq (among_side (part_among part) s)) (λ x y e. ap is_eq (among_alike (part_among part) x y e)) ∙ moves_hit part n fact_changes)

@@ -1,10 +1,9 @@
 pub mod OrderedGroups
 pub mod StampKinds
 pub mod StampTies
-pub mod PutNumbers
-pub mod LaterPuts
 pub mod ChangedParts
-pub mod GatheredStamps
+pub mod SortedStamps
 pub mod GreatestNumbers
 pub mod NewestStamps
-pub mod RecentStamps
+pub mod AllStamps
+pub mod GreatestStamps

@@ -1,21 +1,16 @@
--- Stamps that were sorted, of those that tie the one with the greatest number, and puts of them.
-use Rattle.std.proofs.Common.{◌≡◌, ◌∙◌, ap, sym, refl, true≢false, ℕ, ◌≤◌, le_refl, Bool, true, false, cond, List, [], ◌∷◌, map, Ordering, Less, Equal, Greater, is_eq, is_lt, IsPermutation}
+-- Stamps that were sorted, of those that tie the one with the greatest number.
+use Rattle.std.proofs.Common.{◌≡◌, ◌∙◌, ap, sym, refl, true≢false, ℕ, ◌≤◌, le_refl, Bool, true, false, cond, List, Ordering, Less, Equal, Greater, is_eq, is_lt, IsPermutation}
 use Rattle.std.specs.Cmp.{Equal-is, IsTotalOrder, IsStrictWeakOrder, nat_cmp_total, on_total, back_total, then_total}
-use Rattle.std.specs.List.{AllByRecursion, Contains, dedup}
+use Rattle.std.specs.List.{dedup}
 use Rattle.std.specs.List.Sorted.{IsSorted}
 use Rattle.std.specs.Ordering.{eq_by_cmp, nat_cmp, ordering_then}
-use Rattle.std.proofs.lemmas.List.Elements.{All-contains, All-contains_itself, All-from_recursion, recursion_from_All}
-use Rattle.std.proofs.lemmas.List.Filters.{All-dedup}
-use Rattle.std.proofs.lemmas.List.Sorted.{All-permutation, ranks_by}
+use Rattle.std.proofs.lemmas.List.Sorted.{ranks_by}
 use Rattle.std.proofs.lemmas.Map.Keys.{ge_from_not_lt}
-use Rattle.sorted_pages.specs.declared.edit.Edit.{Edit}
-use Rattle.sorted_pages.specs.declared.edit.Edit.TheVariants.{Put}
 use Rattle.sorted_pages.specs.Pages.{greatest}
 use Rattle.sorted_pages.specs.Ranges.{within}
-use Rattle.filing_stamps.specs.LastPuts.{newest_cmp, AreLastPuts}
+use Rattle.filing_stamps.specs.LastStamps.{newest_cmp}
 use Rattle.filing_stamps.specs.Stamps.{Stamp, stamp_cmp, Among, among_side}
 use Rattle.filing_stamps.specs.StampOrders.{stamp_cmp-total}
-use Rattle.filing_stamps.proofs.GatheredStamps.{sorted_stamps_rise}
 use Rattle.filing_stamps.proofs.GreatestNumbers.{counted, greatest_counted, greatest_deduped, greatest_moved}
 use Rattle.filing_stamps.proofs.StampTies.{among_alike}
 
@@ -35,7 +30,7 @@ not_less Less s h = h
 not_less Equal s h = refl
 not_less Greater s h = refl
 
-sorted_by_place : (stamps : List Stamp) → IsSorted newest_cmp stamps → IsSorted stamp_cmp stamps
+pub sorted_by_place : (stamps : List Stamp) → IsSorted newest_cmp stamps → IsSorted stamp_cmp stamps
 sorted_by_place stamps h k d low high = not_less _ _ (h k d low high)
 
 -- ---- of those that tie the first has the greatest number
@@ -60,7 +55,7 @@ module _ (among : Among) where
       let same = (Equal-is (stamp_cmp x y)).0 tie in
       counted_falls (is_eq (among_side among x)) (is_eq (among_side among y)) x.number y.number (ap is_eq (among_alike among x y same)) (not_greater x y same h)
 
-  numbers_stay : (stamps sorted : List Stamp) → IsPermutation stamps sorted → IsSorted newest_cmp sorted
+  pub numbers_stay : (stamps sorted : List Stamp) → IsPermutation stamps sorted → IsSorted newest_cmp sorted
       → greatest (λ s. s.number) (within (among_side among) (dedup (eq_by_cmp stamp_cmp) sorted))
       ≡ greatest (λ s. s.number) (within (among_side among) stamps)
   numbers_stay stamps sorted moved h =
@@ -68,21 +63,3 @@ module _ (among : Among) where
       ∙ greatest_deduped number_among is_newer is_newer-ranks (eq_by_cmp stamp_cmp) falls sorted h
       ∙ greatest_moved number_among stamps sorted moved
       ∙ sym (greatest_counted (λ s. s.number) (among_side among) stamps)
-
--- puts of stamps that were sorted, one of those that tie
-pub are_last_puts : (stamps sorted kept : List Stamp) (changes : List (Edit Stamp)) → IsPermutation stamps sorted → IsSorted newest_cmp sorted
-    → kept ≡ dedup (eq_by_cmp stamp_cmp) sorted → changes ≡ map Put kept → AreLastPuts stamps changes
-are_last_puts stamps sorted kept changes moved h once are = record {
-  entries = dedup (eq_by_cmp stamp_cmp) sorted;
-  puts = are ∙ ap (map Put) once;
-  strict = sorted_stamps_rise sorted (sorted_by_place sorted h);
-  each =
-      recursion_from_All (Contains stamps) (dedup (eq_by_cmp stamp_cmp) sorted)
-      (All-dedup (eq_by_cmp stamp_cmp) (Contains stamps) sorted (All-permutation (Contains stamps) stamps sorted moved (All-contains_itself stamps)));
-  numbers = λ among. numbers_stay among stamps sorted moved h;
-}
-
--- what holds of each of the stamps holds of each that is put
-pub all_put : (P : Stamp → Type 0) (stamps entries : List Stamp) → AllByRecursion (Contains stamps) entries → AllByRecursion P stamps → AllByRecursion P entries
-all_put P stamps [] each all = tt
-all_put P stamps (e ∷ es) each all = (All-contains P stamps e (All-from_recursion P stamps all) each.0, all_put P stamps es each.1 all)

@@ -142,3 +142,24 @@ impl<'a> Span<Stamp> for Among<'a> {
         order_of_keys(key, self.code)
     }
 }
+
+/// All stamps.
+#[derive(Drop)]
+pub(crate) struct All;
+
+impl Span<Stamp> for All {
+    ghost use Rattle.std.specs.declared.cmp.Ordering.TheVariants.{Equal};
+    ghost use Rattle.filing_stamps.specs.StampOrders.{all_is_monotone};
+
+    ghost side = { λ a s. Equal };
+
+    ghost is_monotone = { λ a. all_is_monotone };
+
+    fn side(&self, _: &Stamp) -> Ordering {
+        Ordering::Equal
+    }
+
+    fn side_of_key(&self, _: u64) -> Option<Ordering> {
+        Some(Ordering::Equal)
+    }
+}

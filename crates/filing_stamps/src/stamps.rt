@@ -1,217 +1,66 @@
 //! The number of the last touch of each part of one report.
-ghost use Rattle.std.specs.Prelude.{◌≡◌, ◌++◌, ◌∷◌, ℕ, ◌≤◌, [], cond, map, max, IfOk, OnOk, option_map};
+ghost use Rattle.std.specs.Prelude.{◌≡◌, ◌++◌, ◌≤◌, max, IfOk, option_map};
 ghost use Rattle.std.specs.List.{AllByRecursion};
-ghost use Rattle.std.specs.Option.{option_copied};
 ghost use Rattle.sorted_pages.specs.Pages.{greatest};
 ghost use Rattle.sorted_pages.specs.Ranges.{within};
-ghost use Rattle.sorted_pages.specs.Sorted.{IsRising};
-ghost use Rattle.sorted_pages.specs.Changes.{entry_of};
 ghost use Rattle.filing_facts.specs.FactChanges.{Part, Id, Cell, Range, stamped_by};
 ghost use Rattle.filing_facts.specs.PeriodFilterRef.{period_filter_of};
-ghost use Rattle.filing_stamps.specs.Stamps.{ArePuts, among_side, coded_stamp, stamps_of, stamps_if_there, had_dims};
-ghost use Rattle.filing_stamps.specs.Recent.{AreWith, stamps_left};
-ghost use Rattle.filing_stamps.specs.Stamps.{stamps_between, stamps_of_change, stamps_of_changes, stamp_cmp, stamp_in};
+ghost use Rattle.filing_stamps.specs.Layers.{AreWith};
+ghost use Rattle.filing_stamps.specs.Stamps.{among_side, stamp_in};
 
-use crate::last_puts::last_puts;
+use crate::fact_stamps::left_by;
+use crate::kept_stamps::{append_all, greatest_since, shared};
+use crate::last_stamps::last_stamps;
+use crate::layer::Layer;
 use crate::left::Left;
 use crate::stamp::{Group, Stamp, StampKind};
 use crate::stamp_spans::{Among, IdRange};
-use filing_facts::{FactChange, IndexedFact, PeriodFilterRef};
+use filing_facts::{FactChange, PeriodFilterRef};
 use oim_fact::DimSet;
-use sorted_pages::{Edit, PageEntry, Paged};
 use std::alloc::{AllocError, Global};
 use std::marker::Model;
-use text_map::{NamedValue, SoughtName};
+use text_map::SoughtName;
 
 /// The number of the last touch of each part of one report, also of identifiers that were removed and of cells and
-/// ranges that are empty now. What the last commits left stands as they left it, since one commit touches few of the
-/// pages in which all is gathered, and each of these elsewhere. A changed copy shares what did not change.
+/// ranges that are empty now.
+///
+/// What the last commits left stands as they left it. What came before stands in layers, and each layer is longer than
+/// the next. So each stamp is sorted and copied some few times, also where no other lies near it. A changed copy shares
+/// what did not change.
 ///
 /// Contracts see the stamps that touched facts left, and `stamp_in` says which number a part has by them.
 #[derive(Drop)]
 pub struct Stamps {
     /// Of the last commits, oldest first.
     recent: Vec<Left>,
-    /// Of those before.
-    gathered: Paged<Stamp>,
-    /// None that is gathered has a greater number.
-    up_to: u64,
+    /// Of those before, oldest first.
+    layers: Vec<Layer>,
 }
 
 impl Model for Stamps {
     ghost use Rattle.std.specs.Prelude.{List, ◌++◌};
     ghost use Rattle.filing_stamps.specs.Stamps.{Stamp as PlainStamp};
-    ghost use Rattle.filing_stamps.specs.Recent.{stamps_left, AreKept};
+    ghost use Rattle.filing_stamps.specs.Layers.{all_stamps};
 
     ghost Value = { List PlainStamp };
 
-    ghost view = { λ s. stamps_left s.recent.items ++ s.gathered };
-
-    ghost invariant = { λ s. AreKept s.recent.items s.gathered s.up_to };
+    ghost view = { λ s. all_stamps s.recent.items ++ all_stamps s.layers.items };
 }
 
-/// Appends the stamp of one kind that a fact leaves.
-fn leave_one(
-    stamps: &mut Vec<Stamp>,
-    kind: StampKind,
-    held: &NamedValue<IndexedFact>,
-    number: u64,
-) -> Result<(), AllocError>
-    ensures { OnOk result (stamps.new.items ≡ stamps.old.items ++ coded_stamp kind number held.now ∷ []) }
+/// The layers that stay where so many stamps are gathered, and those that are gathered with them, since they are no more than all gathered so far.
+fn split_longer(layers: &[Layer], gathered: usize) -> (&[Layer], &[Layer])
+    ensures { layers.now ≡ result.0.now ++ result.1.now }
 {
-    stamps.push(Stamp::of(kind, held, number)?)?;
-    Ok(())
-}
-
-/// Appends the stamps that a fact leaves.
-fn leave(
-    stamps: &mut Vec<Stamp>,
-    held: &NamedValue<IndexedFact>,
-    number: u64,
-) -> Result<(), AllocError>
-    ensures { OnOk result (stamps.new.items ≡ stamps.old.items ++ stamps_of number held.now) }
-{
-    leave_one(stamps, StampKind::Identifier, held, number)?;
-    leave_one(stamps, StampKind::Cell, held, number)?;
-    leave_one(stamps, StampKind::AnyPeriod, held, number)?;
-    leave_one(stamps, StampKind::OnePeriod, held, number)?;
-    Ok(())
-}
-
-/// Appends the stamps of a fact that may be missing.
-fn leave_if_there(
-    stamps: &mut Vec<Stamp>,
-    held: Option<&NamedValue<IndexedFact>>,
-    number: u64,
-) -> Result<(), AllocError>
-    ensures { OnOk result (stamps.new.items ≡ stamps.old.items ++ stamps_if_there number (option_copied held.entry)) }
-{
-    match held {
-        Some(held) => leave(stamps, held, number),
-        None => Ok(()),
+    let mut longer = layers;
+    let mut gathered = gathered;
+    while let Some((last, before)) = longer.split_last() {
+        if gathered < last.count() {
+            break;
+        }
+        gathered = gathered.saturating_add(last.count());
+        longer = before;
     }
-}
-
-/// Whether a fact, where there was one, had these dimensions.
-fn had_dims(old: Option<&NamedValue<IndexedFact>>, dims: &DimSet) -> bool
-    ensures { result ≡ had_dims (option_copied old.entry) dims.now }
-{
-    match old {
-        Some(old) => old.value().dims() == dims,
-        None => false,
-    }
-}
-
-/// Appends the stamps of a new fact, and those of the old one unless both have the same dimensions. So no stamp holds
-/// what a fact of the same dimensions has replaced.
-fn leave_new(
-    stamps: &mut Vec<Stamp>,
-    old: Option<&NamedValue<IndexedFact>>,
-    new: &NamedValue<IndexedFact>,
-    number: u64,
-) -> Result<(), AllocError>
-    ensures { OnOk result (stamps.new.items
-        ≡ stamps.old.items ++ cond (had_dims (option_copied old.entry) new.now.1.dims) (stamps_of number new.now)
-        (stamps_if_there number (option_copied old.entry) ++ stamps_of number new.now)) }
-{
-    if had_dims(old, new.value().dims()) {
-        return leave(stamps, new, number);
-    }
-    leave_if_there(stamps, old, number)?;
-    leave(stamps, new, number)
-}
-
-/// Appends the stamps of facts that stood at an identifier before and that stand there after.
-fn leave_between(
-    stamps: &mut Vec<Stamp>,
-    old: Option<&NamedValue<IndexedFact>>,
-    new: Option<&NamedValue<IndexedFact>>,
-    number: u64,
-) -> Result<(), AllocError>
-    ensures { OnOk result (stamps.new.items
-        ≡ stamps.old.items ++ stamps_between number (option_copied old.entry) (option_copied new.entry)) }
-{
-    match new {
-        Some(new) => leave_new(stamps, old, new, number),
-        None => leave_if_there(stamps, old, number),
-    }
-}
-
-/// Appends the stamps that a fact change leaves.
-fn leave_both(stamps: &mut Vec<Stamp>, each: &FactChange, number: u64) -> Result<(), AllocError>
-    ensures { OnOk result (stamps.new.items ≡ stamps.old.items ++ stamps_of_change number each.now) }
-{
-    leave_between(stamps, each.old(), each.new(), number)
-}
-
-/// The stamps that fact changes leave, some more than once.
-fn left_by(
-    alloc: Global,
-    fact_changes: &[FactChange],
-    number: u64,
-) -> Result<Vec<Stamp>, AllocError>
-    ensures { IfOk result (λ s. s.items ≡ stamps_of_changes number fact_changes.now) }
-{
-    let mut stamps = Vec::with_capacity(alloc, fact_changes.len().saturating_mul(4))?;
-    for each in fact_changes {
-        leave_both(&mut stamps, each, number)?;
-    }
-    Ok(stamps)
-}
-
-/// Puts of stamps in order, one of those that tie.
-fn puts(alloc: Global, stamps: Vec<Stamp>) -> Result<Vec<Edit<Stamp>>, AllocError>
-    ensures all { IfOk result (λ changes. ArePuts stamps.items changes.items) }
-    ensures rising { IfOk result (λ changes. IsRising stamp_cmp (map entry_of changes.items)) }
-{
-    let mut stamps = stamps;
-    stamps.sort_unstable();
-    stamps.dedup();
-    stamps.into_iter().map(Edit::Put).collect(alloc)
-}
-
-/// The same, which are shared.
-fn shared_lefts(alloc: Global, recent: &[Left]) -> Result<Vec<Left>, AllocError>
-    ensures { IfOk result (λ lefts. lefts.items ≡ recent.now) }
-{
-    let mut lefts = Vec::with_capacity(alloc, recent.len().saturating_add(1))?;
-    for left in recent {
-        lefts.push(left.share()?)?;
-    }
-    Ok(lefts)
-}
-
-/// Appends stamps, which are shared.
-fn push_shares(all: &mut Vec<Stamp>, stamps: &[Stamp]) -> Result<(), AllocError>
-    ensures { OnOk result (all.new.items ≡ all.old.items ++ stamps.now) }
-{
-    for stamp in stamps {
-        all.push(stamp.share()?)?;
-    }
-    Ok(())
-}
-
-/// Stamps with those that commits left.
-fn with_lefts(left: Vec<Stamp>, recent: &[Left]) -> Result<Vec<Stamp>, AllocError>
-    ensures { IfOk result (λ all. all.items ≡ left.items ++ stamps_left recent.now) }
-{
-    let mut all = left;
-    for each in recent {
-        push_shares(&mut all, each.stamps())?;
-    }
-    Ok(all)
-}
-
-/// A number that none of these exceeds.
-fn greatest_number(recent: &[Left], number: u64) -> u64
-    ensures at_least { number ≤ result }
-    ensures all { AllByRecursion (λ l. l.number ≤ result) recent.now }
-{
-    let mut greatest = number;
-    for left in recent {
-        greatest = greatest.max(left.number());
-    }
-    greatest
+    layers.split_at(longer.len())
 }
 
 impl Stamps {
@@ -221,8 +70,7 @@ impl Stamps {
     {
         Stamps {
             recent: Vec::new(alloc),
-            gathered: Paged::new(alloc),
-            up_to: 0,
+            layers: Vec::new(alloc),
         }
     }
 
@@ -230,16 +78,8 @@ impl Stamps {
     fn greatest_since(&self, among: &Among<'_>, since: u64) -> u64
         ensures { max since result ≡ max since (greatest (λ s. s.number) (within (among_side among.now) self.now)) }
     {
-        let mut number = 0u64;
-        if since < self.up_to {
-            number = self.gathered.range(among).summed();
-        }
-        for left in &self.recent {
-            if since < left.number() {
-                number = number.max(left.greatest(among));
-            }
-        }
-        number
+        let number = greatest_since(&self.recent, among, since);
+        number.max(greatest_since(&self.layers, among, since))
     }
 
     /// The number of the last touch of an identifier, or 0.
@@ -328,36 +168,29 @@ impl Stamps {
 
     /// With what one commit more left.
     fn with_left(&self, alloc: Global, left: Vec<Stamp>, number: u64) -> Result<Stamps, AllocError>
-        requires later { (part : Part) → stamp_in self.now part ≤ number }
-        requires numbered { AllByRecursion (λ s. s.number ≡ number) left.items }
+        requires { AllByRecursion (λ s. s.number ≡ number) left.items }
         ensures { IfOk result (λ s. AreWith left.items self.now s) }
     {
-        let mut recent = shared_lefts(alloc, &self.recent)?;
+        let mut recent = shared(alloc, &self.recent)?;
         recent.push(Left::of(alloc, number, left)?)?;
-        Ok(Stamps {
-            recent,
-            gathered: self.gathered.after(alloc, &[])?,
-            up_to: self.up_to,
-        })
+        let layers = shared(alloc, &self.layers)?;
+        Ok(Stamps { recent, layers })
     }
 
-    /// The same, where all is gathered.
-    fn with_all_gathered(
-        &self,
-        alloc: Global,
-        left: Vec<Stamp>,
-        number: u64,
-    ) -> Result<Stamps, AllocError>
-        requires later { (part : Part) → stamp_in self.now part ≤ number }
-        requires numbered { AllByRecursion (λ s. s.number ≡ number) left.items }
+    /// The same, where no commit stands by itself.
+    fn with_layer(&self, alloc: Global, left: Vec<Stamp>) -> Result<Stamps, AllocError>
         ensures { IfOk result (λ s. AreWith left.items self.now s) }
     {
-        let all = with_lefts(left, &self.recent)?;
-        let changes = last_puts(alloc, all)?;
+        let mut gathered = left;
+        append_all(&self.recent, &mut gathered)?;
+        let (longer, others) = split_longer(&self.layers, gathered.len());
+        append_all(others, &mut gathered)?;
+        let layer = Layer::of_sorted(alloc, last_stamps(gathered)?)?;
+        let mut layers = shared(alloc, longer)?;
+        layers.push(layer)?;
         Ok(Stamps {
             recent: Vec::new(alloc),
-            gathered: self.gathered.after(alloc, &changes)?,
-            up_to: greatest_number(&self.recent, self.up_to.max(number)),
+            layers,
         })
     }
 
@@ -375,36 +208,7 @@ impl Stamps {
         if self.has_room(&left) {
             self.with_left(alloc, left, number)
         } else {
-            self.with_all_gathered(alloc, left, number)
+            self.with_layer(alloc, left)
         }
-    }
-
-    /// The same, in place where no others hold what changes.
-    pub fn into_after(
-        self,
-        alloc: Global,
-        fact_changes: &[FactChange],
-        number: u64,
-    ) -> Result<Stamps, AllocError>
-        requires { (part : Part) → stamp_in self part ≤ number }
-        ensures { IfOk result (λ s. stamp_in s ≡ stamped_by fact_changes.now number (stamp_in self)) }
-    {
-        if !self.recent.is_empty() {
-            let after = self.after(alloc, fact_changes, number);
-            drop(self);
-            return after;
-        }
-        let left = left_by(alloc, fact_changes, number)?;
-        let changes = puts(alloc, left)?;
-        let Stamps {
-            recent,
-            gathered,
-            up_to,
-        } = self;
-        Ok(Stamps {
-            recent,
-            gathered: gathered.into_after(alloc, &changes)?,
-            up_to: up_to.max(number),
-        })
     }
 }

@@ -89,20 +89,6 @@ impl Change {
         })
     }
 
-    /// Whether it is of few facts: the pages of one that is not are cheaper to copy than to change one fact at a time.
-    pub fn is_small(&self) -> bool {
-        let mut facts = 0usize;
-        for part in self.reports.iter() {
-            for _ in part.value().facts().iter() {
-                if facts >= 64 {
-                    return false;
-                }
-                facts = facts.saturating_add(1);
-            }
-        }
-        true
-    }
-
     /// The change with a put into a report, in the place of an earlier put of its identifier. This change stays as it is.
     pub fn with_record(&self, report: &str, put: PutRecord) -> Result<Change, AllocError>
         ensures { IfOk result (λ next. next ≡ with_change self.now report.now put.0 put.1) }

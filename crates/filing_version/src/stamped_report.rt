@@ -125,25 +125,6 @@ fn facts_with(
     }
 }
 
-/// Facts with puts laid over them, and the stamps of their parts, which have this number where the puts touch them. Both change in place where no others hold what changes.
-fn moved_in_place(
-    alloc: Global,
-    facts: Facts,
-    stamps: Stamps,
-    puts: &TextPages<Option<IndexedFact>>,
-    number: u64,
-) -> Result<(Facts, Stamps), AllocError>
-    requires { (part : Part) → stamp_in stamps part ≤ number }
-    ensures facts { IfOk result (λ moved. moved.0 ≡ with_changes puts.now.entries facts) }
-    ensures stamps { IfOk result (λ moved. stamp_in moved.1
-        ≡ stamped_by (fact_changes_of puts.now.entries facts) number (stamp_in stamps)) }
-{
-    let fact_changes = facts.fact_changes(alloc, puts)?;
-    let stamps = stamps.into_after(alloc, &fact_changes, number)?;
-    let facts = facts.into_after(alloc, &fact_changes)?;
-    Ok((facts, stamps))
-}
-
 impl StampedReport {
     /// A report that is loaded as this version. Its facts are shared, all else is copied.
     pub(crate) fn new(
@@ -203,44 +184,6 @@ impl StampedReport {
             header,
             facts,
             loaded: self.loaded,
-            declared,
-            stamps,
-        })
-    }
-
-    /// The same, in place where no other version holds what changes.
-    pub(crate) fn into_after(
-        self,
-        alloc: Global,
-        change: &ChangedReport,
-        number: u64,
-    ) -> Result<StampedReport, AllocError>
-        requires { (part : Part) → stamp_in self.stamps part ≤ number }
-        ensures { IfOk result (λ f. filed_of f ≡ changed_filed number change.now (filed_of self)) }
-    {
-        let StampedReport {
-            header: header_before,
-            facts: facts_before,
-            loaded,
-            declared: declared_before,
-            stamps: stamps_before,
-        } = self;
-        let header = declaring(alloc, &header_before, change.declared())?;
-        let declared = match change.declared() {
-            Some(_) => number,
-            None => declared_before,
-        };
-        let (facts, stamps) = moved_in_place(
-            alloc,
-            facts_before,
-            stamps_before,
-            change.facts(),
-            number,
-        )?;
-        Ok(StampedReport {
-            header,
-            facts,
-            loaded,
             declared,
             stamps,
         })

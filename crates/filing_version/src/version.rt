@@ -64,22 +64,6 @@ fn changed_entry(
     NamedValue::new(alloc, name, changed)
 }
 
-/// The same, stamped with this number.
-fn stamped_entry(
-    alloc: Global,
-    name: String,
-    filed: StampedReport,
-    change: &ChangedReport,
-    number: u64,
-) -> Result<NamedValue<StampedReport>, AllocError>
-    requires { (part : Part) → part_stamp filed.stamps part ≤ number }
-    ensures name { IfOk result (λ n. n.0 ≡ string_bytes name) }
-    ensures report { IfOk result (λ n. filed_of n.1 ≡ changed_filed number change.now (filed_of filed)) }
-{
-    let next = filed.into_after(alloc, change, number)?;
-    NamedValue::new(alloc, name, next)
-}
-
 /// Takes the report of a name out of a few reports, where nothing else holds it.
 fn take_alone(
     alloc: Global,
@@ -142,7 +126,7 @@ fn with_stamped_part(
 }
 
 /// The same in the place of these reports, which stay where it is not there.
-fn into_copied_stamped_part(
+fn into_stamped_part(
     alloc: Global,
     reports: TextPages<StampedReport>,
     part: &NamedValue<ChangedReport>,
@@ -162,27 +146,6 @@ fn into_copied_stamped_part(
             drop(reports);
             Err(error)
         }
-    }
-}
-
-/// The same, in place where no other version holds what changes.
-fn into_stamped_part(
-    alloc: Global,
-    reports: TextPages<StampedReport>,
-    part: &NamedValue<ChangedReport>,
-    number: u64,
-) -> Result<TextPages<StampedReport>, AllocError>
-    requires { IsStampedUpTo number (mapped filed_of reports) }
-    ensures { IfOk result (λ next. mapped filed_of next
-        ≡ filed_after number (part.now ∷ []) (mapped filed_of reports)) }
-{
-    let (reports, taken) = take_alone(alloc, reports, part.name())?;
-    match taken {
-        Some((name, filed)) => {
-            let changed = stamped_entry(alloc, name, filed, part.value(), number);
-            with_entry(alloc, reports, changed)
-        }
-        None => into_copied_stamped_part(alloc, reports, part, number),
     }
 }
 
@@ -283,21 +246,8 @@ impl RepoVersion {
         requires few { (repository_in self.now).count + 1 < 2 ^ 64 }
         ensures { IfOk result (λ v. version_in v ≡ version_after change.now (version_in self.now)) }
     {
-        let version = self.again(alloc)?;
-        version.into_after(alloc, change)
-    }
-
-    /// The version as `after` has it, in place where no other version holds what changes.
-    pub fn into_after(self, alloc: Global, change: &Change) -> Result<RepoVersion, AllocError>
-        requires there { (name : Text) → report_at (repository_in self) name ≡ None → value_at change.now name ≡ None }
-        requires few { (repository_in self).count + 1 < 2 ^ 64 }
-        ensures { IfOk result (λ v. version_in v ≡ version_after change.now (version_in self)) }
-    {
-        let RepoVersion {
-            number: before,
-            mut reports,
-        } = self;
-        let number = before + 1;
+        let number = self.number + 1;
+        let mut reports = self.reports.share(alloc)?;
         for part in change.reports() {
             reports = into_stamped_part(alloc, reports, part, number)?;
         }

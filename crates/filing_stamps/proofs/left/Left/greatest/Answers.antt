@@ -1,13 +1,13 @@
 use Rattle.std.proofs.Common.{◌≡◌, ◌∙◌, ap, sym, ◌+◌, max, cond, List, [], ◌∷◌, ◌++◌, take, is_eq}
 use Rattle.std.proofs.lemmas.List.{take_more}
 use Rattle.filing_stamps.specs.Stamps.{Stamp, among_side}
-use Rattle.filing_stamps.proofs.RecentStamps.{best, best-push}
+use Rattle.filing_stamps.proofs.GreatestStamps.{best, best-push}
 use Rattle.filing_stamps.proofs.left.Left.greatest.Goals as goal
 use Rattle.filing_stamps.proofs.left.Left.greatest.Goals.{then-is_eq, else-is_eq}
 
 pub loop-stamp-preserved : goal.loop-stamp-preserved
 loop-stamp-preserved c =
-    let items : List Stamp = c.stamps-stamp-items.result.now in
+    let items : List Stamp = c.deref-stamp-items.result.now in
     let i = c.loop-stamp.stamp-index in
     let s : Stamp = c.stamp-item.result in
     let side = among_side c.args.among.now in

@@ -1,28 +1,17 @@
-use Rattle.std.proofs.Common.{◌≡◌, ◌∙◌, ap, sym, subst, ◌≤◌, max, List, [], ◌∷◌, ◌++◌}
-use Rattle.filing_facts.specs.FactChanges.{Part}
+use Rattle.std.proofs.Common.{◌≡◌, ◌∙◌, ap, max, List, [], ◌∷◌, ◌++◌}
 use Rattle.filing_stamps.specs.Stamps.{Stamp, stamp_in}
-use Rattle.filing_stamps.specs.Recent.{Left, stamps_left, AreKept}
-use Rattle.filing_stamps.proofs.RecentStamps.{kept_with_left, with_left}
+use Rattle.filing_stamps.specs.Layers.{all_stamps}
+use Rattle.filing_stamps.proofs.GreatestStamps.{with_left}
 use Rattle.filing_stamps.proofs.stamps.Stamps.with_left.Goals as goal
-
-pub invariant_of-result : goal.invariant_of-result
-invariant_of-result c =
-    let recent : List Left = c.self.inside.recent.items in
-    let l : Left = record { number = c.args.number; stamps = c.args.left.items } in
-    let pushed : c.push.new.self.items ≡ recent ++ l ∷ [] =
-    c.in_ok-push.ensures.items ∙ (λ i. (c.in_ok-recent.ensures ∙ c.deref.ensures.value) i ++ c.in_ok-of.ensures i ∷ []) in
-    let later : (part : Part) → stamp_in (stamps_left recent ++ c.self.inside.gathered) part ≤ c.args.number =
-    λ part. subst (λ (ss : List Stamp). stamp_in ss part ≤ c.args.number) (sym c.self.view_is) (c.requires.later part) in
-    subst (λ (rs : List Left). AreKept rs c.in_ok-after.field-0 c.self.inside.up_to) (sym pushed)
-    (subst (λ (g : List Stamp). AreKept (recent ++ l ∷ []) g c.self.inside.up_to) (sym c.in_ok-after.ensures)
-    (kept_with_left recent c.self.inside.gathered c.self.inside.up_to l c.self.invariant c.requires.numbered later))
 
 pub returns : goal.returns
 returns c = λ part.
-    let recent : List Left = c.self.inside.recent.items in
-    let l : Left = record { number = c.args.number; stamps = c.args.left.items } in
-    let pushed : c.push.new.self.items ≡ recent ++ l ∷ [] =
+    let recent : List (List Stamp) = c.self.inside.recent.items in
+    let layers : List (List Stamp) = c.self.inside.layers.items in
+    let left : List Stamp = c.args.left.items in
+    let pushed : c.push.new.self.items ≡ recent ++ left ∷ [] =
     c.in_ok-push.ensures.items ∙ (λ i. (c.in_ok-recent.ensures ∙ c.deref.ensures.value) i ++ c.in_ok-of.ensures i ∷ []) in
-    (λ i. stamp_in (stamps_left (pushed i) ++ c.in_ok-after.ensures i) part)
-    ∙ with_left recent c.self.inside.gathered l part
-    ∙ ap (λ (ss : List Stamp). max (stamp_in c.args.left.items part) (stamp_in ss part)) c.self.view_is
+    let same : c.in_ok-layers.layers.items ≡ layers = c.in_ok-layers.ensures ∙ c.deref-2.ensures.value in
+    (λ i. stamp_in (all_stamps (pushed i) ++ all_stamps (same i)) part)
+    ∙ with_left recent layers left part
+    ∙ ap (λ (ss : List Stamp). max (stamp_in left part) (stamp_in ss part)) c.self.view_is

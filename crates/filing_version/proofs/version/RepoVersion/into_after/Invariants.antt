@@ -1,7 +1,0 @@
-use Rattle.std.proofs.Common.{◌+◌}
-use Rattle.filing_version.specs.Filed.{mapped, filed_of}
-use Rattle.filing_version.proofs.StampedReports.{LaysTheRest}
-use Rattle.filing_version.proofs.version.RepoVersion.into_after.Given as goal
-
-abbrev pub invariant-loop-part : goal.invariant-loop-part
-invariant-loop-part l = LaysTheRest (l.fn.self.number + 1) l.change.entries (mapped filed_of l.fn.self.reports) l.part-iterator (mapped filed_of l.reports)
