@@ -11,7 +11,7 @@ use crate::session::effect;
 use crate::staging::Staging;
 use filing_model::Kind;
 use filing_step::{Call, Reply};
-use filing_version::{KeyCache, RepoVersion};
+use filing_version::RepoVersion;
 use std::alloc::{AllocError, Global};
 use std::sync::Arc;
 
@@ -34,8 +34,7 @@ pub fn reply_at(alloc: Global, version: &Arc<RepoVersion>, call: Call) -> Result
         ≡ (answer kind.Review (call_of call) (repository_in (arc_value version.now))).0) }
 {
     let staging = Staging::new(alloc, Arc::try_clone(version)?);
-    let mut key_cache = KeyCache::new(alloc);
-    let ready = effect(alloc, Kind::Review, &staging, &mut key_cache, call);
+    let ready = effect(alloc, Kind::Review, &staging, &mut None, call);
     drop(staging);
     Ok(told(ready?))
 }

@@ -33,7 +33,8 @@ use std::sync::Arc;
 #[derive(Drop)]
 struct Work {
     staging: Staging,
-    key_cache: KeyCache,
+    /// It is made by the second put.
+    key_cache: Option<Box<KeyCache>>,
     reads: IndexSet<Thing, HashKeys>,
 }
 
@@ -98,7 +99,7 @@ fn apply_pending_for(alloc: Global, staging: &mut Staging, call: &Call) -> Resul
 fn prepare_call(
     alloc: Global,
     staging: &Staging,
-    key_cache: &mut KeyCache,
+    key_cache: &mut Option<Box<KeyCache>>,
     call: Call,
 ) -> Result<Ready, AllocError>
     ensures { IfOk result (λ r. r ≡ effect_in (call_of call) staging.now.0 staging.now.1
@@ -120,7 +121,7 @@ pub(crate) fn effect(
     alloc: Global,
     kind: Kind,
     staging: &Staging,
-    key_cache: &mut KeyCache,
+    key_cache: &mut Option<Box<KeyCache>>,
     call: Call,
 ) -> Result<Ready, AllocError>
     ensures { IfOk result (λ r. r ≡ effect_of kind (call_of call) staging.now.0 staging.now.1) }
@@ -175,7 +176,7 @@ impl Session {
         let version = Arc::try_clone(&base)?;
         let work = Work {
             staging: Staging::new(alloc, version),
-            key_cache: KeyCache::new(alloc),
+            key_cache: None,
             reads: IndexSet::with_hasher(alloc, keys),
         };
         Ok(Session {

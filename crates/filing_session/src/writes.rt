@@ -17,24 +17,29 @@ use std::sync::Arc;
 fn record_of(
     alloc: Global,
     staging: &Staging,
-    key_cache: &mut KeyCache,
+    key_cache: &mut Option<Box<KeyCache>>,
     id: String,
     fact: Option<Arc<Fact>>,
 ) -> Result<PutRecord, AllocError>
     ensures { IfOk result (λ p. p ≡ (string_bytes id, option_map arc_value fact)) }
 {
     if staging.change().is_empty() {
-        PutRecord::of(alloc, id, fact)
-    } else {
-        PutRecord::among(alloc, key_cache, id, fact)
+        return PutRecord::of(alloc, id, fact);
     }
+    if let Some(key_cache) = key_cache {
+        return PutRecord::among(alloc, key_cache, id, fact);
+    }
+    let mut first = Box::new(alloc, KeyCache::new(alloc))?;
+    let record = PutRecord::among(alloc, &mut first, id, fact)?;
+    *key_cache = Some(first);
+    Ok(record)
 }
 
 /// A fact is put, or removed, at an identifier, which is read.
 fn put(
     alloc: Global,
     staging: &Staging,
-    key_cache: &mut KeyCache,
+    key_cache: &mut Option<Box<KeyCache>>,
     report: String,
     id: String,
     fact: Option<Arc<Fact>>,
@@ -55,7 +60,7 @@ fn put(
 fn add_new(
     alloc: Global,
     staging: &Staging,
-    key_cache: &mut KeyCache,
+    key_cache: &mut Option<Box<KeyCache>>,
     report: String,
     id: String,
     raw: RawFact,
@@ -80,7 +85,7 @@ fn add_new(
 pub(crate) fn add(
     alloc: Global,
     staging: &Staging,
-    key_cache: &mut KeyCache,
+    key_cache: &mut Option<Box<KeyCache>>,
     report: String,
     id: String,
     raw: RawFact,
@@ -98,7 +103,7 @@ pub(crate) fn add(
 pub(crate) fn remove(
     alloc: Global,
     staging: &Staging,
-    key_cache: &mut KeyCache,
+    key_cache: &mut Option<Box<KeyCache>>,
     report: String,
     id: String,
 ) -> Result<Ready, AllocError>

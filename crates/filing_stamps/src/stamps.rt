@@ -63,6 +63,15 @@ fn split_longer(layers: &[Layer], gathered: usize) -> (&[Layer], &[Layer])
     layers.split_at(longer.len())
 }
 
+/// How many stamps stand in layers.
+fn count_of(layers: &[Layer]) -> usize {
+    let mut count = 0usize;
+    for layer in layers {
+        count = count.saturating_add(layer.count());
+    }
+    count
+}
+
 impl Stamps {
     /// Where nothing was touched. It takes no memory.
     pub fn new(alloc: Global) -> Stamps
@@ -184,6 +193,7 @@ impl Stamps {
         let mut gathered = left;
         append_all(&self.recent, &mut gathered)?;
         let (longer, others) = split_longer(&self.layers, gathered.len());
+        gathered.reserve(count_of(others))?;
         append_all(others, &mut gathered)?;
         let layer = Layer::of_sorted(alloc, last_stamps(gathered)?)?;
         let mut layers = shared(alloc, longer)?;

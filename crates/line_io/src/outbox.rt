@@ -11,7 +11,7 @@ use crate::sink::{Sink, write_all};
 use std::alloc::Global;
 
 // So many bytes of replies wait at most.
-const ROOM: usize = 65536;
+const ROOM: usize = 32768;
 
 /// Replies that wait to be written, so that many short ones go out in one write.
 #[derive(Drop)]

@@ -17,7 +17,7 @@ returns c = λ part.
     let fresh : c.append_all.new.all.items ≡ left ++ all_stamps recent =
     c.in_ok-append_all.ensures ∙ ap (λ (rs : List (List Stamp)). left ++ all_stamps rs) c.deref.ensures.value in
     let gathered : c.append_all-2.new.all.items ≡ (left ++ all_stamps recent) ++ all_stamps others =
-    c.in_ok-append_all-2.ensures ∙ ap (λ (ss : List Stamp). ss ++ all_stamps others) fresh in
+    c.in_ok-append_all-2.ensures ∙ ap (λ (ss : List Stamp). ss ++ all_stamps others) (c.reserve.ensures.items ∙ fresh) in
     let are : AreLast ((left ++ all_stamps recent) ++ all_stamps others) last =
     subst (λ (ss : List Stamp). AreLast ss last) gathered c.in_ok-last_stamps.ensures.last in
     let pushed : c.push.new.self.items ≡ longer ++ last ∷ [] =
