@@ -444,7 +444,7 @@ impl PageEntry for Stamp {
 
     ghost key_rises = { stamp_codes_rise };
 
-    /// As of facts under their identifiers.
+    /// Few, so that a look-up goes through few stamps at either end of its range.
     fn most_in_page() -> usize {
         16
     }

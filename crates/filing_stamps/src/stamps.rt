@@ -24,9 +24,9 @@ use text_map::SoughtName;
 /// The number of the last touch of each part of one report, also of identifiers that were removed and of cells and
 /// ranges that are empty now.
 ///
-/// What the last commits left stands as they left it. What came before stands in layers, and each layer is longer than
-/// the next. So each stamp is sorted and copied some few times, also where no other lies near it. A changed copy shares
-/// what did not change.
+/// What the last commits left stands as they left it. What came before stands in layers, and each layer is more than one
+/// and a half times as long as the next. So there are few, and each stamp is sorted and copied some few times, also where
+/// no other lies near it. A changed copy shares what did not change.
 ///
 /// Contracts see the stamps that touched facts left, and `stamp_in` says which number a part has by them.
 #[derive(Drop)]
@@ -47,14 +47,14 @@ impl Model for Stamps {
     ghost view = { λ s. all_stamps s.recent.items ++ all_stamps s.layers.items };
 }
 
-/// The layers that stay where so many stamps are gathered, and those that are gathered with them, since they are no more than all gathered so far.
+/// The layers that stay where so many stamps are gathered, and those that are gathered with them. A layer stays that is more than one and a half times as long as all gathered so far.
 fn split_longer(layers: &[Layer], gathered: usize) -> (&[Layer], &[Layer])
     ensures { layers.now ≡ result.0.now ++ result.1.now }
 {
     let mut longer = layers;
     let mut gathered = gathered;
     while let Some((last, before)) = longer.split_last() {
-        if gathered < last.count() {
+        if gathered.saturating_add(gathered / 2) < last.count() {
             break;
         }
         gathered = gathered.saturating_add(last.count());
