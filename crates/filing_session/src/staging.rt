@@ -15,6 +15,50 @@ use std::marker::Model;
 use std::mem;
 use std::sync::Arc;
 
+/// What is pending, behind a pointer, since few sessions have it and all have room for it. Contracts see the plain change.
+#[derive(Drop)]
+struct Pending {
+    alloc: Global,
+    change: Box<Change>,
+}
+
+impl Model for Pending {
+    ghost use Rattle.filing_model.specs.Sessions.Changes.{Change as PlainChange};
+
+    ghost Value = { PlainChange };
+
+    ghost view = { λ p. p.change.value };
+}
+
+impl Pending {
+    fn of(alloc: Global, change: Change) -> Result<Pending, AllocError>
+        ensures { IfOk result (λ p. p ≡ change) }
+    {
+        Ok(Pending {
+            alloc,
+            change: Box::new(alloc, change)?,
+        })
+    }
+
+    fn change(&self) -> &Change
+        ensures { result.now ≡ self.now }
+    {
+        &self.change
+    }
+
+    fn with_record(&self, report: &str, put: PutRecord) -> Result<Pending, AllocError>
+        ensures { IfOk result (λ p. p ≡ with_change self.now report.now put.0 put.1) }
+    {
+        Pending::of(self.alloc, self.change().with_record(report, put)?)
+    }
+
+    fn declaring(&self, report: &str, allowed: Allowed) -> Result<Pending, AllocError>
+        ensures { IfOk result (λ p. p ≡ with_declared self.now report.now allowed) }
+    {
+        Pending::of(self.alloc, self.change().declaring(report, allowed)?)
+    }
+}
+
 /// What is staged, and a version that has some of it. What it does not have yet is applied to it all at once, when a cell or a page is read; what stands at an identifier is read from both. Contracts see the copy with all that is staged, and the change.
 #[derive(Drop)]
 pub(crate) struct Staging {
@@ -23,7 +67,7 @@ pub(crate) struct Staging {
     /// The version of the opening with what is no more pending.
     version: Arc<RepoVersion>,
     /// What the version does not have yet, where that is not all that is staged.
-    pending: Option<Change>,
+    pending: Option<Pending>,
     change: Change,
 }
 
@@ -45,10 +89,13 @@ impl Model for Staging {
 }
 
 /// What is pending, where that is not all that is staged, or all.
-fn pending_of<'a>(pending: &'a Option<Change>, change: &'a Change) -> &'a Change
+fn pending_of<'a>(pending: &'a Option<Pending>, change: &'a Change) -> &'a Change
     ensures { result.now ≡ unwrap_or pending.now change.now }
 {
-    pending.as_ref().unwrap_or(change)
+    match pending {
+        None => change,
+        Some(pending) => pending.change(),
+    }
 }
 
 /// What stands where a fact is put, or where one is removed.
@@ -185,6 +232,7 @@ impl Staging {
         if pending_of(&self.pending, &self.change).is_empty() {
             return Ok(());
         }
+        let nothing = Pending::of(alloc, Change::new(alloc))?;
         let copy = match shared(&self.base)? {
             None => self.copy(alloc)?,
             Some(base) => {
@@ -197,7 +245,7 @@ impl Staging {
         };
         let base = mem::replace(&mut self.version, copy);
         self.base = Some(base);
-        self.pending = Some(Change::new(alloc));
+        self.pending = Some(nothing);
         Ok(())
     }
 
