@@ -1,7 +1,6 @@
 //! `Outcome`: the reply to a load or a commit, and the version that it makes.
 
 ghost use Rattle.std.specs.Prelude.{◌≡◌, ◌+◌, ◌<◌, ◌^◌, None, true, IfOk};
-ghost use Rattle.std.specs.Arc.{arc_value};
 ghost use Rattle.filing_model.specs.Common.Text.{Text};
 ghost use Rattle.filing_model.specs.Common.TextMap.{get as value_at};
 ghost use Rattle.filing_model.specs.Sessions.Repository.{report_at};
@@ -16,11 +15,9 @@ use crate::conflict::conflict;
 use crate::disallowed::disallowed;
 use filing_session::Session;
 use filing_step::{Kind, Reply};
-use filing_version::{Change, RepoVersion};
-use oim_report::Report;
+use filing_version::{Change, IndexedReport, RepoVersion};
 use std::alloc::{AllocError, Global};
 use std::marker::Model;
-use std::sync::Arc;
 
 /// A reply, and the version that it leaves, where it leaves another.
 #[derive(Drop)]
@@ -51,16 +48,16 @@ pub(crate) fn load_outcome(
     alloc: Global,
     current: &RepoVersion,
     name: &str,
-    report: &Arc<Report>,
+    report: IndexedReport,
 ) -> Result<Outcome, AllocError>
     requires { (repository_in current.now).count + 1 < 2 ^ 64 }
-    ensures { IfOk result (λ o. Makes o (load_reply (repository_in current.now) name.now (arc_value report.now))
-        (version_with name.now (arc_value report.now) (version_in current.now))) }
+    ensures { IfOk result (λ o. Makes o (load_reply (repository_in current.now) name.now report)
+        (version_with name.now report (version_in current.now))) }
 {
     if current.allowed(name).is_some() {
         return Ok(reply_alone(Reply::NameTaken));
     }
-    let next = current.with_shared_report(alloc, String::from_str(alloc, name)?, report)?;
+    let next = current.with_indexed_report(alloc, String::from_str(alloc, name)?, report)?;
     match next.disallowed_in(name) {
         None => Ok(Outcome {
             reply: Reply::Loaded(next.number()),

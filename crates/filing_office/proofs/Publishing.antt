@@ -12,7 +12,7 @@ use Rattle.filing_version.specs.Filed.{StampedReports, repository_in}
 use Rattle.filing_step.specs.Steps.{reply_of}
 use Rattle.filing_core.specs.Answers.{IsEntered}
 use Rattle.filing_core.specs.Prepared.{Preparation, MayFollow, IsPreparedFor, is_load_or_commit}
-use Rattle.filing_office.specs.Answers.{IsTold}
+use Rattle.filing_office.specs.Answers.{IsTold, IsSettled}
 use Rattle.filing_office.specs.Tallies.{Tally, IsReceipted, IsCounted}
 use Rattle.filing_office.specs.declared.answer.Answer.{Answer}
 use Rattle.filing_office.proofs.Numbered.{makes_none, one_more, no_more, count_after, told_number}
@@ -85,33 +85,33 @@ module _ {J : Type 0} (old new : History) (session : Option ℕ) (step : Step) (
 
 -- ---- a load or a commit, prepared, published and settled
 
-module _ (h new : History) (session : Option ℕ) (step : Step) (p : Preparation) (prepared : IsPreparedFor h session step p) (entered : new ≡ p.entry ∷ h) where
-  pub publishes : (old published : List Repository) → old ≡ versions h → published ≡ old ++ option_map_or (λ v. repository_in v ∷ []) p.next [] → published ≡ versions new
-  publishes old published before after =
-      after
-      ∙ ap (λ vs. vs ++ option_map_or (λ v. repository_in v ∷ []) p.next []) before
-      ∙ sym (versions_with h p prepared.follows p.next refl)
-      ∙ ap versions (sym entered)
+pub publishes : (h new : History) (p : Preparation) → MayFollow h p → new ≡ p.entry ∷ h → (old published : List Repository) → old ≡ versions h
+    → published ≡ old ++ option_map_or (λ v. repository_in v ∷ []) p.next [] → published ≡ versions new
+publishes h new p follows entered old published before after =
+    after
+    ∙ ap (λ vs. vs ++ option_map_or (λ v. repository_in v ∷ []) p.next []) before
+    ∙ sym (versions_with h p follows p.next refl)
+    ∙ ap versions (sym entered)
 
-  enters : (x : Reply) → x ≡ p.entry.reply → IsEntered h new session step x
-  enters x is = record {
-    told = prepared.told ∙ ap Some (sym is);
-    entry = entered ∙ ap (λ e. e ∷ h) (prepared.entry ∙ ap (λ (y : Reply). record { session = entered_under h session step; step = step; reply = y }) (sym is));
-    lawful = subst IsLawful (sym entered) prepared.follows.lawful;
-  }
-
-  pub tells : {J : Type 0} (a : Answer J) (published : List Repository) → reply_of a.reply ≡ p.entry.reply
-      → ((older : History) (e : Entry) → new ≡ e ∷ older → a.session ≡ e.session)
-      → published ≡ versions new → a.receipt ≡ option_map (λ _. published) p.next → IsTold h new session step a
-  tells a published replied last now receipt = record {
-    entered = enters (reply_of a.reply) replied;
-    under = last h p.entry entered ∙ ap (λ (e : Entry). e.session) prepared.entry;
+-- on a core that still had the history for which it was prepared
+module _ (h kept new : History) (session : Option ℕ) (step : Step) (p : Preparation) (prepared : IsPreparedFor h session step p) (same : kept ≡ h) where
+  pub tells : {J : Type 0} (a : Answer J) → IsSettled kept new p a → IsTold h new session step a
+  tells a settled = record {
+    entered = record {
+      told = prepared.told ∙ ap Some (sym settled.replied);
+      entry = entered
+          ∙ ap (λ e. e ∷ h) (prepared.entry ∙ ap (λ (y : Reply). record { session = entered_under h session step; step = step; reply = y }) (sym settled.replied));
+      lawful = subst IsLawful (sym entered) prepared.follows.lawful;
+    };
+    under = settled.under ∙ ap (λ (e : Entry). e.session) prepared.entry;
     receipt_is =
-        receipt
-        ∙ receipt_with h p prepared.follows published
-        ∙ ap (λ x. cond (counts x) (Some published) None) (sym replied)
-        ∙ ap (λ vs. cond (counts (reply_of a.reply)) (Some vs) None) now;
+        settled.receipt_is
+        ∙ receipt_with h p prepared.follows (versions new)
+        ∙ ap (λ x. cond (counts x) (Some (versions new)) None) (sym settled.replied);
   }
+    where
+      entered : new ≡ p.entry ∷ h
+      entered = settled.entered ∙ ap (λ (x : History). p.entry ∷ x) same
 
 -- ---- what the value behind the lock counts
 

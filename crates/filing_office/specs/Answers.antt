@@ -1,14 +1,17 @@
 -- What a step under the lock is answered. The project's own.
-use Rattle.std.specs.Prelude.{◌≡◌, ℕ, cond, Bool, true, false, Option, Some, None, IsSome, IsTrue, Result, Ok, Err}
+use Rattle.std.specs.Prelude.{◌≡◌, ℕ, ◌∷◌, cond, Bool, true, false, Option, Some, None, option_map, IsSome, IsTrue, Result, Ok, Err, string_bytes}
 use Rattle.filing_model.specs.Sessions.Replies as reply
 use Rattle.filing_model.specs.Histories.History.{Step, Load, Open, Ask, Commit, Close, History}
 use Rattle.filing_model.specs.Histories.Lawful.{entered_under}
 use Rattle.filing_model.specs.Histories.Versions.{counts, versions}
-use Rattle.filing_step.specs.Steps.{reply_of}
+use Rattle.filing_step.specs.Steps.{reply_of, step_of}
 use Rattle.filing_core.specs.Answers.{IsEntered, IsRefused, IsLeft}
 use Rattle.filing_core.specs.declared.fault.CoreFault.{CoreFault}
 use Rattle.filing_core.specs.declared.fault.CoreFault.TheVariants.{NoSession, NoMemory}
+use Rattle.filing_core.specs.Prepared.{Preparation}
 use Rattle.filing_office.specs.declared.answer.Answer.{Answer}
+use Rattle.filing_office.specs.declared.ready_step.ReadyStep.{ReadyStep}
+use Rattle.filing_office.specs.declared.ready_step.ReadyStep.TheVariants as ready
 
 -- one entry more, of which the answer tells the session and the reply; a receipt, there exactly where the entry makes a version, has the versions of the history as it is then
 pub record IsTold {J : Type 0} (old new : History) (session : Option ℕ) (step : Step) (a : Answer J) : Type 0 where
@@ -20,6 +23,18 @@ abbrev pub ApplyAnswers : {J : Type 0} → History → History → Option ℕ �
 ApplyAnswers old new session step (Ok a) = IsTold old new session step a
 ApplyAnswers old new session step (Err NoSession) = IsRefused old new session step
 ApplyAnswers old new session step (Err NoMemory) = IsLeft old new session step
+
+-- a prepared step was entered, and the version that it makes published
+pub record IsSettled {J : Type 0} (old new : History) (p : Preparation) (a : Answer J) : Type 0 where
+  pub entered : new ≡ p.entry ∷ old
+  pub replied : reply_of a.reply ≡ p.entry.reply
+  pub under : a.session ≡ p.entry.session
+  pub receipt_is : a.receipt ≡ option_map (λ _. versions new) p.next
+
+-- the step that was made ready
+abbrev pub step_made_ready : ReadyStep → Step
+step_made_ready (ready.Load name report) = Load (string_bytes name) report
+step_made_ready (ready.Other step) = step_of step
 
 -- ---- whatever the history
 

@@ -9,6 +9,7 @@ use crate::answer::Answer;
 use crate::desk::Desk;
 use crate::locked::Locked;
 use crate::office::Office;
+use crate::ready_step::ReadyStep;
 use filing_core::{CoreFault, Step};
 use filing_publish::Naming;
 use std::alloc::Global;
@@ -106,6 +107,10 @@ impl<'a, L: Ledger + Naming, M: Ledger, R: Wait> Access<L, M> for LockedBatch<'a
         session: Option<u64>,
         step: Step,
     ) -> Result<Answer<L>, CoreFault> {
+        if let Step::Load(_, _) = &step {
+            self.leave();
+        }
+        let step = ReadyStep::of(self.alloc, step)?;
         let mut locked = match self.held.take() {
             Some(locked) => locked,
             None => self.office.locked.lock(self.rt),

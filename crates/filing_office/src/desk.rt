@@ -7,6 +7,7 @@ ghost use Rattle.filing_office.specs.Tallies.{Counted};
 
 use crate::answer::Answer;
 use crate::office::Office;
+use crate::ready_step::ReadyStep;
 use filing_core::{CoreFault, Step};
 use filing_publish::Naming;
 use std::alloc::Global;
@@ -34,7 +35,7 @@ impl<L: Ledger, M: Ledger> Model for Desk<L, M> {
 }
 
 impl<L: Ledger + Naming, M: Ledger> Desk<L, M> {
-    /// Takes one step under the lock of its office. The receipt is there exactly with `Committed` and `Loaded`.
+    /// Takes one step under the lock of its office. The report of a load is indexed before. The receipt is there exactly with `Committed` and `Loaded`.
     pub fn step<R: Wait>(
         &mut self,
         rt: &R,
@@ -46,6 +47,7 @@ impl<L: Ledger + Naming, M: Ledger> Desk<L, M> {
         ensures counted { Counted self.old self.new result }
         ensures told { StepTold session (step_of step) result }
     {
+        let step = ReadyStep::of(alloc, step)?;
         let mut locked = office.locked.lock(rt);
         let answer = locked.step(rt, alloc, self, session, step);
         MutexGuard::unlock(locked);

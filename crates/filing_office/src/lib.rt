@@ -32,6 +32,7 @@ mod locked;
 mod named_desk;
 mod office;
 mod outcome;
+mod ready_step;
 mod roster;
 mod run;
 mod session_place;

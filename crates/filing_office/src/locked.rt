@@ -2,14 +2,14 @@
 
 ghost use Rattle.std.specs.Prelude.{◌≡◌, ◌+◌, [], cond, length, vec_len, sum, map};
 ghost use Rattle.filing_model.specs.Histories.History.{repository};
-ghost use Rattle.filing_step.specs.Steps.{step_of};
-ghost use Rattle.filing_office.specs.Answers.{StepTold};
+ghost use Rattle.filing_office.specs.Answers.{StepTold, step_made_ready};
 ghost use Rattle.filing_office.specs.Tallies.{Counted};
 
 use crate::answer::Answer;
 use crate::desk::Desk;
-use crate::shared::{Shared, apply_in};
-use filing_core::{Core, CoreFault, Step};
+use crate::ready_step::ReadyStep;
+use crate::shared::{Shared, apply_ready};
+use filing_core::{Core, CoreFault};
 use filing_publish::{Naming, Publisher};
 use std::alloc::Global;
 use std::sync::Wait;
@@ -72,12 +72,12 @@ impl<L: Ledger + Naming, M: Ledger> Locked<L, M> {
         alloc: Global,
         desk: &mut Desk<L, M>,
         session: Option<u64>,
-        step: Step,
+        step: ReadyStep,
     ) -> Result<Answer<L>, CoreFault>
         ensures counted { Counted desk.old desk.new result }
-        ensures told { StepTold session (step_of step) result }
+        ensures told { StepTold session (step_made_ready step) result }
     {
-        let answer = apply_in(rt, alloc, &mut self.shared, session, step)?;
+        let answer = apply_ready(rt, alloc, &mut self.shared, session, step)?;
         let received = answer.receipt.is_some();
         count(&mut self.steps, &mut self.receipts, desk, received);
         Ok(answer)

@@ -1,19 +1,22 @@
 //! `Shared`: what the lock lends to a step, and the step on it.
 
-ghost use Rattle.std.specs.Prelude.{◌≡◌, ◌<◌, ◌^◌, ◌∷◌, ◌++◌, [], true, false, Some, option_map, vec_len, All, IfOk, OnOk, OnErr};
+ghost use Rattle.std.specs.Prelude.{◌≡◌, ◌<◌, ◌^◌, ◌∷◌, ◌++◌, [], ℕ, Option, true, false, Some, option_map, string_bytes, vec_len, All, IfOk, OnOk, OnErr};
 ghost use Rattle.std.specs.Option.{option_map_or};
 ghost use Rattle.filing_model.specs.Sessions.Repository.{nothing};
-ghost use Rattle.filing_model.specs.Histories.History.{Entry, History};
-ghost use Rattle.filing_model.specs.Histories.Versions.{IsChain};
+ghost use Rattle.filing_model.specs.Histories.History.{Entry, History, Load};
+ghost use Rattle.filing_model.specs.Histories.Versions.{IsChain, versions};
 ghost use Rattle.filing_version.specs.Filed.{StampedReports, repository_in};
 ghost use Rattle.filing_step.specs.Steps.{step_of};
-ghost use Rattle.filing_office.specs.Answers.{ApplyAnswers};
+ghost use Rattle.filing_core.specs.Prepared.{MayFollow};
+ghost use Rattle.filing_office.specs.Answers.{ApplyAnswers, IsSettled, step_made_ready};
 
 use crate::answer::Answer;
+use crate::ready_step::ReadyStep;
 use filing_core::{Core, CoreFault, HashKeys, Prepared, Step};
 use filing_publish::{
     Naming, OfficeFault, PendingPublish, Publisher, Receipt, Reviewer, UnopenedLog,
 };
+use filing_version::IndexedReport;
 use std::alloc::{AllocError, Global};
 use std::marker::Model;
 use std::sync::Wait;
@@ -57,6 +60,45 @@ fn publish_next<J: Naming, R: Wait>(
     }
 }
 
+/// The session of the newest entry.
+fn last_session(core: &Core) -> Option<u64>
+    ensures { (older : History) (e : Entry) → core.now.history ≡ e ∷ older → result ≡ e.session }
+{
+    match core.history().last() {
+        None => None,
+        Some(entry) => entry.session,
+    }
+}
+
+/// Publishes the version that a prepared step makes, and enters the step.
+fn publish_and_settle<J: Naming, R: Wait>(
+    rt: &R,
+    core: &mut Core,
+    publisher: &mut Publisher<J>,
+    prepared: Prepared,
+) -> Result<Answer<J>, AllocError>
+    requires room { core.old.has_room ≡ true }
+    requires follows { MayFollow core.old.history prepared }
+    requires list { publisher.old ≡ versions core.old.history }
+    ensures list { publisher.new ≡ versions core.new.history }
+    ensures settled { IfOk result (IsSettled core.old.history core.new.history prepared) }
+    ensures err { OnErr result (core.new.history ≡ core.old.history) }
+{
+    let receipt = match publish_next(rt, publisher, &prepared) {
+        Ok(receipt) => receipt,
+        Err(error) => {
+            drop(prepared);
+            return Err(error);
+        }
+    };
+    let reply = core.settle(prepared);
+    Ok(Answer {
+        session: last_session(core),
+        reply,
+        receipt,
+    })
+}
+
 /// Takes one step under the lock. A version that it makes is published before the answer. All growths are made before the first change, and publishing cannot fail.
 pub fn apply_in<J: Naming, R: Wait>(
     rt: &R,
@@ -70,6 +112,22 @@ pub fn apply_in<J: Naming, R: Wait>(
     match step {
         Step::Load(_, _) | Step::Commit => shared.publish(rt, alloc, session, step),
         step => shared.enter(alloc, session, step),
+    }
+}
+
+/// The same of a step that was made ready.
+pub(crate) fn apply_ready<J: Naming, R: Wait>(
+    rt: &R,
+    alloc: Global,
+    shared: &mut Shared<J>,
+    session: Option<u64>,
+    step: ReadyStep,
+) -> Result<Answer<J>, CoreFault>
+    ensures { ApplyAnswers shared.old shared.new session (step_made_ready step) result }
+{
+    match step {
+        ReadyStep::Load(name, report) => shared.load(rt, alloc, name, report),
+        ReadyStep::Other(step) => apply_in(rt, alloc, shared, session, step),
     }
 }
 
@@ -100,16 +158,6 @@ impl<J: Naming> Shared<J> {
         }
     }
 
-    /// The session of the newest entry.
-    fn last_session(&self) -> Option<u64>
-        ensures { (older : History) (e : Entry) → self.now ≡ e ∷ older → result ≡ e.session }
-    {
-        match self.core.history().last() {
-            None => None,
-            Some(entry) => entry.session,
-        }
-    }
-
     /// Enters a step that makes no version.
     fn enter(
         &mut self,
@@ -122,7 +170,7 @@ impl<J: Naming> Shared<J> {
     {
         let reply = self.core.step(alloc, session, step)?;
         Ok(Answer {
-            session: self.last_session(),
+            session: last_session(&self.core),
             reply,
             receipt: None,
         })
@@ -140,19 +188,22 @@ impl<J: Naming> Shared<J> {
         ensures { ApplyAnswers self.old self.new session (step_of step) result }
     {
         let prepared = self.core.prepare(alloc, session, step)?;
-        let receipt = match publish_next(rt, &mut self.publisher, &prepared) {
-            Ok(receipt) => receipt,
-            Err(AllocError) => {
-                drop(prepared);
-                return Err(CoreFault::NoMemory);
-            }
-        };
-        let reply = self.core.settle(prepared);
-        Ok(Answer {
-            session: self.last_session(),
-            reply,
-            receipt,
-        })
+        Ok(publish_and_settle(rt, &mut self.core, &mut self.publisher, prepared)?)
+    }
+
+    /// Enters a load, and publishes the version that it makes.
+    fn load<R: Wait>(
+        &mut self,
+        rt: &R,
+        alloc: Global,
+        name: String,
+        report: IndexedReport,
+    ) -> Result<Answer<J>, CoreFault>
+        ensures { (session : Option ℕ)
+            → ApplyAnswers self.old self.new session (Load (string_bytes name) report) result }
+    {
+        let prepared = self.core.prepare_load(alloc, name, report)?;
+        Ok(publish_and_settle(rt, &mut self.core, &mut self.publisher, prepared)?)
     }
 
     /// Takes back what publishes, and gives the core. It waits for the readers of reviews that are being opened; reviews that are kept go on answering.

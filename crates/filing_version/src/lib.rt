@@ -2,6 +2,7 @@
 //!
 //! - `version`: one state of the repository.
 //! - `stamped_report`: one report of a version, with the stamps of its parts.
+//! - `indexed_report`: a report that is made ready for its load.
 //! - `change`: what a session puts, removes and declares.
 //! - `changed_report`: what a change puts, removes and declares in one report.
 //! - `put_record`: a put that several changes may hold.
@@ -18,6 +19,7 @@ mod change;
 mod changed_report;
 mod fact_entries;
 mod got;
+mod indexed_report;
 pub mod laws;
 mod put_record;
 mod puts;
@@ -30,6 +32,7 @@ pub use fact_entries::FactEntries;
 pub use filing_facts::{KeyCache, PeriodFilterRef};
 pub use filing_index::Ids;
 pub use got::Got;
+pub use indexed_report::IndexedReport;
 pub use put_record::PutRecord;
 pub use puts::{Put, Puts};
 pub use same_facts::are_same_facts;

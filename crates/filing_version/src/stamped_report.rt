@@ -11,7 +11,8 @@ ghost use Rattle.filing_stamps.specs.Stamps.{stamp_in};
 ghost use Rattle.filing_version.specs.Filed.{filed_of, newly_filed, changed_filed, without_facts};
 
 use crate::changed_report::ChangedReport;
-use filing_facts::{IndexedFact, KeyCache};
+use crate::indexed_report::{IndexedReport, without_facts};
+use filing_facts::IndexedFact;
 use filing_index::Facts;
 use filing_stamps::Stamps;
 use oim_fact::{Allowed, DimSet, Fact, Names};
@@ -19,7 +20,7 @@ use oim_report::{Report, ReportParts};
 use std::alloc::{AllocError, Global};
 use std::marker::Model;
 use std::sync::Arc;
-use text_map::{NamedValue, PagedValue, TextPages};
+use text_map::{PagedValue, TextPages};
 
 /// A report whose facts stand in indexes, with the number of its load, that of the last commit that declared its value, and those of its parts. Contracts see these.
 #[derive(Drop)]
@@ -47,40 +48,6 @@ impl Model for StampedReport {
 }
 
 impl PagedValue for StampedReport {}
-
-/// The facts of a report as an index holds them. Facts are shared, identifiers are copied.
-fn held_facts(alloc: Global, report: &Report) -> Result<Vec<NamedValue<IndexedFact>>, AllocError>
-    ensures { IfOk result (λ v. v.items ≡ report.now.facts.entries) }
-{
-    let facts = report.facts();
-    let mut key_cache = KeyCache::new(alloc);
-    let mut held = Vec::with_capacity(alloc, facts.len())?;
-    for (id, fact) in facts {
-        let fact = IndexedFact::among(alloc, &mut key_cache, Arc::try_clone(fact)?)?;
-        held.push(NamedValue::new(alloc, id.clone()?, fact)?)?;
-    }
-    Ok(held)
-}
-
-/// The indexes of the facts of a report.
-fn indexed(alloc: Global, report: &Report) -> Result<Facts, AllocError>
-    ensures { IfOk result (λ f. f.entries ≡ report.now.facts.entries) }
-{
-    let held = held_facts(alloc, report)?;
-    Facts::of_sorted(alloc, held)
-}
-
-/// A copy of a report without its facts.
-fn without_facts(alloc: Global, report: &Report) -> Result<Report, AllocError>
-    ensures { IfOk result (λ r. r ≡ without_facts report.now) }
-{
-    Ok(Report::of(ReportParts {
-        info: String::from_str(alloc, report.info())?,
-        names: report.names().clone()?,
-        allowed: report.allowed(),
-        facts: Vec::new(alloc),
-    }))
-}
 
 /// A copy of a report without its facts, which declares this value.
 fn copy_declaring(alloc: Global, header: &Report, allowed: Allowed) -> Result<Report, AllocError>
@@ -126,24 +93,18 @@ fn facts_with(
 }
 
 impl StampedReport {
-    /// A report that is loaded as this version. Its facts are shared, all else is copied.
-    pub(crate) fn new(
-        alloc: Global,
-        report: &Arc<Report>,
-        number: u64,
-    ) -> Result<StampedReport, AllocError>
-        ensures { IfOk result (λ f. filed_of f ≡ newly_filed number (arc_value report.now)) }
+    /// A report that is loaded as this version. It takes no memory.
+    pub(crate) fn new(alloc: Global, report: IndexedReport, number: u64) -> StampedReport
+        ensures { filed_of result ≡ newly_filed number report }
     {
-        let copy = without_facts(alloc, report)?;
-        let header = Arc::new(alloc, copy)?;
-        let facts = indexed(alloc, report)?;
-        Ok(StampedReport {
+        let (header, facts) = report.into_parts();
+        StampedReport {
             header,
             facts,
             loaded: number,
             declared: 0,
             stamps: Stamps::new(alloc),
-        })
+        }
     }
 
     /// The facts with puts laid over them, and the stamps of their parts, which have this number where the puts touch them.

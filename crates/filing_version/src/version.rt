@@ -22,6 +22,7 @@ use crate::change::Change;
 use crate::changed_report::ChangedReport;
 use crate::fact_entries::FactEntries;
 use crate::got::Got;
+use crate::indexed_report::IndexedReport;
 use crate::stamped_report::StampedReport;
 use filing_facts::PeriodFilterRef;
 use filing_index::{Facts, Ids};
@@ -254,25 +255,24 @@ impl RepoVersion {
         Ok(RepoVersion { number, reports })
     }
 
-    /// The version with one report more, which counts one more and stamps its name. It shares the facts of the report.
-    pub fn with_shared_report(
+    /// The version with one report more, which counts one more and stamps its name.
+    pub fn with_indexed_report(
         &self,
         alloc: Global,
         name: String,
-        report: &Arc<Report>,
+        report: IndexedReport,
     ) -> Result<RepoVersion, AllocError>
         requires new { report_at (repository_in self.now) (string_bytes name) ≡ None }
         requires few { (repository_in self.now).count + 1 < 2 ^ 64 }
-        ensures { IfOk result (λ v. version_in v
-            ≡ version_with (string_bytes name) (arc_value report.now) (version_in self.now)) }
+        ensures { IfOk result (λ v. version_in v ≡ version_with (string_bytes name) report (version_in self.now)) }
     {
         let number = self.number + 1;
-        let filed = StampedReport::new(alloc, report, number)?;
+        let filed = StampedReport::new(alloc, report, number);
         let reports = self.reports.with(alloc, name, filed)?;
         Ok(RepoVersion { number, reports })
     }
 
-    /// The same with a report that has no other owner.
+    /// The same with a report that is not indexed yet.
     pub fn with_report(
         &self,
         alloc: Global,
@@ -284,7 +284,8 @@ impl RepoVersion {
         ensures { IfOk result (λ v. version_in v ≡ version_with (string_bytes name) report (version_in self.now)) }
     {
         let report = Arc::new(alloc, report)?;
-        self.with_shared_report(alloc, name, &report)
+        let indexed = IndexedReport::of(alloc, report)?;
+        self.with_indexed_report(alloc, name, indexed)
     }
 
     /// The version once more, which shares its reports.

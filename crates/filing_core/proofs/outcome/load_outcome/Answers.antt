@@ -1,5 +1,4 @@
 use Rattle.std.proofs.Common.{◌≡◌, ◌∙◌, ap, sym, Some, None, cond, option_map, option_and_then, is_some}
-use Rattle.std.specs.Arc.{arc_value}
 use Rattle.filing_model.specs.Oim.Reports.{Report}
 use Rattle.filing_model.specs.Sessions.Repository.{report_at}
 use Rattle.filing_model.specs.Sessions.Replies.{Loaded}
@@ -15,7 +14,7 @@ returns-in-None c =
     let v = version_in c.args.current.now in
     let before = repository_in c.args.current.now in
     let name = c.args.name.now in
-    let report = arc_value c.args.report.now in
+    let report = c.args.report in
     let made : version_in c.in_ok-next.next ≡ version_with name report v =
     c.in_ok-next.ensures ∙ (λ i. version_with (c.in_ok-from_str.ensures.ok i) report v) in
     let none : report_at before name ≡ None = absent (report_at before name) (ap is_some (sym c.allowed.ensures) ∙ sym c.is_some.ensures ∙ c.if-is_some.false) in
@@ -32,7 +31,7 @@ returns-in_ok-reply-in-Some c =
     let v = version_in c.args.current.now in
     let before = repository_in c.args.current.now in
     let name = c.args.name.now in
-    let report = arc_value c.args.report.now in
+    let report = c.args.report in
     let dims = c.in-Some.dims.now in
     let next = repository_in c.in_ok-next.next in
     let made : version_in c.in_ok-next.next ≡ version_with name report v =

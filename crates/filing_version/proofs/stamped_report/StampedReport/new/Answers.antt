@@ -1,23 +1,10 @@
-use Rattle.std.proofs.Common.{◌≡◌, ◌∙◌, ap, sym}
-use Rattle.std.specs.Arc.{arc_value}
-use Rattle.filing_model.specs.Oim.Reports.{Report}
-use Rattle.filing_model.specs.Common.TextMap.{from_entries}
-use Rattle.filing_model.proofs.Common.TextMaps.{from_entries-entries}
-use Rattle.filing_version.specs.Filed.{without_facts}
 use Rattle.filing_version.proofs.stamped_report.StampedReport.new.Goals as goal
 
 pub returns : goal.returns
 returns c =
-    let report = arc_value c.args.report.now in
-    let header : arc_value c.in_ok-header.header ≡ without_facts report =
-    c.in_ok-header.ensures.ok ∙ c.in_ok-copy.ensures ∙ ap without_facts c.deref.ensures in
-    let facts : c.in_ok-facts.facts ≡ report.facts =
-    sym (from_entries-entries c.in_ok-facts.facts)
-    ∙ ap from_entries (c.in_ok-facts.ensures ∙ ap (λ (r : Report). r.facts.entries) c.deref-2.ensures)
-    ∙ from_entries-entries report.facts in
     (λ i. record {
-      report = record (header i) { facts = facts i };
+      report = record (c.into_parts-header.ensures.header i) { facts = c.into_parts-header.ensures.facts i };
       loaded = c.args.number;
       declared = 0;
-      stamp = c.new-2.ensures i;
+      stamp = c.new.ensures i;
     })
