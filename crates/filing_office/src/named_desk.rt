@@ -245,7 +245,7 @@ impl<L: Ledger + Naming, M: Ledger> NamedDesk<L, M> {
         Ok(of_review(Reply::Opened))
     }
 
-    /// Opens a session under a name.
+    /// Opens a session under a name. The lock is kept over the opening of a review.
     fn open<A: Access<L, M>>(
         &mut self,
         access: &mut A,
@@ -265,10 +265,7 @@ impl<L: Ledger + Naming, M: Ledger> NamedDesk<L, M> {
             return self.open_at_office(access, name, kind);
         }
         match kind {
-            Kind::Review => {
-                access.leave();
-                self.open_review(name, told)
-            }
+            Kind::Review => self.open_review(name, told),
             Kind::Amend => self.open_at_office(access, name, kind),
         }
     }
@@ -313,7 +310,7 @@ impl<L: Ledger + Naming, M: Ledger> NamedDesk<L, M> {
         }
     }
 
-    /// Takes a step of the session of a name.
+    /// Takes a step of the session of a name. The lock is given back for what a review reads, and kept over its end, which takes less than to come by the lock again.
     fn go_on<A: Access<L, M>>(
         &mut self,
         access: &mut A,
@@ -335,8 +332,11 @@ impl<L: Ledger + Naming, M: Ledger> NamedDesk<L, M> {
                 self.step_at_office(access, name, number, step)
             }
             Some(SessionPlace::Review(review)) => {
-                access.leave();
-                let (reply, is_end) = (reviewed(self.alloc, review, &step), ends(&step));
+                let is_end = ends(&step);
+                if !is_end {
+                    access.leave();
+                }
+                let reply = reviewed(self.alloc, review, &step);
                 drop(step);
                 let reply = reply?;
                 self.leave(name, is_end);
