@@ -16,6 +16,9 @@ use std::str::from_utf8;
 /// How deep the arrays and objects of a JSON text may nest.
 const MAX_DEPTH: usize = 127;
 
+/// An array begins with room for so many items; a step has no more. Room grows where it lies: in memory that another thread asked for first, that thread would be held up meanwhile.
+const LIKELY_ITEMS: usize = 8;
+
 /// The next value of a reader, where there is one. Arrays and objects may nest `depth` deep.
 #[cycle(read)]
 fn read(alloc: Global, reader: &mut Reader<'_>, depth: usize) -> Result<Option<Value>, AllocError>
@@ -70,7 +73,7 @@ fn read_items(
         ≡ Some (items_view v.items, reader.new))) }
     ensures shorter { IfOk result (λ o. IfSome o (λ _. length reader.new < length reader.old)) }
 {
-    let mut found = Vec::new(alloc);
+    let mut found = Vec::with_capacity(alloc, LIKELY_ITEMS)?;
     'items: while !reader.take_end_array() {
         let Some(item) = read(alloc, reader, depth)? else {
             return Ok(None);
