@@ -8,6 +8,7 @@
 //! - `desk`: takes a step in any thread.
 //! - `roster`: how many desks there are.
 //! - `answer`: what a desk gets for a step.
+//! - `ready_step`: a step that was made ready before the lock is taken.
 //! - `named_desk`: takes a desk's steps under the names that they are given.
 //! - `session_place`: where the session of a name is.
 //! - `steps`: takes a list of steps.

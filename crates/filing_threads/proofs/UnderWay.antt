@@ -2,13 +2,14 @@
 use Rattle.std.proofs.lemmas.List.{take_rest}
 use Rattle.std.proofs.Common.{ℕ, ◌-◌, length, take, drop, ◌≡◌, ◌∙◌, ap, sym, subst, refl, Bool, true, false, List, [], ◌∷◌, ◌++◌, append_assoc, append-nil, Result, Ok, Err, Option, string_bytes}
 use Rattle.std.specs.declared.alloc.AllocError.{AllocError}
+use Rattle.std.specs.Prelude.{OnOk, OnErr}
 use Rattle.filing_model.specs.Common.Text.{Text}
 use Rattle.filing_model.specs.Oim.Facts.{Table}
 use Rattle.filing_model.specs.Sessions.Repository.{Repository}
 use Rattle.line_io.specs.Lines.{lines_of, spoken, lines_text}
 use Rattle.line_io.proofs.TakenLines.{lines_text-append}
 use Rattle.filing_office.specs.Tallies.{Tally}
-use Rattle.filing_office.specs.Runs.{RunState, Runs, Learns}
+use Rattle.filing_office.specs.Runs.{NamedDeskState, RunState, Runs, IsLearnt, Learns}
 use Rattle.filing_office.specs.declared.outcome.Outcome.{Outcome}
 use Rattle.filing_office.proofs.LearntBetween.{IsAhead, not_ahead, runs_behind, runs_further, learns_ahead, learns_some_ahead}
 use Rattle.filing_threads.specs.declared.batch.Batch.{Batch}
@@ -52,6 +53,13 @@ behind_kept kept os now n is many =
 pub learns_told : {J : Type 0} (s t : RunState) (seen : Option (List Repository)) (told told' : List (Outcome J)) (result : Result (Unit {0}) AllocError)
     → told ≡ told' → Learns s t told seen result → Learns s t told' seen result
 learns_told s t seen told told' result is learns = subst (λ os. Learns s t os seen result) is learns
+
+-- where they were learnt none is kept, and where they were not all are
+pub still_learnt : {J : Type 0} (desk : NamedDeskState) (told told' kept : List (Outcome J)) (result : Result (Unit {0}) AllocError)
+    → told ≡ told' → KeptBy result told' kept → OnOk result ((others : List (Outcome J)) → IsLearnt desk others)
+    → OnErr result (IsLearnt desk told) → IsLearnt desk kept
+still_learnt desk told told' kept (Ok x) same is any none = any kept
+still_learnt desk told told' kept (Err e) same is none learnt = subst (λ os. IsLearnt desk os) (same ∙ sym is) learnt
 
 -- what is let go
 pub record LetGo {J : Type 0} (end t : RunState) (gone all kept : List (Outcome J)) : Type 0 where

@@ -5,7 +5,7 @@ ghost use Rattle.std.specs.Arc.{arc_value};
 ghost use Rattle.filing_office.specs.declared.outcome.Outcome.{Outcome as Told};
 ghost use Rattle.filing_office.specs.Runs.{IsLearnt};
 ghost use Rattle.filing_threads.specs.FoundHistories.{IsScriptRunTo};
-ghost use Rattle.filing_threads.specs.UnderWay.{LetsGo, TakesBatch};
+ghost use Rattle.filing_threads.specs.UnderWay.{KeptBy, TakesBatch};
 
 use crate::batch::Batch;
 use crate::replies::{Ending, Replies, push_replies};
@@ -22,22 +22,17 @@ pub(crate) struct ScriptTask<'a> {
     pub(crate) table: &'a Arc<NumericTable>,
 }
 
-/// Drops the outcomes of steps once the reviewer has learnt the receipts, each of which keeps a version. Where it cannot learn them, all are kept.
-fn let_go<L: Ledger + Naming, M: Ledger>(
-    named_desk: &mut NamedDesk<L, M>,
-    outcomes: &mut Vec<Outcome<L>>,
-)
-    requires { IsLearnt named_desk.old outcomes.old.items }
-    ensures learnt { IsLearnt named_desk.new outcomes.new.items }
-    ensures lets_go { LetsGo named_desk.old.state named_desk.new.state outcomes.old.items outcomes.new.items }
+/// Drops the outcomes of steps, each of which may keep a version, if their receipts are learnt. If not, all are kept.
+fn let_go<J: Naming>(learnt: Result<(), AllocError>, outcomes: &mut Vec<Outcome<J>>)
+    ensures { KeptBy learnt outcomes.old.items outcomes.new.items }
 {
-    match named_desk.learn(outcomes) {
+    match learnt {
         Ok(()) => outcomes.clear(),
         Err(AllocError) => {}
     }
 }
 
-/// Takes the steps of some lines, and appends the replies to them. Whether each line has its reply.
+/// Takes the steps of some lines, and appends the replies to them. Whether each line has its reply. The receipts are learnt before the lock is given back: the reviewer then drops a version with pages that other threads asked for, and would hold these up while they have the lock.
 fn take_batch<L: Ledger + Naming, M: Ledger, A: Access<L, M>, G: Gate>(
     access: &mut A,
     gate: &G,
@@ -59,11 +54,12 @@ fn take_batch<L: Ledger + Naming, M: Ledger, A: Access<L, M>, G: Gate>(
     }
     let Batch { told, steps } = batch;
     take_steps(access, gate, place, named_desk, steps, outcomes);
+    let learnt = named_desk.learn(outcomes);
     access.leave();
     let whole = push_replies(text, &told, &outcomes[before..]);
     drop(told);
     let whole = whole?;
-    let_go(named_desk, outcomes);
+    let_go(learnt, outcomes);
     Ok(whole)
 }
 
