@@ -114,3 +114,22 @@ pub by_head : (a b : Text) → AreBytes a → AreBytes b → (o : Ordering) → 
 by_head a b p q Less e not = sym (less_by_head a b p q (sym e))
 by_head a b p q Equal e not = absurd (not refl)
 by_head a b p q Greater e not = sym (greater_by_head a b p q (sym e))
+
+-- short texts as long are the same where they tie up to their ends
+tied_padded : (k : ℕ) (a b : Text) → length a ≡ length b → length a ≤ k → slice_cmp nat_cmp (padded k a) (padded k b) ≡ Equal → Equal ≡ text_cmp a b
+tied_padded k [] [] same few e = refl
+tied_padded k [] (y ∷ ys) same few e = absurd (omega arith)
+tied_padded k (x ∷ xs) [] same few e = absurd (omega arith)
+tied_padded zero (x ∷ xs) (y ∷ ys) same few e = absurd (omega arith)
+tied_padded (suc k) (x ∷ xs) (y ∷ ys) same few e = by (nat_cmp x y) e (tied_padded k xs ys (omega arith) (omega arith))
+  where
+    by : (o : Ordering) → ordering_then o (slice_cmp nat_cmp (padded k xs) (padded k ys)) ≡ Equal
+        → (slice_cmp nat_cmp (padded k xs) (padded k ys) ≡ Equal → Equal ≡ text_cmp xs ys) → Equal ≡ ordering_then o (text_cmp xs ys)
+    by Less e later = sym e
+    by Equal e later = later e
+    by Greater e later = sym e
+
+-- short names as long are the same where their heads are
+pub same_in_head : (a b : Text) → AreBytes a → AreBytes b → head_of a ≡ head_of b → length a ≡ length b → length a ≤ 16 → Equal ≡ text_cmp a b
+same_in_head a b p q same long few =
+    tied_padded 16 a b long few (sym (heads_are_bytes a b p q) ∙ sym (nat_cmp_is (head_of a) (head_of b) Equal same))

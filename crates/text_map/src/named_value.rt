@@ -1,5 +1,5 @@
 //! A value under a name.
-ghost use Rattle.std.specs.Prelude.{◌≡◌, ◌≤◌, get_or, string_bytes, IfOk, MatchResult};
+ghost use Rattle.std.specs.Prelude.{◌≡◌, ◌≤◌, true, length, get_or, string_bytes, IfOk, MatchResult};
 ghost use Rattle.filing_model.specs.Common.Text.{text_cmp};
 ghost use Rattle.text_map.specs.Heads.{head_of, name_key, IsHeadOf, IsKeyOfHead};
 
@@ -54,13 +54,32 @@ fn head_of(name: &str) -> u128
     ])
 }
 
+/// Whether two names are as long and stand in their heads, to the last byte.
+fn stand_in_heads(name: &str, other: &str) -> bool
+    ensures { result ≡ true → (length name.now ≡ length other.now) × (length name.now ≤ 16) }
+{
+    name.len() == other.len() && name.len() <= 16
+}
+
+/// How two names of one head stand. Short ones are most often the same, and need not be read for that.
+fn order_in_head(name: &str, other: &str) -> Ordering
+    requires { head_of name.now ≡ head_of other.now }
+    ensures { result ≡ text_cmp name.now other.now }
+{
+    if stand_in_heads(name, other) {
+        Ordering::Equal
+    } else {
+        name.cmp(other)
+    }
+}
+
 /// How two names stand whose heads are given.
 fn order_names(name: &str, head: u128, other: &str, other_head: u128) -> Ordering
     requires heads { (head ≡ head_of name.now) × (other_head ≡ head_of other.now) }
     ensures { result ≡ text_cmp name.now other.now }
 {
     match head.cmp(&other_head) {
-        Ordering::Equal => name.cmp(other),
+        Ordering::Equal => order_in_head(name, other),
         order => order,
     }
 }
