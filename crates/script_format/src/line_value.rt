@@ -1,6 +1,6 @@
 //! The JSON value of a line, read with room that is kept from line to line.
 
-ghost use Rattle.std.specs.Prelude.{◌≡◌, ◌<◌, length, Some, None, IfOk, IfSome, MatchOption, option_map};
+ghost use Rattle.std.specs.Prelude.{◌≡◌, ◌<◌, [], length, Some, None, IfOk, IfSome, MatchOption, option_map};
 ghost use Rattle.json.specs.Json.{value, items, members};
 ghost use Rattle.serde_json.specs.Data.{no_members};
 ghost use Rattle.serde_json.specs.Read.{of_json, of_items, of_members, converted};
@@ -16,8 +16,19 @@ use std::str::from_utf8;
 /// How deep the arrays and objects of a JSON text may nest.
 const MAX_DEPTH: usize = 127;
 
-/// An array begins with room for so many items; a step has no more. Room grows where it lies: in memory that another thread asked for first, that thread would be held up meanwhile.
+/// The array of a line begins with room for so many items; a step has no more.
 const LIKELY_ITEMS: usize = 8;
+
+/// An empty list for the items of an array. Room grows where it lies: in memory that another thread asked for first, that thread would be held up meanwhile. Arrays within a line take only what they need, since there may be many.
+fn no_items(alloc: Global, depth: usize) -> Result<Vec<Value>, AllocError>
+    ensures { IfOk result (λ items. items.items ≡ []) }
+{
+    if depth == MAX_DEPTH - 1 {
+        Vec::with_capacity(alloc, LIKELY_ITEMS)
+    } else {
+        Ok(Vec::new(alloc))
+    }
+}
 
 /// The next value of a reader, where there is one. Arrays and objects may nest `depth` deep.
 #[cycle(read)]
@@ -73,7 +84,7 @@ fn read_items(
         ≡ Some (items_view v.items, reader.new))) }
     ensures shorter { IfOk result (λ o. IfSome o (λ _. length reader.new < length reader.old)) }
 {
-    let mut found = Vec::with_capacity(alloc, LIKELY_ITEMS)?;
+    let mut found = no_items(alloc, depth)?;
     'items: while !reader.take_end_array() {
         let Some(item) = read(alloc, reader, depth)? else {
             return Ok(None);

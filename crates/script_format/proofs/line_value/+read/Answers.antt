@@ -14,7 +14,7 @@ use Rattle.script_format.proofs.line_value.+read.Goals as goal
 pub read_items-items-init : goal.read_items-items-init
 read_items-items-init t c =
     let all = converted of_items (items (value c.args.depth) (length c.args.reader.now) c.args.reader.now) in
-    (length c.args.reader.now, omega arith, none_before all ∙ ap (λ vs. parse_map (items_before vs) all) (sym c.in_ok-found.ensures.items), omega arith)
+    (length c.args.reader.now, omega arith, none_before all ∙ ap (λ vs. parse_map (items_before vs) all) (sym c.in_ok-found.ensures), omega arith)
 
 pub read_members-members-init : goal.read_members-members-init
 read_members-members-init t c =
