@@ -85,6 +85,11 @@ def word(size):
     yield "x" * size, '["bad-line"]'
 
 
+def arrays(size):
+    """One line, which asks for an array of so many empty ones."""
+    yield f'["get","s",[{",".join(["[]"] * size)}]]', '["bad-line"]'
+
+
 def rubbish(size):
     """So many short lines that are no JSON."""
     for _ in range(size):
