@@ -24,5 +24,6 @@ pub mod WrittenReports
 pub mod ReadBackInstances
 -- ---- setting the declared value
 pub mod Utf8Texts
+pub mod RisingMembers
 pub mod SetInfos
 pub mod SetMembers

@@ -1,6 +1,6 @@
 -- Members in byte order of their names, where they were read, and a loop over them that reads them one by one.
-use Rattle.std.proofs.Common.{◌≡◌, ◌∙◌, ap, sym, subst, refl, T, Bool, true, false, ◌&&◌, List, [], ◌∷◌, ◌++◌, map, Option, None, Some, Result, Ok}
-use Rattle.std.proofs.Common.{Bor, Ordering, Less, Equal, Greater, nat_cmp, is_lt, is_some, option_and_then, unwrap_or, true≢false}
+use Rattle.std.proofs.Common.{◌≡◌, ◌∙◌, ap, sym, subst, refl, T, Bool, true, false, ◌&&◌, List, [], ◌∷◌, ◌++◌, length, map, Option, None, Some, Result, Ok}
+use Rattle.std.proofs.Common.{Bor, Ordering, Less, Equal, Greater, nat_cmp, is_lt, is_some, option_and_then, unwrap_or, true≢false, arith}
 use Rattle.std.proofs.lemmas.List.{append-nil, map-append}
 use Rattle.std.specs.BTreeMap.{insert_entry}
 use Rattle.std.specs.Cmp.Lexicographic.{slice_cmp}
@@ -39,7 +39,7 @@ pub members_at-insert : (ps : List At) (k : Bor Text) (v : TextValue Global)
 members_at-insert [] k v = refl
 members_at-insert (p ∷ ps) k v = members_at-match (name_cmp k p.0) _ _ _ ∙ rw (members_at-insert ps k v)
 
-both : (a b : Bool) → a ≡ true → b ≡ true → (a && b) ≡ true
+pub both : (a b : Bool) → a ≡ true → b ≡ true → (a && b) ≡ true
 both true b refl_a h = h
 both false b h other = h
 
@@ -103,6 +103,10 @@ place_turn seen f left rest k v before later p goal left_is later_is read h =
     ∙ each_more f (map seen before) (k.now, data_of v) (seen p) (pairs (members_at rest)) read
     ∙ ap (λ ps. read_places seen f before ps) (sym left_is)
     ∙ h
+
+pub no_places : (ps : List At) → 0 ≡ length ps → ps ≡ []
+no_places [] h = refl
+no_places (p ∷ ps) h = absurd (omega arith)
 
 pub places_read : {P X E : Type 0} (seen : P → X) (f : Text × Data → Result X E) (left : List At) (before : List P) (goal : Result (List X) E)
     → left ≡ [] → read_places seen f before left ≡ goal → goal ≡ Ok (map seen before)

@@ -1,13 +1,16 @@
 //! JSON values whose texts are those that were read, and owned copies of them.
 
-ghost use Rattle.std.specs.Prelude.{◌≡◌, ◌<◌, ◌==◌, IsTrue, is_some, length, slice_index, option_map, IfOk, IfSome, Some, true, false};
+ghost use Rattle.std.specs.Prelude.{◌≡◌, ◌<◌, ◌==◌, T, IsTrue, is_some, length, slice_index, option_map, IfOk, IfSome, Some, true, false};
+ghost use Rattle.std.specs.Bool.{OnTrue};
+ghost use Rattle.std.specs.FinMap.Entries.{is_sorted};
 ghost use Rattle.json.specs.Find.{get as get_read};
 ghost use Rattle.json.specs.Value.{value_view, items_view as read_items, members_view as read_members};
 ghost use Rattle.serde_json.specs.Data.{no_members};
 ghost use Rattle.serde_json.specs.Find.{get};
 ghost use Rattle.serde_json.specs.Read.{of_json, of_items, of_members, number_of, number_from, float_of};
 ghost use Rattle.serde_json.specs.View.{view, number_view, items_view, members_view};
-ghost use Rattle.filing_model.specs.Reading.JsonText.{json_of};
+ghost use Rattle.filing_model.specs.Common.Text.{text_cmp};
+ghost use Rattle.filing_model.specs.Reading.JsonText.{json_of, pairs};
 ghost use Rattle.oim_report.specs.Borrowed.{IsInRange, are_in_range, data_of, members_at, read_object};
 
 use crate::values::MAX_DEPTH;
@@ -244,8 +247,15 @@ pub(crate) fn member_of<'a>(value: json::Value<'a>, name: &str) -> Option<json::
     last
 }
 
-/// The members in byte order of their names, of which the last of a name stays.
-pub(crate) fn in_order<'a>(
+/// Whether each name is greater than the one before it.
+fn names_rise(members: &[(&str, json::Value<'_>)]) -> bool
+    ensures { OnTrue result (T (is_sorted text_cmp (pairs (members_at members.now)))) }
+{
+    members.is_sorted_by(|one, next| one.0 < next.0)
+}
+
+/// As `in_order`, each put in its place.
+fn put_in_order<'a>(
     alloc: Global,
     members: Vec<(&'a str, json::Value<'a>)>,
 ) -> Result<BTreeMap<&'a str, json::Value<'a>>, AllocError>
@@ -259,4 +269,26 @@ pub(crate) fn in_order<'a>(
         drop(places.insert(name, value)?);
     }
     Ok(places)
+}
+
+/// The members in byte order of their names, of which the last of a name stays. Names mostly rise as they stand.
+pub(crate) fn in_order<'a>(
+    alloc: Global,
+    members: Vec<(&'a str, json::Value<'a>)>,
+) -> Result<Vec<(&'a str, json::Value<'a>)>, AllocError>
+    requires { IsTrue (is_some (of_members (read_members members.items) no_members)) }
+    ensures members { IfOk result (λ m. of_members (read_members members.entry.items) no_members
+        ≡ Some (members_at m.items)) }
+    ensures range { IfOk result (λ m. IsTrue (are_in_range m.items)) }
+    ensures rise { IfOk result (λ m. T (is_sorted text_cmp (pairs (members_at m.items)))) }
+{
+    if names_rise(&members) {
+        return Ok(members);
+    }
+    let places = put_in_order(alloc, members)?;
+    let mut found = Vec::with_capacity(alloc, places.len())?;
+    for place in places {
+        found.push(place)?;
+    }
+    Ok(found)
 }

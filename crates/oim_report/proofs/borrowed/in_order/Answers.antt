@@ -1,23 +1,20 @@
-use Rattle.std.proofs.Common.{◌∙◌, ap, sym}
-use Rattle.json.specs.Value.{value_view, members_view}
-use Rattle.serde_json.specs.Read.{of_members}
-use Rattle.oim_report.specs.Borrowed.{are_in_range, members_at}
-use Rattle.oim_report.proofs.OrderedMembers.{in_range-insert, member_turn, members_at-insert}
+use Rattle.std.proofs.Common.{◌≡◌, ◌∙◌, ap, sym, subst, arith, append-nil, ◌++◌}
+use Rattle.serde_json.specs.Data.{no_members}
+use Rattle.oim_report.proofs.OrderedMembers.{sorted_places}
+use Rattle.oim_report.proofs.RisingMembers.{Rise, all_in_range, stay_in_order}
 use Rattle.oim_report.proofs.borrowed.in_order.Goals as goal
 
-pub loop-name-preserved : goal.loop-name-preserved
-loop-name-preserved c =
-    let l = c.loop-name in
-    let k = c.in-Some.name in
-    let v = c.in-Some.value in
-    let rest = members_view c.next.new.self.rest.items in
-    let turn = member_turn k.now (value_view v) rest (members_at l.places.entries) _
-    (ap (λ ys. of_members (members_view ys) (members_at l.places.entries)) (sym c.in-Some.ensures.steps.0) ∙ l.invariant.members) c.requires in
-    record {
-      members =
-          ap (of_members rest) (ap members_at c.in_ok-insert.ensures.entries ∙ members_at-insert l.places.entries k v)
-          ∙ turn.1;
-      range =
-          ap are_in_range c.in_ok-insert.ensures.entries
-          ∙ in_range-insert l.places.entries k v turn.0 l.invariant.range;
-    }
+pub returns-then-names_rise-clause-members : goal.returns-then-names_rise-clause-members
+returns-then-names_rise-clause-members c =
+    stay_in_order c.args.members.items (subst Rise c.deref.ensures.value c.if-names_rise.ensures) c.requires
+
+pub returns-then-names_rise-clause-range : goal.returns-then-names_rise-clause-range
+returns-then-names_rise-clause-range c = all_in_range c.args.members.items no_members c.requires
+
+pub returns-clause-rise : goal.returns-clause-rise
+returns-clause-rise c =
+    let same : c.in_ok-places.places.entries ≡ c.into_iter-place-iterator.result = grind arith in
+    let moved : c.loop-place.found.items ≡ c.into_iter-place-iterator.result =
+    sym (append-nil _) ∙ ap (λ left. c.loop-place.found.items ++ left) (sym c.in-None.ensures.steps.0) ∙ c.loop-place.invariant in
+    subst Rise (same ∙ sym moved)
+    (sorted_places c.in_ok-places.places.entries c.into_iter-place-iterator.ensures.into_iter_gives.5)

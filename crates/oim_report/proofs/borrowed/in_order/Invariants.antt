@@ -1,14 +1,6 @@
-use Rattle.std.proofs.Common.{◌≡◌, true}
-use Rattle.json.specs.Value.{members_view}
-use Rattle.serde_json.specs.Data.{no_members}
-use Rattle.serde_json.specs.Read.{of_members}
-use Rattle.oim_report.specs.Borrowed.{are_in_range, members_at}
+use Rattle.std.proofs.Common.{◌≡◌, ◌++◌}
 use Rattle.oim_report.proofs.borrowed.in_order.Given as goal
 
--- what was put in its place, with what is left
-abbrev pub invariant-loop-name : goal.invariant-loop-name
-invariant-loop-name l = record {
-  members : of_members (members_view l.name-iterator.rest.items) (members_at l.places.entries)
-      ≡ of_members (members_view l.fn.members.items) no_members;
-  range : are_in_range l.places.entries ≡ true;
-}
+-- what was moved, with what is left
+abbrev pub invariant-loop-place : goal.invariant-loop-place
+invariant-loop-place l = l.found.items ++ l.place-iterator ≡ l.initial.place-iterator

@@ -11,7 +11,7 @@ use Rattle.oim_report.proofs.facts.facts_in_order.Given as goal
 -- what was read, with what is left
 abbrev pub invariant-loop-id : goal.invariant-loop-id
 invariant-loop-id l = record {
-  read : read_places fact_view (entry_of l.names) l.facts.items l.id-iterator ≡ each (entry_of l.names) (pairs (members_at l.initial.id-iterator));
-  range : are_in_range l.id-iterator ≡ true;
+  read : read_places fact_view (entry_of l.names) l.facts.items l.id-iterator.rest.items ≡ each (entry_of l.names) (pairs (members_at l.initial.id-iterator.rest.items));
+  range : are_in_range l.id-iterator.rest.items ≡ true;
   fitted : AreFitted l.names (facts_view l.facts.items);
 }
