@@ -15,7 +15,6 @@ pub mod ReportsByParts
 pub mod TableLines
 -- ---- what is written, and read back
 pub mod Fronts
-pub mod PlainTexts
 pub mod GivenEntries
 pub mod WrittenPieces
 pub mod ReadBackValues

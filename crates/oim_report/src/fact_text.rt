@@ -21,7 +21,7 @@ fn push_dim(out: &mut String, name: &str, value: &Option<String>) -> Result<(), 
         (member_text name.now (nullable_text (text_view value.now)))) }
 {
     push_quoted(out, name)?;
-    out.push_str(":")?;
+    out.push(':')?;
     push_nullable(out, value)
 }
 
@@ -31,14 +31,14 @@ fn push_pairs(out: &mut String, pairs: &[(String, Option<String>)]) -> Result<()
         ≡ string_bytes out.old ++ dims_text (dims_view pairs.now)) }
     ensures front { OnErr result (IsFrontPushed out.old out.new (dims_text (dims_view pairs.now))) }
 {
-    out.push_str("{")?;
+    out.push('{')?;
     let mut later = false;
     for (name, value) in pairs {
         push_comma(out, later)?;
         push_dim(out, name, value)?;
         later = true;
     }
-    out.push_str("}")
+    out.push('}')
 }
 
 /// Appends a dimension set as an object, in byte order of the names.
@@ -76,7 +76,7 @@ fn push_before_value(
     ensures front { OnErr result (IsFrontPushed out.old out.new
         (before_value decimals.now dims.now (text_view links.now))) }
 {
-    out.push_str("{")?;
+    out.push('{')?;
     push_decimals(out, decimals)?;
     out.push_str("\"dimensions\":")?;
     push_dims(out, dims)?;
@@ -118,7 +118,7 @@ pub fn push_fact(out: &mut String, fact: &Fact) -> Result<(), AllocError>
 {
     push_before_value(out, &decimals(&fact.value), &fact.dims, &fact.links)?;
     push_value(out, &fact.value)?;
-    out.push_str("}")
+    out.push('}')
 }
 
 /// A fact as a compact JSON object: `decimals` where it is a number that is not exact, `dimensions`, `links` where they were kept, and `value`.
@@ -139,7 +139,7 @@ pub fn push_raw(out: &mut String, raw: &RawFact) -> Result<(), AllocError>
 {
     push_before_value(out, &raw.decimals, &raw.dims, &raw.links)?;
     push_nullable(out, &raw.value)?;
-    out.push_str("}")
+    out.push('}')
 }
 
 /// A raw fact as a compact JSON object: `decimals` and `links` where it has them, `dimensions`, and `value`.

@@ -14,6 +14,7 @@
 //! - `report_text`: a report, written.
 //! - `fact_text`: a fact, written.
 //! - `pieces`: the pieces of which written texts are made.
+//! - `plain_text`: whether a text needs no escape.
 //! - `read_back`: the laws that what is written is read back.
 //! - `info_laws`: the laws of an info in which a value was set.
 //!
@@ -30,6 +31,7 @@ mod fault;
 mod info;
 mod info_laws;
 mod pieces;
+mod plain_text;
 mod read_back;
 mod reading;
 mod report;

@@ -1,13 +1,13 @@
 //! Pieces of compact JSON, each appended to a text that grows. When out of memory, what was appended is a prefix of the piece.
 
-ghost use Rattle.std.specs.Prelude.{◌≡◌, ◌∷◌, [], ◌++◌, OnOk, OnErr, IfOk, Some, string_bytes};
-ghost use Rattle.std.specs.Bool.{OnTrue};
-ghost use Rattle.json.specs.Print.{escape, escape_byte, quoted};
+ghost use Rattle.std.specs.Prelude.{◌≡◌, ◌++◌, OnOk, OnErr, IfOk, Some, string_bytes};
+ghost use Rattle.json.specs.Print.{escape, quoted};
 ghost use Rattle.serde_json.specs.Written.{comma_if};
 ghost use Rattle.filing_model.specs.Reading.Writing.{decimals_text, nullable_text};
 ghost use Rattle.oim_fact.specs.Texts.{text_view};
 ghost use Rattle.oim_report.specs.Appended.{IsFrontPushed};
 
+use crate::plain_text::is_plain;
 use json::Writer;
 use std::alloc::{AllocError, Global};
 
@@ -24,34 +24,15 @@ fn quoted_text(alloc: Global, text: &str) -> Result<String, AllocError>
     }
 }
 
-/// Whether a byte of a text means itself in a JSON text.
-fn stands_for_itself(byte: u8) -> bool
-    ensures { OnTrue result (escape_byte byte ≡ byte ∷ []) }
-{
-    byte >= b' ' && byte != b'"' && byte != b'\\'
-}
-
-/// Whether each byte of a text means itself.
-fn is_plain(text: &str) -> bool
-    ensures { OnTrue result (escape text.now ≡ text.now) }
-{
-    for byte in text.as_bytes() {
-        if !stands_for_itself(*byte) {
-            return false;
-        }
-    }
-    true
-}
-
 /// Appends a text without escapes as a JSON text.
 fn push_plain(out: &mut String, text: &str) -> Result<(), AllocError>
     requires { escape text.now ≡ text.now }
     ensures text { OnOk result (string_bytes out.new ≡ string_bytes out.old ++ quoted text.now) }
     ensures front { OnErr result (IsFrontPushed out.old out.new (quoted text.now)) }
 {
-    out.push_str("\"")?;
+    out.push('"')?;
     out.push_str(text)?;
-    out.push_str("\"")
+    out.push('"')
 }
 
 /// As `push_quoted`, of any text.
@@ -80,7 +61,7 @@ pub fn push_comma(out: &mut String, later: bool) -> Result<(), AllocError>
     ensures text { OnOk result (string_bytes out.new ≡ string_bytes out.old ++ comma_if later) }
     ensures front { OnErr result (IsFrontPushed out.old out.new (comma_if later)) }
 {
-    if later { out.push_str(",") } else { Ok(()) }
+    if later { out.push(',') } else { Ok(()) }
 }
 
 /// Appends a JSON text, or null.

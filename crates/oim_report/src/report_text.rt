@@ -22,7 +22,7 @@ fn push_entry(out: &mut String, id: &str, fact: &Fact) -> Result<(), AllocError>
     ensures front { OnErr result (IsFrontPushed out.old out.new (member_text id.now (fact_text fact.now))) }
 {
     push_quoted(out, id)?;
-    out.push_str(":")?;
+    out.push(':')?;
     push_fact(out, fact)
 }
 

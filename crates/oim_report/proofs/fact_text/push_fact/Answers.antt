@@ -1,4 +1,5 @@
 use Rattle.std.proofs.Common.{◌≡◌, ℤ, Option, codes, string_bytes, subst, ap, ◌∙◌}
+use lib.Utf8.{encode}
 use Rattle.filing_model.specs.Common.Text.{Text}
 use Rattle.filing_model.specs.Oim.Dimensions.{Dims}
 use Rattle.filing_model.specs.Reading.Writing.{decimals_in, fact_text, raw_fact_text}
@@ -19,6 +20,7 @@ is_text dims value links decimals is =
     ap (λ d. raw_fact_text (record { dims = dims; value = text_of_value (value_view value); decimals = d; links = links })) is
 
 pub returns-in_err-push_before_value-clause-front : goal.returns-in_err-push_before_value-clause-front
+unfolding encode
 returns-in_err-push_before_value-clause-front c =
     let fact = c.fact.inside in
     let is = is_text fact.dims fact.value (text_view fact.links) c.decimals.result c.decimals.ensures ∙ ap fact_text c.fact.view_is in
@@ -28,6 +30,7 @@ returns-in_err-push_before_value-clause-front c =
     c.in_err-push_before_value.ensures.front))
 
 pub returns-in_err-push_value-clause-front : goal.returns-in_err-push_value-clause-front
+unfolding encode
 returns-in_err-push_value-clause-front c =
     let fact = c.fact.inside in
     let is = is_text fact.dims fact.value (text_view fact.links) c.decimals.result c.decimals.ensures ∙ ap fact_text c.fact.view_is in
@@ -37,11 +40,12 @@ returns-in_err-push_value-clause-front c =
     c.in_ok-push_before_value.ensures.text c.in_err-push_value.ensures.front))
 
 pub returns-clause-front : goal.returns-clause-front
+unfolding encode
 returns-clause-front c =
     let fact = c.fact.inside in
     let is = is_text fact.dims fact.value (text_view fact.links) c.decimals.result c.decimals.ensures ∙ ap fact_text c.fact.view_is in
-    on_err c.push_str.result
-    (subst (IsFrontAppended (string_bytes c.args.out.now) (string_bytes c.push_str.new.self)) is
+    on_err c.push.result
+    (subst (IsFrontAppended (string_bytes c.args.out.now) (string_bytes c.push.new.self)) is
     (front_after_value fact.dims (text_of_value (value_view fact.value)) c.decimals.result (text_view fact.links)
     c.in_ok-push_before_value.ensures.text c.in_ok-push_value.ensures.text
-    (front_pushed c.push_str.result (codes "}") c.push_str.ensures.bytes)))
+    (front_pushed c.push.result (codes "}") c.push.ensures.bytes)))

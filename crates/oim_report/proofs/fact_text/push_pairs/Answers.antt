@@ -1,4 +1,5 @@
 use Rattle.std.proofs.Common.{◌≡◌, ℕ, ◌+◌, ◌<◌, Bool, true, List, ◌++◌, length, drop, get_or, codes, Option, String, string_bytes, refl, rules}
+use lib.Utf8.{encode}
 use Rattle.std.specs.declared.alloc.Global.{Global}
 use Rattle.serde_json.specs.Written.{comma_if}
 use Rattle.filing_model.specs.Common.Text.{Text}
@@ -33,17 +34,19 @@ loop-name-preserved c =
     underway_next _ (underway_next (comma_if c.loop-name.later) c.loop-name.invariant left c.in_ok-push_comma.ensures.text) refl dim
 
 pub returns-in_err-push_comma-clause-front : goal.returns-in_err-push_comma-clause-front
+unfolding encode
 returns-in_err-push_comma-clause-front c =
     let left = next c.loop-name.later c.args.pairs.now c.loop-name.name-index _ c.loop-name-test.true c.loop-name-item.is in
     on_err c.from_residual-in_err-push_comma.result
-    (front_behind (codes "{") c.in_ok-push_str.ensures.bytes
+    (front_behind (codes "{") c.in_ok-push.ensures.bytes
     (front_before (codes "}") (front_underway _ c.loop-name.invariant left c.in_err-push_comma.ensures.front)))
 
 pub returns-in_err-push_dim-clause-front : goal.returns-in_err-push_dim-clause-front
+unfolding encode
 returns-in_err-push_dim-clause-front c =
     let left = next c.loop-name.later c.args.pairs.now c.loop-name.name-index _ c.loop-name-test.true c.loop-name-item.is in
     let dim : IsFrontAppended (string_bytes c.push_comma.new.out) (string_bytes c.push_dim.new.out)
     (pair_text c.loop-name-item.result) = search rules in
     let comma = underway_next (comma_if c.loop-name.later) c.loop-name.invariant left c.in_ok-push_comma.ensures.text in
     on_err c.from_residual-in_err-push_dim.result
-    (front_behind (codes "{") c.in_ok-push_str.ensures.bytes (front_before (codes "}") (front_underway _ comma refl dim)))
+    (front_behind (codes "{") c.in_ok-push.ensures.bytes (front_before (codes "}") (front_underway _ comma refl dim)))

@@ -1,4 +1,5 @@
 use Rattle.std.proofs.Common.{codes, string_bytes, subst}
+use lib.Utf8.{encode}
 use Rattle.filing_model.specs.Reading.Writing.{raw_fact_text}
 use Rattle.oim_fact.specs.Texts.{text_view}
 use Rattle.oim_report.specs.Appended.{IsFrontAppended}
@@ -7,6 +8,7 @@ use Rattle.oim_report.proofs.WrittenPieces.{front_before_value, front_in_value, 
 use Rattle.oim_report.proofs.fact_text.push_raw.Goals as goal
 
 pub returns-in_err-push_before_value-clause-front : goal.returns-in_err-push_before_value-clause-front
+unfolding encode
 returns-in_err-push_before_value-clause-front c =
     let raw = c.raw.inside in
     on_err c.from_residual.result
@@ -14,6 +16,7 @@ returns-in_err-push_before_value-clause-front c =
     (front_before_value raw.dims (text_view raw.value) raw.decimals (text_view raw.links) c.in_err-push_before_value.ensures.front))
 
 pub returns-in_err-push_nullable-clause-front : goal.returns-in_err-push_nullable-clause-front
+unfolding encode
 returns-in_err-push_nullable-clause-front c =
     let raw = c.raw.inside in
     on_err c.from_residual-in_err-push_nullable.result
@@ -22,10 +25,11 @@ returns-in_err-push_nullable-clause-front c =
     c.in_err-push_nullable.ensures.front))
 
 pub returns-clause-front : goal.returns-clause-front
+unfolding encode
 returns-clause-front c =
     let raw = c.raw.inside in
-    on_err c.push_str.result
-    (subst (λ raw. IsFrontAppended (string_bytes c.args.out.now) (string_bytes c.push_str.new.self) (raw_fact_text raw)) c.raw.view_is
+    on_err c.push.result
+    (subst (λ raw. IsFrontAppended (string_bytes c.args.out.now) (string_bytes c.push.new.self) (raw_fact_text raw)) c.raw.view_is
     (front_after_value raw.dims (text_view raw.value) raw.decimals (text_view raw.links)
     c.in_ok-push_before_value.ensures.text c.in_ok-push_nullable.ensures.text
-    (front_pushed c.push_str.result (codes "}") c.push_str.ensures.bytes)))
+    (front_pushed c.push.result (codes "}") c.push.ensures.bytes)))
