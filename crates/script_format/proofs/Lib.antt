@@ -3,6 +3,7 @@ pub mod ToldFaults
 pub mod AskedSteps
 pub mod AskedParts
 pub mod LinesByWord
+pub mod NoArrays
 pub mod ReportOfLoad
 pub mod AskedOfLine
 pub mod ReadValues

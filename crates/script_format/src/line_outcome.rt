@@ -2,6 +2,8 @@
 
 ghost use Rattle.std.specs.Prelude.{◌≡◌, IfOk, IfSome, IsSome, Ok, Some, string_bytes};
 ghost use Rattle.std.specs.Arc.{arc_value};
+ghost use Rattle.std.specs.Bool.{OnFalse};
+ghost use Rattle.json.specs.Word.{is_space};
 ghost use Rattle.serde_json.specs.View.{view};
 ghost use Rattle.filing_step.specs.Steps.{step_of};
 ghost use Rattle.filing_model.specs.Reading.JsonText.{json_of};
@@ -9,7 +11,8 @@ ghost use Rattle.oim_report.specs.Borrowed.{IsInRange, data_of};
 ghost use Rattle.script_format.specs.LineView.{asking_view, line_view};
 ghost use Rattle.script_format.specs.AskedStep.{asking_in};
 ghost use Rattle.script_format.specs.ScriptLines.{Asking as Asked};
-ghost use Rattle.script_format.specs.Script.{ReplyNow, call_read, judged, judged_asking, judged_export, judged_line, judged_load, report_in};
+ghost use Rattle.script_format.specs.ReplyText.{bad_line_text};
+ghost use Rattle.script_format.specs.Script.{ReplyNow, State, call_read, judged, judged_asking, judged_export, judged_line, judged_load, report_in};
 ghost use Rattle.script_format.specs.LineOutcomes.{ComesTo, ComesToBy, IsLineOutcome, judged_under};
 
 use crate::asked_step::{step_asked, step_from};
@@ -176,7 +179,7 @@ fn read_due(alloc: Global, value: &json::Value<'_>) -> Result<Option<LineOutcome
     }
 }
 
-/// Classifies a line that begins as lines without objects mostly do. None of any other.
+/// Classifies a line that begins as lines without objects mostly do, also where it is no JSON. None of any other.
 fn read_judged(
     alloc: Global,
     line: &[u8],
@@ -189,7 +192,24 @@ fn read_judged(
     }
     match text_value(alloc, line, room)? {
         Some(value) => read_due(alloc, &value),
-        None => Ok(None),
+        None => Ok(Some(LineOutcome::reply_now(alloc, bad_line_reply())?)),
+    }
+}
+
+/// Whether JSON passes over a byte between its parts.
+fn is_space(byte: u8) -> bool
+    ensures { result ≡ is_space byte }
+{
+    byte == b' ' || byte == b'\t' || byte == b'\n' || byte == b'\r'
+}
+
+/// Whether a line may be an array. One that begins with neither a bracket nor white space is none, whatever follows.
+fn may_be_array(line: &[u8]) -> bool
+    ensures { OnFalse result ((state : State) → judged state (json_of line.now) ≡ ReplyNow bad_line_text) }
+{
+    match line.first() {
+        Some(byte) => *byte == b'[' || is_space(*byte),
+        None => true,
     }
 }
 
@@ -202,6 +222,9 @@ pub fn classify_line_in(
 ) -> Result<LineOutcome, AllocError>
     ensures { IfOk result (IsLineOutcome (arc_value table.now) line.now) }
 {
+    if !may_be_array(line) {
+        return LineOutcome::reply_now(alloc, bad_line_reply());
+    }
     if let Some(loaded) = load_of_line(alloc, line, table)? {
         let Loaded { name, report } = loaded;
         return match report {
