@@ -58,10 +58,10 @@ fn ends(step: &Step) -> bool
 }
 
 /// The reply that a review gives to a step of its session.
-fn reviewed(alloc: Global, review: &Review, step: &Step) -> Result<Reply, AllocError>
-    ensures { IfOk result (λ r. reply_of r ≡ reviewed review.now (step_of step.now)) }
+fn reviewed(alloc: Global, review: &Review, step: Step) -> Result<Reply, AllocError>
+    ensures { IfOk result (λ r. reply_of r ≡ reviewed review.now (step_of step)) }
 {
-    match step.call()? {
+    match step.into_call() {
         Some(call) => review.call(alloc, call),
         None => Ok(Reply::Closed),
     }
@@ -336,9 +336,7 @@ impl<L: Ledger + Naming, M: Ledger> NamedDesk<L, M> {
                 if !is_end {
                     access.leave();
                 }
-                let reply = reviewed(self.alloc, review, &step);
-                drop(step);
-                let reply = reply?;
+                let reply = reviewed(self.alloc, review, step)?;
                 self.leave(name, is_end);
                 Ok(of_review(reply))
             }

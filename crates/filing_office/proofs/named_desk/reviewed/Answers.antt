@@ -6,5 +6,5 @@ use Rattle.filing_office.proofs.named_desk.reviewed.Goals as goal
 pub returns-in-Some : goal.returns-in-Some
 returns-in-Some c =
     let call = c.in-Some.call in
-    reply_so reply_of c.call-in-Some.result _ _ c.call-in-Some.ensures
-    (sym (reviewed_call c.args.review.now (step_of c.args.step.now) (call_of call) (ap (λ o. option_map call_of o) (sym c.in-Some.is) ∙ c.in_ok-call.ensures)))
+    reply_so reply_of c.call.result _ _ c.call.ensures
+    (sym (reviewed_call c.args.review.now (step_of c.args.step) (call_of call) (ap (λ o. option_map call_of o) (sym c.in-Some.is) ∙ c.into_call.ensures)))
