@@ -1,3 +1,5 @@
+-- ---- the first line feed of a text
+mod FirstByte
 -- ---- devices, and the lines and replies that pass through them
 pub mod DeviceSteps
 pub mod CutLines

@@ -31,7 +31,7 @@ mod source;
 
 pub use adapters::{FromReader, ToWriter};
 pub use fault::{Failed, ScriptFault};
-pub use lines::{is_blank, next_line};
+pub use lines::{is_blank, line_end, next_line};
 pub use machine::{DurableMachine, Machine};
 pub use memory::{MemoryIn, MemoryOut};
 pub use runs::{run, run_kept};

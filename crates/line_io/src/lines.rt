@@ -5,6 +5,8 @@ ghost use Rattle.std.specs.List.{position, position_or_len};
 ghost use Rattle.line_io.specs.Lines.{is_blank as is_blank_line, is_line_feed, lines_of, spoken};
 ghost use Rattle.line_io.specs.Pieces.{IsCut};
 
+use memchr::memchr;
+
 /// Whether a line has only spaces, tabs and carriage returns. Such a line is passed over.
 pub fn is_blank(line: &[u8]) -> bool
     ensures { result ≡ is_blank_line line.now }
@@ -13,11 +15,11 @@ pub fn is_blank(line: &[u8]) -> bool
         .all(|byte| *byte == b' ' || *byte == b'\t' || *byte == b'\r')
 }
 
-// The place of the first line feed.
-fn line_end(text: &[u8]) -> Option<usize>
+/// The place of the first line feed.
+pub fn line_end(text: &[u8]) -> Option<usize>
     ensures { result ≡ position is_line_feed text.now }
 {
-    text.iter().position(|byte| *byte == b'\n')
+    memchr(b'\n', text)
 }
 
 /// The bytes before the first line feed, and those after it.
