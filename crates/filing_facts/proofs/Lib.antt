@@ -1,1 +1,2 @@
+mod FedDims
 pub mod KeptTexts
