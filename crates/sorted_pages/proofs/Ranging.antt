@@ -18,9 +18,11 @@ use Rattle.sorted_pages.proofs.Steps.{rising_parts}
 use Rattle.sorted_pages.proofs.Stretches.{ends_of_blocks, begins_of_blocks, entries_from, entries_to, blocks_from, block_from, blocks_until, block_until, until_past, until_reaching, lasts_past}
 
 -- what follows in a row, from parts of it
-pub in_a_row : {X : Type 0} (es ps rs gs a b c : List X) → es ++ ps ≡ a → a ++ rs ≡ b → b ++ gs ≡ c → es ++ (ps ++ (rs ++ gs)) ≡ c
-in_a_row es ps rs gs a b c e f g =
-    sym (append_assoc es ps (rs ++ gs)) ∙ ap (λ xs. xs ++ (rs ++ gs)) e ∙ sym (append_assoc a rs gs) ∙ ap (λ xs. xs ++ gs) f ∙ g
+pub in_a_row : {X : Type 0} (es ps rs gs ss a b c d : List X) → es ++ ps ≡ a → a ++ rs ≡ b → b ++ gs ≡ c → c ++ ss ≡ d
+    → es ++ (ps ++ (rs ++ (gs ++ ss))) ≡ d
+in_a_row es ps rs gs ss a b c d e f g h =
+    sym (append_assoc es ps (rs ++ (gs ++ ss))) ∙ ap (λ xs. xs ++ (rs ++ (gs ++ ss))) e
+    ∙ sym (append_assoc a rs (gs ++ ss)) ∙ ap (λ xs. xs ++ (gs ++ ss)) f ∙ sym (append_assoc b gs ss) ∙ ap (λ xs. xs ++ ss) g ∙ h
 
 module _ {E : Type 0} (R : E → E → Ordering) (o : IsTotalOrder R) (side : E → Ordering) (m : IsMonotone R side) where
   abbrev before : E → Bool
@@ -100,13 +102,20 @@ module _ {E : Type 0} (R : E → E → Ordering) (o : IsTotalOrder R) (side : E 
         ahead back (subst (λ bs. IsRising R (flat_map (held v) bs)) e h) g
         ∙ ap (λ es. flat_map (held v) ahead ++ es) (first_until ahead back rest items f g))
 
-  -- ---- entries, pages, runs and groups in a row
+  -- ---- entries, pages, runs, groups and sections in a row
 
-  pub each_rises : (es ps rs gs : List E) → IsRising R (es ++ (ps ++ (rs ++ gs))) → IsRising R es × IsRising R ps × IsRising R rs × IsRising R gs
-  each_rises es ps rs gs h =
-      let pages : IsRising R (ps ++ (rs ++ gs)) = rising_right R es (ps ++ (rs ++ gs)) h in
-      let runs : IsRising R (rs ++ gs) = rising_right R ps (rs ++ gs) pages in
-      (rising_left R es (ps ++ (rs ++ gs)) h, rising_left R ps (rs ++ gs) pages, rising_left R rs gs runs, rising_right R rs gs runs)
+  pub each_rises : (es ps rs gs ss : List E) → IsRising R (es ++ (ps ++ (rs ++ (gs ++ ss))))
+      → IsRising R es × IsRising R ps × IsRising R rs × IsRising R gs × IsRising R ss
+  each_rises es ps rs gs ss h =
+      let pages : IsRising R (ps ++ (rs ++ (gs ++ ss))) = rising_right R es (ps ++ (rs ++ (gs ++ ss))) h in
+      let runs : IsRising R (rs ++ (gs ++ ss)) = rising_right R ps (rs ++ (gs ++ ss)) pages in
+      let groups : IsRising R (gs ++ ss) = rising_right R rs (gs ++ ss) runs in (
+        rising_left R es (ps ++ (rs ++ (gs ++ ss))) h,
+        rising_left R ps (rs ++ (gs ++ ss)) pages,
+        rising_left R rs (gs ++ ss) runs,
+        rising_left R gs ss groups,
+        rising_right R gs ss groups,
+      )
 
   -- the range ends in a part that others follow
   ends_in : (front part rest kept : List E) → IsRising R ((front ++ part) ++ rest) → T (first_passes until part) → T (begins_with past rest)
@@ -119,34 +128,54 @@ module _ {E : Type 0} (R : E → E → Ordering) (o : IsTotalOrder R) (side : E 
   both_past [] ys g h = h
   both_past (x ∷ xs) ys g h = g
 
-  pub until_in_groups : (es ps rs gs before tail : List E) → IsRising R (es ++ (ps ++ (rs ++ gs))) → T (first_passes until gs)
-      → before ++ tail ≡ until_span side gs → (es ++ (ps ++ (rs ++ before))) ++ tail ≡ until_span side (es ++ (ps ++ (rs ++ gs)))
-  until_in_groups es ps rs gs before tail h g k =
-      let row : (zs : List E) → es ++ (ps ++ (rs ++ zs)) ≡ (es ++ (ps ++ rs)) ++ zs =
-      λ zs. ap (λ xs. es ++ xs) (sym (append_assoc ps rs zs)) ∙ sym (append_assoc es (ps ++ rs) zs) in
-      let same : ((es ++ (ps ++ rs)) ++ gs) ++ [] ≡ es ++ (ps ++ (rs ++ gs)) = append-nil ((es ++ (ps ++ rs)) ++ gs) ∙ sym (row gs) in
-      ap (λ xs. xs ++ tail) (row before) ∙ append_assoc (es ++ (ps ++ rs)) before tail
-      ∙ ends_in (es ++ (ps ++ rs)) gs [] (before ++ tail) (subst (IsRising R) (sym same) h) g tt k
+  pub until_in_sections : (es ps rs gs ss before tail : List E) → IsRising R (es ++ (ps ++ (rs ++ (gs ++ ss)))) → T (first_passes until ss)
+      → before ++ tail ≡ until_span side ss
+      → (es ++ (ps ++ (rs ++ (gs ++ before)))) ++ tail ≡ until_span side (es ++ (ps ++ (rs ++ (gs ++ ss))))
+  until_in_sections es ps rs gs ss before tail h g k =
+      let front = es ++ (ps ++ (rs ++ gs)) in
+      let row : (zs : List E) → es ++ (ps ++ (rs ++ (gs ++ zs))) ≡ front ++ zs =
+      λ zs. ap (λ xs. es ++ (ps ++ xs)) (sym (append_assoc rs gs zs)) ∙ ap (λ xs. es ++ xs) (sym (append_assoc ps (rs ++ gs) zs))
+      ∙ sym (append_assoc es (ps ++ (rs ++ gs)) zs) in
+      let same : (front ++ ss) ++ [] ≡ es ++ (ps ++ (rs ++ (gs ++ ss))) = append-nil (front ++ ss) ∙ sym (row ss) in
+      ap (λ xs. xs ++ tail) (row before) ∙ append_assoc front before tail
+      ∙ ends_in front ss [] (before ++ tail) (subst (IsRising R) (sym same) h) g tt k
       ∙ ap (until_span side) same
 
-  pub until_in_runs : (es ps rs gs tail : List E) → IsRising R (es ++ (ps ++ (rs ++ gs))) → T (begins_with past gs) → T (first_passes until rs)
-      → tail ≡ until_span side rs → (es ++ (ps ++ [])) ++ tail ≡ until_span side (es ++ (ps ++ (rs ++ gs)))
-  until_in_runs es ps rs gs tail h b g k =
-      let same : ((es ++ ps) ++ rs) ++ gs ≡ es ++ (ps ++ (rs ++ gs)) = append_assoc (es ++ ps) rs gs ∙ append_assoc es ps (rs ++ gs) in
-      ap (λ xs. (es ++ xs) ++ tail) (append-nil ps) ∙ ends_in (es ++ ps) rs gs tail (subst (IsRising R) (sym same) h) g b k ∙ ap (until_span side) same
+  pub until_in_groups : (es ps rs gs ss tail : List E) → IsRising R (es ++ (ps ++ (rs ++ (gs ++ ss)))) → T (begins_with past ss)
+      → T (first_passes until gs)
+      → tail ≡ until_span side gs → (es ++ (ps ++ (rs ++ []))) ++ tail ≡ until_span side (es ++ (ps ++ (rs ++ (gs ++ ss))))
+  until_in_groups es ps rs gs ss tail h b g k =
+      let same : ((es ++ (ps ++ rs)) ++ gs) ++ ss ≡ es ++ (ps ++ (rs ++ (gs ++ ss))) =
+      append_assoc (es ++ (ps ++ rs)) gs ss ∙ append_assoc es (ps ++ rs) (gs ++ ss) ∙ ap (λ xs. es ++ xs) (append_assoc ps rs (gs ++ ss)) in
+      ap (λ xs. (es ++ (ps ++ xs)) ++ tail) (append-nil rs)
+      ∙ ends_in (es ++ (ps ++ rs)) gs ss tail (subst (IsRising R) (sym same) h) g b k ∙ ap (until_span side) same
 
-  pub until_in_pages : (es ps rs gs before tail : List E) → IsRising R (es ++ (ps ++ (rs ++ gs))) → T (begins_with past gs) → T (begins_with past rs)
-      → T (first_passes until ps)
-      → before ++ tail ≡ until_span side ps → (es ++ (before ++ [])) ++ tail ≡ until_span side (es ++ (ps ++ (rs ++ gs)))
-  until_in_pages es ps rs gs before tail h b c g k =
-      let same : (es ++ ps) ++ (rs ++ gs) ≡ es ++ (ps ++ (rs ++ gs)) = append_assoc es ps (rs ++ gs) in
+  pub until_in_runs : (es ps rs gs ss tail : List E) → IsRising R (es ++ (ps ++ (rs ++ (gs ++ ss)))) → T (begins_with past ss)
+      → T (begins_with past gs) → T (first_passes until rs)
+      → tail ≡ until_span side rs → (es ++ (ps ++ [])) ++ tail ≡ until_span side (es ++ (ps ++ (rs ++ (gs ++ ss))))
+  until_in_runs es ps rs gs ss tail h b c g k =
+      let same : ((es ++ ps) ++ rs) ++ (gs ++ ss) ≡ es ++ (ps ++ (rs ++ (gs ++ ss))) =
+      append_assoc (es ++ ps) rs (gs ++ ss) ∙ append_assoc es ps (rs ++ (gs ++ ss)) in
+      ap (λ xs. (es ++ xs) ++ tail) (append-nil ps)
+      ∙ ends_in (es ++ ps) rs (gs ++ ss) tail (subst (IsRising R) (sym same) h) g (both_past gs ss c b) k ∙ ap (until_span side) same
+
+  pub until_in_pages : (es ps rs gs ss before tail : List E) → IsRising R (es ++ (ps ++ (rs ++ (gs ++ ss)))) → T (begins_with past ss)
+      → T (begins_with past gs) → T (begins_with past rs) → T (first_passes until ps)
+      → before ++ tail ≡ until_span side ps
+      → (es ++ (before ++ [])) ++ tail ≡ until_span side (es ++ (ps ++ (rs ++ (gs ++ ss))))
+  until_in_pages es ps rs gs ss before tail h b c d g k =
+      let rest = rs ++ (gs ++ ss) in
+      let same : (es ++ ps) ++ rest ≡ es ++ (ps ++ rest) = append_assoc es ps rest in
       ap (λ xs. (es ++ xs) ++ tail) (append-nil before) ∙ append_assoc es before tail
-      ∙ ends_in es ps (rs ++ gs) (before ++ tail) (subst (IsRising R) (sym same) h) g (both_past rs gs c b) k ∙ ap (until_span side) same
+      ∙ ends_in es ps rest (before ++ tail) (subst (IsRising R) (sym same) h) g (both_past rs (gs ++ ss) d (both_past gs ss c b)) k
+      ∙ ap (until_span side) same
 
-  pub until_in_entries : (es ps rs gs before : List E) → T (begins_with past gs) → T (begins_with past rs) → T (begins_with past ps)
-      → before ≡ until_span side es → (before ++ []) ++ [] ≡ until_span side (es ++ (ps ++ (rs ++ gs)))
-  until_in_entries es ps rs gs before b c d k =
-      append-nil (before ++ []) ∙ append-nil before ∙ k ∙ sym (until_past R side m es (ps ++ (rs ++ gs)) (both_past ps (rs ++ gs) d (both_past rs gs c b)))
+  pub until_in_entries : (es ps rs gs ss before : List E) → T (begins_with past ss) → T (begins_with past gs) → T (begins_with past rs)
+      → T (begins_with past ps)
+      → before ≡ until_span side es → (before ++ []) ++ [] ≡ until_span side (es ++ (ps ++ (rs ++ (gs ++ ss))))
+  until_in_entries es ps rs gs ss before b c d f k =
+      append-nil (before ++ []) ∙ append-nil before ∙ k
+      ∙ sym (until_past R side m es (ps ++ (rs ++ (gs ++ ss))) (both_past ps (rs ++ (gs ++ ss)) f (both_past rs (gs ++ ss) d (both_past gs ss c b))))
 
   -- ---- the first in the range
 

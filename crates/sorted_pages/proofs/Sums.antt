@@ -16,3 +16,9 @@ members_more members before items i x h read =
 pub members_all : {X E : Type 0} (members : X → List E) (before : List E) (items : List X) (i : ℕ) → length items ≤ i
     → before ++ flat_map members (take i items) ≡ before ++ flat_map members items
 members_all members before items i h = ap (λ xs. before ++ flat_map members xs) (take_all i items h)
+
+-- five parts, one after another
+pub in_order : {E : Type 0} (xs a b c d e : List E) → ((((xs ++ a) ++ b) ++ c) ++ d) ++ e ≡ xs ++ (a ++ (b ++ (c ++ (d ++ e))))
+in_order xs a b c d e =
+    append_assoc (((xs ++ a) ++ b) ++ c) d e ∙ append_assoc ((xs ++ a) ++ b) c (d ++ e)
+    ∙ append_assoc (xs ++ a) b (c ++ (d ++ e)) ∙ append_assoc xs a (b ++ (c ++ (d ++ e)))

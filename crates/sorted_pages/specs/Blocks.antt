@@ -16,9 +16,9 @@ pub record IsBlock {X E K : Type 0} (members : X → List E) (keeps : K → List
   pub begins : Some first_key ≡ first_of first items
   pub ends : Some last_key ≡ last_of last items
 
--- up to 64 entries stand in place, or all stand in groups, and they rise
-pub record IsShortOrLong {E X Y Z : Type 0} (R : E → E → Ordering) (entries : List E)
-    (groups : List (Arc (List (Arc (List (Arc (List E) Z)) Y)) X)) : Type 0 where
-  pub rises : IsRising R (ahead entries [] [] groups)
+-- up to 64 entries stand in place, or all stand in sections, and they rise
+pub record IsShortOrLong {E W X Y Z : Type 0} (R : E → E → Ordering) (entries : List E)
+    (sections : List (Arc (List (Arc (List (Arc (List (Arc (List E) Z)) Y)) X)) W)) : Type 0 where
+  pub rises : IsRising R (ahead entries [] [] [] sections)
   pub few : length entries ≤ 64
-  pub apart : 0 < length groups → entries ≡ []
+  pub apart : 0 < length sections → entries ≡ []

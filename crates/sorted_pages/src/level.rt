@@ -1,4 +1,4 @@
-//! The levels of a list: entries, pages of entries, runs of pages and groups of runs.
+//! The levels of a list: entries, pages of entries, runs of pages, groups of runs and sections of groups.
 ghost use Rattle.std.specs.Prelude.{◌≡◌, ◌≤◌, ◌+◌, ◌++◌, ℕ, List, length, IfOk, OnOk, Some};
 ghost use Rattle.std.specs.List.{flat_map};
 ghost use Rattle.sorted_pages.specs.Keys.{BeginsWithKey, EndsWithKey};
@@ -210,3 +210,6 @@ pub(crate) type Run<E> = Arc<Block<Page<E>>>;
 
 /// Runs one after another.
 pub(crate) type Group<E> = Arc<Block<Run<E>>>;
+
+/// Groups one after another.
+pub(crate) type Section<E> = Arc<Block<Group<E>>>;

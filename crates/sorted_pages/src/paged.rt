@@ -3,7 +3,7 @@ ghost use Rattle.std.specs.Prelude.{◌≡◌, ◌≤◌, ◌<◌, get_or, IfSom
 ghost use Rattle.std.specs.Ordering.{is_eq};
 ghost use Rattle.std.specs.FinMap.Entries.{find};
 ghost use Rattle.std.specs.List.{flat_map, remove};
-ghost use Rattle.sorted_pages.specs.Pages.{AreSizes, ahead, of_group, single};
+ghost use Rattle.sorted_pages.specs.Pages.{AreSizes, ahead, of_section, single};
 ghost use Rattle.sorted_pages.specs.Sorted.{IsRising, keyed};
 ghost use Rattle.sorted_pages.specs.Ranges.{from_span, within, first_within};
 ghost use Rattle.sorted_pages.specs.Changes.{entry_of, with_change, with_changes};
@@ -16,7 +16,7 @@ use crate::edge::{Before, split_at_edge};
 use crate::edit::Edit;
 use crate::entry::{PageEntry, Span};
 use crate::in_place::InPlace;
-use crate::level::{Group, Leaf, Run};
+use crate::level::{Group, Leaf, Section};
 use crate::range::{Front, Range, all_from, all_until, entries_from, with_entries, with_pages};
 use crate::spans::Tie;
 use std::alloc::{AllocError, Global};
@@ -24,13 +24,13 @@ use std::marker::Model;
 
 /// An unchanging sorted list of entries, of which a changed copy shares the pages where nothing changed.
 ///
-/// The entries of a short list stand in place, so that a changed copy of it asks for memory once. Where there are groups, none do.
+/// The entries of a short list stand in place, so that a changed copy of it asks for memory once. Where there are sections, none do.
 ///
 /// Contracts see the list of the entries.
 #[derive(Drop)]
 pub struct Paged<E: PageEntry> {
     entries: Vec<Leaf<E>>,
-    groups: Vec<Group<E>>,
+    sections: Vec<Section<E>>,
 }
 
 impl<E: PageEntry> Model for Paged<E> {
@@ -40,9 +40,9 @@ impl<E: PageEntry> Model for Paged<E> {
 
     ghost Value = { List E };
 
-    ghost view = { λ p. ahead p.entries.items [] [] p.groups.items };
+    ghost view = { λ p. ahead p.entries.items [] [] [] p.sections.items };
 
-    ghost invariant = { λ p. IsShortOrLong E.order p.entries.items p.groups.items };
+    ghost invariant = { λ p. IsShortOrLong E.order p.entries.items p.sections.items };
 }
 
 /// The entry, where it is in the range.
@@ -89,7 +89,7 @@ fn short_of_sorted<E: PageEntry>(alloc: Global, entries: Vec<E>) -> Result<Paged
     Ok(Paged::short(alloc, entries))
 }
 
-/// The list of entries that stand in groups.
+/// The list of entries that stand in sections.
 fn long_of_sorted<E: PageEntry>(
     alloc: Global,
     layout: Layout,
@@ -98,9 +98,9 @@ fn long_of_sorted<E: PageEntry>(
     requires { IsRising E.order entries.items }
     ensures { IfOk result (λ p. p ≡ entries.items) }
 {
-    let groups: Vec<Group<E>> = Vec::new(alloc);
-    let groups = fill_blocks::<E, Run<E>, Vec<Group<E>>>(alloc, layout, entries, groups)?;
-    Ok(Paged::long(alloc, groups))
+    let sections: Vec<Section<E>> = Vec::new(alloc);
+    let sections = fill_blocks::<E, Group<E>, Vec<Section<E>>>(alloc, layout, entries, sections)?;
+    Ok(Paged::long(alloc, sections))
 }
 
 /// The entries out of their places.
@@ -135,20 +135,20 @@ fn short_after<E: PageEntry>(
     }
 }
 
-/// The list after changes of one whose entries stand in groups.
+/// The list after changes of one whose entries stand in sections.
 fn long_after<E: PageEntry>(
     alloc: Global,
-    groups: &[Group<E>],
+    sections: &[Section<E>],
     changes: &[Edit<E>],
 ) -> Result<Paged<E>, AllocError>
-    requires entries { IsRising E.order (flat_map of_group groups.now) }
+    requires entries { IsRising E.order (flat_map of_section sections.now) }
     requires changes { IsRising E.order (map entry_of changes.now) }
-    ensures { IfOk result (λ p. p ≡ with_changes E.order changes.now (flat_map of_group groups.now)) }
+    ensures { IfOk result (λ p. p ≡ with_changes E.order changes.now (flat_map of_section sections.now)) }
 {
-    let room = groups.len().saturating_add(1);
+    let room = sections.len().saturating_add(1);
     let grown = Vec::with_capacity(alloc, room)?;
-    let groups = apply_to_blocks(alloc, groups, changes, grown)?;
-    Ok(Paged::long(alloc, groups))
+    let sections = apply_to_blocks(alloc, sections, changes, grown)?;
+    Ok(Paged::long(alloc, sections))
 }
 
 impl<E: PageEntry> Paged<E> {
@@ -158,7 +158,7 @@ impl<E: PageEntry> Paged<E> {
     {
         Paged {
             entries: Vec::new(alloc),
-            groups: Vec::new(alloc),
+            sections: Vec::new(alloc),
         }
     }
 
@@ -170,18 +170,18 @@ impl<E: PageEntry> Paged<E> {
     {
         Paged {
             entries,
-            groups: Vec::new(alloc),
+            sections: Vec::new(alloc),
         }
     }
 
-    /// A list whose entries stand in groups.
-    fn long(alloc: Global, groups: Vec<Group<E>>) -> Paged<E>
-        requires { IsRising E.order (flat_map of_group groups.items) }
-        ensures { result ≡ flat_map of_group groups.items }
+    /// A list whose entries stand in sections.
+    fn long(alloc: Global, sections: Vec<Section<E>>) -> Paged<E>
+        requires { IsRising E.order (flat_map of_section sections.items) }
+        ensures { result ≡ flat_map of_section sections.items }
     {
         Paged {
             entries: Vec::new(alloc),
-            groups,
+            sections,
         }
     }
 
@@ -202,10 +202,10 @@ impl<E: PageEntry> Paged<E> {
         requires { IsRising E.order (map entry_of changes.now) }
         ensures { IfOk result (λ p. p ≡ with_changes E.order changes.now self.now) }
     {
-        if self.groups.is_empty() {
+        if self.sections.is_empty() {
             short_after(alloc, &self.entries, changes)
         } else {
-            long_after(alloc, &self.groups, changes)
+            long_after(alloc, &self.sections, changes)
         }
     }
 
@@ -214,10 +214,10 @@ impl<E: PageEntry> Paged<E> {
         ensures { IfOk result (λ is_made. self.new
             ≡ (if is_made then with_change E.order change.now self.old else self.old)) }
     {
-        if self.groups.is_empty() {
+        if self.sections.is_empty() {
             return Leaf::change(&mut self.entries, change);
         }
-        Group::change(&mut self.groups, change)
+        Section::change(&mut self.sections, change)
     }
 
     /// Makes one change, in place where that can be done, and else in a copy.
@@ -249,17 +249,17 @@ impl<E: PageEntry> Paged<E> {
         Ok(list)
     }
 
-    /// Takes the first entry in a range out of a list whose entries stand in place. Out of groups none is taken.
+    /// Takes the first entry in a range out of a list whose entries stand in place. Out of sections none is taken.
     pub fn take<S: Span<E>>(self, alloc: Global, span: &S) -> (Paged<E>, Option<E>)
         ensures none { result.1 ≡ None → result.0 ≡ self }
         ensures some { IfSome result.1 (λ e. (Some e ≡ first_within (S.side span.now) self)
             × (result.0 ≡ with_change E.order (Remove e) self)) }
     {
-        let Paged { entries, groups } = self;
+        let Paged { entries, sections } = self;
         let (before, rest) = split_at_edge(&entries, &Before(span));
         let (place, is_there) = (before.len(), is_in(rest, span));
         if !is_there {
-            return (Paged { entries, groups }, None);
+            return (Paged { entries, sections }, None);
         }
         let (entries, taken) = taken_at(entries, place);
         (Paged::short(alloc, entries), Some(taken))
@@ -267,18 +267,19 @@ impl<E: PageEntry> Paged<E> {
 
     /// The entries from the first on that does not stand before the range.
     fn front_from<S: Span<E>>(&self, span: &S) -> Front<'_, E>
-        ensures front { ahead result.entries.now result.pages.now result.runs.now result.groups.now
+        ensures front { ahead result.entries.now result.pages.now result.runs.now result.groups.now result.sections.now
             ≡ from_span (S.side span.now) self.now }
         ensures rising { IsRising E.order self.now }
     {
-        if !self.groups.is_empty() {
-            return all_from(&self.groups, span);
+        if !self.sections.is_empty() {
+            return all_from(&self.sections, span);
         }
         Front {
             entries: entries_from(&self.entries, span),
             pages: &[],
             runs: &[],
             groups: &[],
+            sections: &[],
         }
     }
 
@@ -321,7 +322,8 @@ impl<E: PageEntry> Paged<E> {
             entries: &[],
             pages: &[],
             runs: &[],
-            groups: &self.groups,
+            groups: &[],
+            sections: &self.sections,
         });
         while let Some((page, pages)) = left.pages.split_first() {
             sizes.push(page.items().len())?;

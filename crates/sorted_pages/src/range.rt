@@ -3,7 +3,7 @@ ghost use Rattle.std.specs.Prelude.{◌≡◌, ◌<◌, ◌++◌, [], List, leng
 ghost use Rattle.std.specs.List.{flat_map};
 ghost use Rattle.std.specs.Ordering.{is_lt, is_gt};
 ghost use Rattle.std.specs.Iterator.{YieldsFirstRef, item_count};
-ghost use Rattle.sorted_pages.specs.Pages.{IsFirstBlock, held, single, of_page, of_run, of_group, ahead, behind};
+ghost use Rattle.sorted_pages.specs.Pages.{IsFirstBlock, held, single, of_page, of_run, of_group, of_section, ahead, behind};
 ghost use Rattle.sorted_pages.specs.Sorted.{IsRising};
 ghost use Rattle.sorted_pages.specs.Edges.{answer_of, begins_with, first_passes};
 ghost use Rattle.sorted_pages.specs.Ranges.{from_span, until_span};
@@ -12,7 +12,7 @@ use crate::apply::split_first_block;
 use crate::block::{Block, added_to};
 use crate::edge::{Before, Test, Until, split_at_edge, split_before_edge};
 use crate::entry::{Edged, PageEntry, Span};
-use crate::level::{Group, Leaf, Level, Page, Run};
+use crate::level::{Group, Leaf, Level, Page, Run, Section};
 use std::marker::Model;
 use std::sync::Arc;
 
@@ -31,22 +31,24 @@ impl<'a, E: PageEntry> Model for Range<'a, E> {
 
     ghost Value = { List E };
 
-    ghost view = { λ r. ahead r.front.entries.now r.front.pages.now r.front.runs.now r.front.groups.now
-        ++ behind r.back.runs.now r.back.pages.now r.back.entries.now };
+    ghost view = { λ r. ahead r.front.entries.now r.front.pages.now r.front.runs.now r.front.groups.now r.front.sections.now
+        ++ behind r.back.groups.now r.back.runs.now r.back.pages.now r.back.entries.now };
 }
 
-/// The entries from some place on: the rest of a page, of a run, of a group and of the list.
+/// The entries from some place on: the rest of a page, of a run, of a group, of a section and of the list.
 #[derive(Drop)]
 pub(crate) struct Front<'a, E: PageEntry> {
     pub(crate) entries: &'a [Leaf<E>],
     pub(crate) pages: &'a [Page<E>],
     pub(crate) runs: &'a [Run<E>],
     pub(crate) groups: &'a [Group<E>],
+    pub(crate) sections: &'a [Section<E>],
 }
 
-/// The entries up to some place: the first runs of a group, pages of a run and entries of a page.
+/// The entries up to some place: the first groups of a section, runs of a group, pages of a run and entries of a page.
 #[derive(Drop)]
 struct Back<'a, E: PageEntry> {
+    groups: &'a [Group<E>],
     runs: &'a [Run<E>],
     pages: &'a [Page<E>],
     entries: &'a [Leaf<E>],
@@ -71,27 +73,29 @@ fn refill<'a, T: Edged>(
 /// The same entries, with a page, if there is one, among the pages.
 pub(crate) fn with_pages<'a, E: PageEntry>(front: Front<'a, E>) -> Front<'a, E>
     ensures entries { result.entries.now ≡ front.entry.entries.now }
-    ensures same { ahead [] result.pages.now result.runs.now result.groups.now
-        ≡ ahead [] front.entry.pages.now front.entry.runs.now front.entry.groups.now }
+    ensures same { ahead [] result.pages.now result.runs.now result.groups.now result.sections.now
+        ≡ ahead [] front.entry.pages.now front.entry.runs.now front.entry.groups.now front.entry.sections.now }
     ensures none { length result.pages.now ≡ 0
-        → ahead [] front.entry.pages.now front.entry.runs.now front.entry.groups.now ≡ [] }
+        → ahead [] front.entry.pages.now front.entry.runs.now front.entry.groups.now front.entry.sections.now ≡ [] }
 {
-    let (runs, groups) = refill(front.runs, front.groups);
+    let (groups, sections) = refill(front.groups, front.sections);
+    let (runs, groups) = refill(front.runs, groups);
     let (pages, runs) = refill(front.pages, runs);
     Front {
         pages,
         runs,
         groups,
+        sections,
         ..front
     }
 }
 
 /// The same entries, with the first, if there is one, among those of the first page.
 pub(crate) fn with_entries<'a, E: PageEntry>(front: Front<'a, E>) -> Front<'a, E>
-    ensures same { ahead result.entries.now result.pages.now result.runs.now result.groups.now
-        ≡ ahead front.entry.entries.now front.entry.pages.now front.entry.runs.now front.entry.groups.now }
+    ensures same { ahead result.entries.now result.pages.now result.runs.now result.groups.now result.sections.now
+        ≡ ahead front.entry.entries.now front.entry.pages.now front.entry.runs.now front.entry.groups.now front.entry.sections.now }
     ensures none { length result.entries.now ≡ 0
-        → ahead front.entry.entries.now front.entry.pages.now front.entry.runs.now front.entry.groups.now ≡ [] }
+        → ahead front.entry.entries.now front.entry.pages.now front.entry.runs.now front.entry.groups.now front.entry.sections.now ≡ [] }
 {
     let front = with_pages(front);
     let (entries, pages) = refill(front.entries, front.pages);
@@ -104,13 +108,13 @@ pub(crate) fn with_entries<'a, E: PageEntry>(front: Front<'a, E>) -> Front<'a, E
 
 /// The same entries, with the first, if there is one, in front: where nothing is left there, what is behind moves up.
 fn advanced<'a, E: PageEntry>(front: Front<'a, E>, back: Back<'a, E>) -> (Front<'a, E>, Back<'a, E>)
-    ensures same { ahead result.0.entries.now result.0.pages.now result.0.runs.now result.0.groups.now
-        ++ behind result.1.runs.now result.1.pages.now result.1.entries.now
-        ≡ ahead front.entry.entries.now front.entry.pages.now front.entry.runs.now front.entry.groups.now
-        ++ behind back.entry.runs.now back.entry.pages.now back.entry.entries.now }
+    ensures same { ahead result.0.entries.now result.0.pages.now result.0.runs.now result.0.groups.now result.0.sections.now
+        ++ behind result.1.groups.now result.1.runs.now result.1.pages.now result.1.entries.now
+        ≡ ahead front.entry.entries.now front.entry.pages.now front.entry.runs.now front.entry.groups.now front.entry.sections.now
+        ++ behind back.entry.groups.now back.entry.runs.now back.entry.pages.now back.entry.entries.now }
     ensures none { length result.0.entries.now ≡ 0
-        → ahead front.entry.entries.now front.entry.pages.now front.entry.runs.now front.entry.groups.now
-        ++ behind back.entry.runs.now back.entry.pages.now back.entry.entries.now ≡ [] }
+        → ahead front.entry.entries.now front.entry.pages.now front.entry.runs.now front.entry.groups.now front.entry.sections.now
+        ++ behind back.entry.groups.now back.entry.runs.now back.entry.pages.now back.entry.entries.now ≡ [] }
 {
     let front = with_entries(front);
     if !front.entries.is_empty() {
@@ -119,8 +123,23 @@ fn advanced<'a, E: PageEntry>(front: Front<'a, E>, back: Back<'a, E>) -> (Front<
     let front = with_entries(Front {
         entries: &[],
         pages: &[],
+        runs: &[],
+        groups: back.groups,
+        sections: &[],
+    });
+    let back = Back {
+        groups: &[],
+        ..back
+    };
+    if !front.entries.is_empty() {
+        return (front, back);
+    }
+    let front = with_entries(Front {
+        entries: &[],
+        pages: &[],
         runs: back.runs,
         groups: &[],
+        sections: &[],
     });
     let back = Back { runs: &[], ..back };
     if !front.entries.is_empty() {
@@ -131,6 +150,7 @@ fn advanced<'a, E: PageEntry>(front: Front<'a, E>, back: Back<'a, E>) -> (Front<
         pages: back.pages,
         runs: &[],
         groups: &[],
+        sections: &[],
     });
     let back = Back { pages: &[], ..back };
     if !front.entries.is_empty() {
@@ -141,6 +161,7 @@ fn advanced<'a, E: PageEntry>(front: Front<'a, E>, back: Back<'a, E>) -> (Front<
         pages: &[],
         runs: &[],
         groups: &[],
+        sections: &[],
     };
     (
         front,
@@ -164,8 +185,10 @@ impl<'a, E: PageEntry> Iterator for Range<'a, E> {
             pages: self.front.pages,
             runs: self.front.runs,
             groups: self.front.groups,
+            sections: self.front.sections,
         };
         let back = Back {
+            groups: self.back.groups,
             runs: self.back.runs,
             pages: self.back.pages,
             entries: self.back.entries,
@@ -195,27 +218,31 @@ impl<'a, E: PageEntry> Range<'a, E> {
         !self.front.pages.is_empty()
             || !self.front.runs.is_empty()
             || !self.front.groups.is_empty()
+            || !self.front.sections.is_empty()
             || !self.back.pages.is_empty()
             || !self.back.runs.is_empty()
+            || !self.back.groups.is_empty()
     }
 }
 
 /// A sum with these entries at the end.
 fn added_ahead<E: PageEntry>(sum: E::Sum, front: &Front<'_, E>) -> E::Sum
     ensures { (xs : List E) → E.tells sum xs → E.tells result
-        (xs ++ ahead front.now.entries.now front.now.pages.now front.now.runs.now front.now.groups.now) }
+        (xs ++ ahead front.now.entries.now front.now.pages.now front.now.runs.now front.now.groups.now front.now.sections.now) }
 {
     let sum = added_to(sum, front.entries);
     let sum = added_to(sum, front.pages);
     let sum = added_to(sum, front.runs);
-    added_to(sum, front.groups)
+    let sum = added_to(sum, front.groups);
+    added_to(sum, front.sections)
 }
 
 /// A sum with these entries at the end.
 fn added_behind<E: PageEntry>(sum: E::Sum, back: &Back<'_, E>) -> E::Sum
     ensures { (xs : List E) → E.tells sum xs → E.tells result
-        (xs ++ behind back.now.runs.now back.now.pages.now back.now.entries.now) }
+        (xs ++ behind back.now.groups.now back.now.runs.now back.now.pages.now back.now.entries.now) }
 {
+    let sum = added_to(sum, back.groups);
     let sum = added_to(sum, back.runs);
     let sum = added_to(sum, back.pages);
     added_to(sum, back.entries)
@@ -250,13 +277,14 @@ pub(crate) fn entries_from<'a, E: PageEntry, S: Span<E>>(
 
 /// All the entries from the first on that does not stand before the range.
 pub(crate) fn all_from<'a, E: PageEntry, S: Span<E>>(
-    groups: &'a [Group<E>],
+    sections: &'a [Section<E>],
     span: &S,
 ) -> Front<'a, E>
-    requires { IsRising E.order (flat_map of_group groups.now) }
-    ensures { ahead result.entries.now result.pages.now result.runs.now result.groups.now
-        ≡ from_span (S.side span.now) (flat_map of_group groups.now) }
+    requires { IsRising E.order (flat_map of_section sections.now) }
+    ensures { ahead result.entries.now result.pages.now result.runs.now result.groups.now result.sections.now
+        ≡ from_span (S.side span.now) (flat_map of_section sections.now) }
 {
+    let (groups, sections) = blocks_from(sections, span);
     let (runs, groups) = blocks_from(groups, span);
     let (pages, runs) = blocks_from(runs, span);
     let (entries, pages) = blocks_from(pages, span);
@@ -265,6 +293,7 @@ pub(crate) fn all_from<'a, E: PageEntry, S: Span<E>>(
         pages,
         runs,
         groups,
+        sections,
     }
 }
 
@@ -309,16 +338,29 @@ fn pages_until<'a, E: PageEntry, S: Span<E>>(
 /// The same over runs.
 fn runs_until<'a, E: PageEntry, S: Span<E>>(runs: &'a [Run<E>], span: &S) -> Back<'a, E>
     requires { IsRising E.order (flat_map of_run runs.now) }
-    ensures { behind result.runs.now result.pages.now result.entries.now
+    ensures entries { behind result.groups.now result.runs.now result.pages.now result.entries.now
         ≡ until_span (S.side span.now) (flat_map of_run runs.now) }
+    ensures none { result.groups.now ≡ [] }
 {
     let (runs, pages) = blocks_until(runs, span);
     let (pages, entries) = pages_until(pages, span);
     Back {
+        groups: &[],
         runs,
         pages,
         entries,
     }
+}
+
+/// The same over groups.
+fn groups_until<'a, E: PageEntry, S: Span<E>>(groups: &'a [Group<E>], span: &S) -> Back<'a, E>
+    requires { IsRising E.order (flat_map of_group groups.now) }
+    ensures { behind result.groups.now result.runs.now result.pages.now result.entries.now
+        ≡ until_span (S.side span.now) (flat_map of_group groups.now) }
+{
+    let (groups, runs) = blocks_until(groups, span);
+    let back = runs_until(runs, span);
+    Back { groups, ..back }
 }
 
 /// Whether the first of the items begins with an entry that is not past the range.
@@ -335,15 +377,25 @@ fn reaches<E: PageEntry, T: Level<E>, S: Span<E>>(items: &[T], span: &S) -> bool
 
 /// The entries up to the first that stands past the range.
 pub(crate) fn all_until<'a, E: PageEntry, S: Span<E>>(front: Front<'a, E>, span: &S) -> Range<'a, E>
-    requires { IsRising E.order (ahead front.entries.now front.pages.now front.runs.now front.groups.now) }
+    requires { IsRising E.order (ahead front.entries.now front.pages.now front.runs.now front.groups.now front.sections.now) }
     ensures { result ≡ until_span (S.side span.now)
-        (ahead front.entry.entries.now front.entry.pages.now front.entry.runs.now front.entry.groups.now) }
+        (ahead front.entry.entries.now front.entry.pages.now front.entry.runs.now front.entry.groups.now front.entry.sections.now) }
 {
-    if reaches(front.groups, span) {
-        let (groups, runs) = blocks_until(front.groups, span);
+    if reaches(front.sections, span) {
+        let (sections, groups) = blocks_until(front.sections, span);
         return Range {
-            front: Front { groups, ..front },
-            back: runs_until(runs, span),
+            front: Front { sections, ..front },
+            back: groups_until(groups, span),
+        };
+    }
+    if reaches(front.groups, span) {
+        return Range {
+            front: Front {
+                groups: &[],
+                sections: &[],
+                ..front
+            },
+            back: groups_until(front.groups, span),
         };
     }
     if reaches(front.runs, span) {
@@ -351,6 +403,7 @@ pub(crate) fn all_until<'a, E: PageEntry, S: Span<E>>(front: Front<'a, E>, span:
             front: Front {
                 runs: &[],
                 groups: &[],
+                sections: &[],
                 ..front
             },
             back: runs_until(front.runs, span),
@@ -363,9 +416,11 @@ pub(crate) fn all_until<'a, E: PageEntry, S: Span<E>>(front: Front<'a, E>, span:
                 pages,
                 runs: &[],
                 groups: &[],
+                sections: &[],
                 ..front
             },
             back: Back {
+                groups: &[],
                 runs: &[],
                 pages: &[],
                 entries,
@@ -378,8 +433,10 @@ pub(crate) fn all_until<'a, E: PageEntry, S: Span<E>>(front: Front<'a, E>, span:
             pages: &[],
             runs: &[],
             groups: &[],
+            sections: &[],
         },
         back: Back {
+            groups: &[],
             runs: &[],
             pages: &[],
             entries: &[],

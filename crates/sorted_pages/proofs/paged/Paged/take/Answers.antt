@@ -12,7 +12,7 @@ use Rattle.sorted_pages.proofs.InPlace.{there, with_out, passes_first, with_pass
 use Rattle.sorted_pages.proofs.paged.Paged.take.Goals as goal
 
 record Taken (g : _) (c : goal.After-taken_at-entries g) : Type 0 where
-  none : length c.self.inside.groups.items ≡ 0
+  none : length c.self.inside.sections.items ≡ 0
   rises : IsRising g.E.PageEntry.order c.self.inside.entries.items
   passes : true ≡ first_passes (λ e. is_eq (g.S.Span.side c.args.span.now e)) c.split_at_edge.result.1.now
   head : c.split_at_edge.result.1.now ≡ c.taken_at-entries.result.1 ∷ drop 1 c.split_at_edge.result.1.now
@@ -31,11 +31,11 @@ how g c =
     there before from x inside (c.taken_at-entries.ensures.entry ∙ ap (λ zs. get_or zs (length before) x) parts) in
     let whole : c.self.inside.entries.items ≡ before ++ x ∷ drop 1 from = parts ∙ ap (λ zs. before ++ zs) head in
     let as_long : length c.self.inside.entries.items ≡ length (before ++ from) = ap length parts in
-    let none : length c.self.inside.groups.items ≡ 0 =
-    in_place g.E.PageEntry.order c.self.inside.entries.items c.self.inside.groups.items c.self.invariant (omega (arith, as_long, inside)) in
+    let none : length c.self.inside.sections.items ≡ 0 =
+    in_place g.E.PageEntry.order c.self.inside.entries.items c.self.inside.sections.items c.self.invariant (omega (arith, as_long, inside)) in
     let rises : IsRising g.E.PageEntry.order c.self.inside.entries.items =
     subst (IsRising g.E.PageEntry.order) (singles c.self.inside.entries.items)
-    (rises_short g.E.PageEntry.order c.self.inside.entries.items c.self.inside.groups.items c.self.invariant none) in
+    (rises_short g.E.PageEntry.order c.self.inside.entries.items c.self.inside.sections.items c.self.invariant none) in
     record {
       none = none;
       rises = rises;
@@ -55,7 +55,7 @@ pub returns-clause-some : goal.returns-clause-some
 returns-clause-some g c =
     let t = how g c.before.before in
     let same : c.self.inside.entries.items ≡ c.args.self =
-    sym (singles c.self.inside.entries.items) ∙ sym (of_short g.E.PageEntry.order c.self.inside.entries.items c.self.inside.groups.items t.none) ∙ c.self.view_is in (
+    sym (singles c.self.inside.entries.items) ∙ sym (of_short g.E.PageEntry.order c.self.inside.entries.items c.self.inside.sections.items t.none) ∙ c.self.view_is in (
       first_there g.E.PageEntry.order g.met.E.PageEntry.is_total (g.S.Span.side c.args.span.now) (g.met.S.Span.is_monotone c.args.span.now)
           c.taken_at-entries.result.1 c.self.inside.entries.items c.split_at_edge.result.0.now (drop 1 c.split_at_edge.result.1.now) t.whole t.rises
           c.split_at_edge.ensures.front
