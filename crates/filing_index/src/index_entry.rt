@@ -106,7 +106,7 @@ impl PageEntry for IndexEntry {
 
     /// Fewer than of facts by identifier: a changed fact changes a page of each of three indexes, and the entries of a page that is copied are counted up where they lie.
     fn most_in_page() -> usize {
-        32
+        16
     }
 
     fn key(&self) -> u64 {
