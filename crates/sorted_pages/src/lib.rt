@@ -6,8 +6,8 @@
 //! - `range`: the entries in a range.
 //! - `spans`: ranges by entries of the list's own type.
 //! - `rising`: whether entries rise.
-//! - `level`: what stands at a level: an entry, a page, a run of pages, or a group of runs.
-//! - `block`: what a page, a run and a group are.
+//! - `level`: what stands at a level: an entry, a page, a run of pages, a group of runs, or a section of groups.
+//! - `block`: what a page, a run, a group and a section are.
 //! - `block_splitter`: where a block ends.
 //! - `builder`: a list that grows.
 //! - `edge`: the place where a test stops to hold.
