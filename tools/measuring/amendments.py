@@ -1,4 +1,6 @@
-"""Scripts that only amend: each commit adds four facts with all that facts have, and a review of it reads nothing."""
+"""Scripts that only amend: each commit has four changes of facts with all that facts have."""
+import random
+
 from lines import INFO, commit
 
 OPENED = '["open","s","amend"]', '["opened"]'
@@ -13,10 +15,14 @@ def fact(number):
     return f'{{"dimensions":{{{dimensions}}},"value":"Disclosure {number} of the reporting entity"}}'
 
 
+def load(facts):
+    listed = ",".join(f'"f{number}":{fact(number)}' for number in range(facts))
+    return f'["load","r1",{{{ENTITIES % ""},"facts":{{{listed}}}}}]', '["loaded",1]'
+
+
 def amendments(facts, rounds):
     """Sessions that read two facts of a report of so many and add four, each with a review behind it."""
-    listed = ",".join(f'"f{number}":{fact(number)}' for number in range(facts))
-    yield f'["load","r1",{{{ENTITIES % ""},"facts":{{{listed}}}}}]', '["loaded",1]'
+    yield load(facts)
     for number in range(rounds):
         yield OPENED
         for read in (number * 7919 % facts, number * 104729 % facts):
@@ -26,3 +32,19 @@ def amendments(facts, rounds):
         yield commit(number + 2)
         yield '["open","v","review"]', '["opened"]'
         yield '["close","v"]', '["closed"]'
+
+
+def exchanges(facts, rounds):
+    """Sessions that take two facts out of a report of so many, drawn from all, and put two new ones in."""
+    draws = random.Random(1)
+    held = list(range(facts))
+    new = facts
+    yield load(facts)
+    for number in range(rounds):
+        yield OPENED
+        for _ in range(2):
+            at = draws.randrange(facts)
+            yield f'["remove","s","r1","f{held[at]}"]', '["staged"]'
+            yield f'["add","s","r1","f{new}",{fact(new)}]', '["staged"]'
+            held[at], new = new, new + 1
+        yield commit(number + 2)
