@@ -33,6 +33,8 @@ use text_map::SoughtName;
 pub struct Stamps {
     /// Of the last commits, oldest first.
     recent: Vec<Left>,
+    /// How many those are. That decides cost alone.
+    recent_count: usize,
     /// Of those before, oldest first.
     layers: Vec<Layer>,
 }
@@ -79,6 +81,7 @@ impl Stamps {
     {
         Stamps {
             recent: Vec::new(alloc),
+            recent_count: 0,
             layers: Vec::new(alloc),
         }
     }
@@ -172,7 +175,7 @@ impl Stamps {
 
     /// Whether what a commit leaves may stand as it left it. A look-up goes through all that does.
     fn has_room(&self, left: &[Stamp]) -> bool {
-        self.recent.len() < 16 && left.len() <= 64
+        self.recent.len() < 64 && self.recent_count.saturating_add(left.len()) <= 1024
     }
 
     /// With what one commit more left.
@@ -180,10 +183,15 @@ impl Stamps {
         requires { AllByRecursion (λ s. s.number ≡ number) left.items }
         ensures { IfOk result (λ s. AreWith left.items self.now s) }
     {
+        let recent_count = self.recent_count.saturating_add(left.len());
         let mut recent = shared(alloc, &self.recent)?;
         recent.push(Left::of(alloc, number, left)?)?;
         let layers = shared(alloc, &self.layers)?;
-        Ok(Stamps { recent, layers })
+        Ok(Stamps {
+            recent,
+            recent_count,
+            layers,
+        })
     }
 
     /// The same, where no commit stands by itself.
@@ -200,6 +208,7 @@ impl Stamps {
         layers.push(layer)?;
         Ok(Stamps {
             recent: Vec::new(alloc),
+            recent_count: 0,
             layers,
         })
     }

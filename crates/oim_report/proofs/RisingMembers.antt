@@ -1,15 +1,14 @@
 -- Members whose names rise as they stand: each goes behind those before it.
-use Rattle.std.proofs.Common.{◌≡◌, ◌∙◌, ap, sym, subst, refl, arith, T, ℕ, suc, ◌+◌, ◌<◌, Bool, true, false, List, [], ◌∷◌, ◌++◌, length, get_or, Some, Less, Greater, is_lt, is_some, unwrap_or}
+use Rattle.std.proofs.Common.{◌≡◌, ◌∙◌, ap, sym, subst, refl, arith, T, ℕ, suc, ◌+◌, Bool, true, false, List, [], ◌∷◌, ◌++◌, length, get_or, Some, Less, Greater, is_lt, is_some}
 use Rattle.std.specs.FinMap.Entries.{is_sorted, below_all}
 use Rattle.std.specs.Bool.{OnTrue}
 use Rattle.std.specs.List.{AllAdjacentBelow, IsAllAdjacentAnswer}
 use Rattle.std.specs.Ordering.{match_ordering, ordering_reverse}
 use Rattle.std.proofs.lemmas.Cmp.{nat_list_cmp_total}
 use Rattle.std.proofs.lemmas.List.{append-nil, append_assoc}
-use Rattle.json.specs.Json as json
 use Rattle.json.specs.Value.{value_view, members_view}
-use Rattle.serde_json.specs.Data.{null, Members, member, put}
-use Rattle.serde_json.specs.Read.{of_json, of_members}
+use Rattle.serde_json.specs.Data.{Members, member, put}
+use Rattle.serde_json.specs.Read.{of_members}
 use Rattle.filing_model.specs.Common.Text.{Text, text_cmp}
 use Rattle.filing_model.specs.Reading.JsonText.{pairs}
 use Rattle.filing_model.proofs.Common.Tests.{both_hold, first_holds, second_holds, less_from_is_lt}

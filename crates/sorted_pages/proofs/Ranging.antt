@@ -159,15 +159,14 @@ module _ {E : Type 0} (R : E → E → Ordering) (o : IsTotalOrder R) (side : E 
       ap (λ xs. (es ++ xs) ++ tail) (append-nil ps)
       ∙ ends_in (es ++ ps) rs (gs ++ ss) tail (subst (IsRising R) (sym same) h) g (both_past gs ss c b) k ∙ ap (until_span side) same
 
-  pub until_in_pages : (es ps rs gs ss before tail : List E) → IsRising R (es ++ (ps ++ (rs ++ (gs ++ ss)))) → T (begins_with past ss)
+  pub until_in_pages : (es ps rs gs ss tail : List E) → IsRising R (es ++ (ps ++ (rs ++ (gs ++ ss)))) → T (begins_with past ss)
       → T (begins_with past gs) → T (begins_with past rs) → T (first_passes until ps)
-      → before ++ tail ≡ until_span side ps
-      → (es ++ (before ++ [])) ++ tail ≡ until_span side (es ++ (ps ++ (rs ++ (gs ++ ss))))
-  until_in_pages es ps rs gs ss before tail h b c d g k =
+      → tail ≡ until_span side ps → (es ++ []) ++ tail ≡ until_span side (es ++ (ps ++ (rs ++ (gs ++ ss))))
+  until_in_pages es ps rs gs ss tail h b c d g k =
       let rest = rs ++ (gs ++ ss) in
       let same : (es ++ ps) ++ rest ≡ es ++ (ps ++ rest) = append_assoc es ps rest in
-      ap (λ xs. (es ++ xs) ++ tail) (append-nil before) ∙ append_assoc es before tail
-      ∙ ends_in es ps rest (before ++ tail) (subst (IsRising R) (sym same) h) g (both_past rs (gs ++ ss) d (both_past gs ss c b)) k
+      ap (λ xs. xs ++ tail) (append-nil es)
+      ∙ ends_in es ps rest tail (subst (IsRising R) (sym same) h) g (both_past rs (gs ++ ss) d (both_past gs ss c b)) k
       ∙ ap (until_span side) same
 
   pub until_in_entries : (es ps rs gs ss before : List E) → T (begins_with past ss) → T (begins_with past gs) → T (begins_with past rs)

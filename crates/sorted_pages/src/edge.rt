@@ -1,5 +1,5 @@
-//! The place where a test that once fails fails from then on, found by halving.
-ghost use Rattle.std.specs.Prelude.{◌≡◌, ◌++◌, Bool, not, T as Holds};
+//! The place where a test that once fails fails from then on, found by halving, and among few one after another.
+ghost use Rattle.std.specs.Prelude.{◌≡◌, ◌≤◌, ◌++◌, Bool, not, take, drop, length, T as Holds};
 ghost use Rattle.std.specs.Ordering.{is_lt, is_gt};
 ghost use Rattle.sorted_pages.specs.Edges.{answer_of, ends_with, begins_with};
 ghost use Rattle.sorted_pages.specs.Edges.{first_passes, last_passes, is_before_edge};
@@ -22,6 +22,26 @@ pub(crate) trait Test<E, T>: Drop {
         ensures { Holds (answer_of result (passes self.now item.now) (fails self.now item.now)) };
 }
 
+/// A place between two others where the test stops to hold, found one after another: what the next item holds is fetched before it is known whether this one passes, and where halving goes on is not.
+fn edge_between<E, T, P: Test<E, T>>(items: &[T], test: &P, from: usize, until: usize) -> usize
+    requires order { from ≤ until }
+    requires there { until ≤ length items.now }
+    requires front { Holds (ends_with (P.passes test.now) (take from items.now)) }
+    requires back { Holds (begins_with (P.fails test.now) (drop until items.now)) }
+    ensures there { result ≤ length items.now }
+    ensures front { Holds (ends_with (P.passes test.now) (take result items.now)) }
+    ensures back { Holds (begins_with (P.fails test.now) (drop result items.now)) }
+{
+    let mut place = from;
+    while place < until {
+        if !test.passes(&items[place]) {
+            return place;
+        }
+        place += 1;
+    }
+    place
+}
+
 /// The items before some place where the test stops to hold, and those from there on.
 pub(crate) fn split_at_edge<'a, E, T, P: Test<E, T>>(items: &'a [T], test: &P) -> (&'a [T], &'a [T])
     ensures parts { items.now ≡ result.0.now ++ result.1.now }
@@ -30,7 +50,7 @@ pub(crate) fn split_at_edge<'a, E, T, P: Test<E, T>>(items: &'a [T], test: &P) -
 {
     let mut low = 0;
     let mut high = items.len();
-    while low < high {
+    while high - low > 16 {
         let middle = low + (high - low) / 2;
         if test.passes(&items[middle]) {
             low = middle + 1;
@@ -38,7 +58,7 @@ pub(crate) fn split_at_edge<'a, E, T, P: Test<E, T>>(items: &'a [T], test: &P) -
             high = middle;
         }
     }
-    (&items[..low], &items[low..])
+    items.split_at(edge_between(items, test, low, high))
 }
 
 /// The same, but the last item that passes stands with those from there on.

@@ -106,6 +106,26 @@ pub(crate) fn with_entries<'a, E: PageEntry>(front: Front<'a, E>) -> Front<'a, E
     }
 }
 
+/// The entries of these pages, runs and groups, with the first, if there is one, among those of the first page.
+fn front_of<'a, E: PageEntry>(
+    pages: &'a [Page<E>],
+    runs: &'a [Run<E>],
+    groups: &'a [Group<E>],
+) -> Front<'a, E>
+    ensures same { ahead result.entries.now result.pages.now result.runs.now result.groups.now result.sections.now
+        ≡ flat_map of_page pages.now ++ (flat_map of_run runs.now ++ flat_map of_group groups.now) }
+    ensures none { length result.entries.now ≡ 0
+        → flat_map of_page pages.now ++ (flat_map of_run runs.now ++ flat_map of_group groups.now) ≡ [] }
+{
+    with_entries(Front {
+        entries: &[],
+        pages,
+        runs,
+        groups,
+        sections: &[],
+    })
+}
+
 /// The same entries, with the first, if there is one, in front: where nothing is left there, what is behind moves up.
 fn advanced<'a, E: PageEntry>(front: Front<'a, E>, back: Back<'a, E>) -> (Front<'a, E>, Back<'a, E>)
     ensures same { ahead result.0.entries.now result.0.pages.now result.0.runs.now result.0.groups.now result.0.sections.now
@@ -120,13 +140,7 @@ fn advanced<'a, E: PageEntry>(front: Front<'a, E>, back: Back<'a, E>) -> (Front<
     if !front.entries.is_empty() {
         return (front, back);
     }
-    let front = with_entries(Front {
-        entries: &[],
-        pages: &[],
-        runs: &[],
-        groups: back.groups,
-        sections: &[],
-    });
+    let front = front_of(&[], &[], back.groups);
     let back = Back {
         groups: &[],
         ..back
@@ -134,24 +148,12 @@ fn advanced<'a, E: PageEntry>(front: Front<'a, E>, back: Back<'a, E>) -> (Front<
     if !front.entries.is_empty() {
         return (front, back);
     }
-    let front = with_entries(Front {
-        entries: &[],
-        pages: &[],
-        runs: back.runs,
-        groups: &[],
-        sections: &[],
-    });
+    let front = front_of(&[], back.runs, &[]);
     let back = Back { runs: &[], ..back };
     if !front.entries.is_empty() {
         return (front, back);
     }
-    let front = with_entries(Front {
-        entries: &[],
-        pages: back.pages,
-        runs: &[],
-        groups: &[],
-        sections: &[],
-    });
+    let front = front_of(back.pages, &[], &[]);
     let back = Back { pages: &[], ..back };
     if !front.entries.is_empty() {
         return (front, back);
@@ -163,13 +165,11 @@ fn advanced<'a, E: PageEntry>(front: Front<'a, E>, back: Back<'a, E>) -> (Front<
         groups: &[],
         sections: &[],
     };
-    (
-        front,
-        Back {
-            entries: &[],
-            ..back
-        },
-    )
+    let back = Back {
+        entries: &[],
+        ..back
+    };
+    (front, back)
 }
 
 impl<'a, E: PageEntry> Iterator for Range<'a, E> {
@@ -323,16 +323,19 @@ fn entries_until<'a, E: PageEntry, S: Span<E>>(entries: &'a [Leaf<E>], span: &S)
 }
 
 /// The same over pages.
-fn pages_until<'a, E: PageEntry, S: Span<E>>(
-    pages: &'a [Page<E>],
-    span: &S,
-) -> (&'a [Page<E>], &'a [Leaf<E>])
+fn pages_until<'a, E: PageEntry, S: Span<E>>(pages: &'a [Page<E>], span: &S) -> Back<'a, E>
     requires { IsRising E.order (flat_map of_page pages.now) }
-    ensures { flat_map of_page result.0.now ++ flat_map single result.1.now
+    ensures entries { behind result.groups.now result.runs.now result.pages.now result.entries.now
         ≡ until_span (S.side span.now) (flat_map of_page pages.now) }
+    ensures none { (result.groups.now ≡ []) × (result.runs.now ≡ []) }
 {
     let (pages, entries) = blocks_until(pages, span);
-    (pages, entries_until(entries, span))
+    Back {
+        groups: &[],
+        runs: &[],
+        pages,
+        entries: entries_until(entries, span),
+    }
 }
 
 /// The same over runs.
@@ -343,13 +346,8 @@ fn runs_until<'a, E: PageEntry, S: Span<E>>(runs: &'a [Run<E>], span: &S) -> Bac
     ensures none { result.groups.now ≡ [] }
 {
     let (runs, pages) = blocks_until(runs, span);
-    let (pages, entries) = pages_until(pages, span);
-    Back {
-        groups: &[],
-        runs,
-        pages,
-        entries,
-    }
+    let back = pages_until(pages, span);
+    Back { runs, ..back }
 }
 
 /// The same over groups.
@@ -372,6 +370,54 @@ fn reaches<E: PageEntry, T: Level<E>, S: Span<E>>(items: &[T], span: &S) -> bool
     match items.first() {
         Some(item) => Until(span).passes(item),
         None => false,
+    }
+}
+
+/// The entries up to the first that stands past the range, where all groups and sections stand past it.
+fn until_in_runs<'a, E: PageEntry, S: Span<E>>(front: Front<'a, E>, span: &S) -> Range<'a, E>
+    requires rises { IsRising E.order (ahead front.entries.now front.pages.now front.runs.now front.groups.now front.sections.now) }
+    requires groups { Holds (begins_with (λ e. is_gt (S.side span.now e)) (flat_map of_group front.groups.now)) }
+    requires sections { Holds (begins_with (λ e. is_gt (S.side span.now e)) (flat_map of_section front.sections.now)) }
+    ensures { result ≡ until_span (S.side span.now)
+        (ahead front.entry.entries.now front.entry.pages.now front.entry.runs.now front.entry.groups.now front.entry.sections.now) }
+{
+    if reaches(front.runs, span) {
+        return Range {
+            front: Front {
+                runs: &[],
+                groups: &[],
+                sections: &[],
+                ..front
+            },
+            back: runs_until(front.runs, span),
+        };
+    }
+    if reaches(front.pages, span) {
+        return Range {
+            front: Front {
+                pages: &[],
+                runs: &[],
+                groups: &[],
+                sections: &[],
+                ..front
+            },
+            back: pages_until(front.pages, span),
+        };
+    }
+    Range {
+        front: Front {
+            entries: entries_until(front.entries, span),
+            pages: &[],
+            runs: &[],
+            groups: &[],
+            sections: &[],
+        },
+        back: Back {
+            groups: &[],
+            runs: &[],
+            pages: &[],
+            entries: &[],
+        },
     }
 }
 
@@ -398,48 +444,5 @@ pub(crate) fn all_until<'a, E: PageEntry, S: Span<E>>(front: Front<'a, E>, span:
             back: groups_until(front.groups, span),
         };
     }
-    if reaches(front.runs, span) {
-        return Range {
-            front: Front {
-                runs: &[],
-                groups: &[],
-                sections: &[],
-                ..front
-            },
-            back: runs_until(front.runs, span),
-        };
-    }
-    if reaches(front.pages, span) {
-        let (pages, entries) = pages_until(front.pages, span);
-        return Range {
-            front: Front {
-                pages,
-                runs: &[],
-                groups: &[],
-                sections: &[],
-                ..front
-            },
-            back: Back {
-                groups: &[],
-                runs: &[],
-                pages: &[],
-                entries,
-            },
-        };
-    }
-    Range {
-        front: Front {
-            entries: entries_until(front.entries, span),
-            pages: &[],
-            runs: &[],
-            groups: &[],
-            sections: &[],
-        },
-        back: Back {
-            groups: &[],
-            runs: &[],
-            pages: &[],
-            entries: &[],
-        },
-    }
+    until_in_runs(front, span)
 }

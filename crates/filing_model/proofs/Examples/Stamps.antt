@@ -1,7 +1,6 @@
 -- Stamps: what a load and a commit stamp, and what keeps the stamp that it had.
-use Rattle.std.proofs.Common.{◌≡◌, refl, ℕ, List, [], ◌∷◌, Option, Some, None}
+use Rattle.std.proofs.Common.{◌≡◌, refl, ℕ, [], ◌∷◌, Some, None}
 use Rattle.std.specs.Prelude.{codes}
-use Rattle.filing_model.specs.Common.Text.{Text}
 use Rattle.filing_model.specs.Common.TextMap.{empty}
 use Rattle.filing_model.specs.Sessions.Repository.{fact_at}
 use Rattle.filing_model.specs.Sessions.Changes.{Change, with_change, with_declared}
