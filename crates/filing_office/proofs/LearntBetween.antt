@@ -1,8 +1,7 @@
 -- A desk that takes its steps some at a time, and lets outcomes go once its reviewer has learnt their receipts: what its steps become is what they become where nothing is let go.
-use Rattle.std.proofs.Common.{◌≡◌, ◌∙◌, ap, sym, subst, refl, arith, ℕ, ◌+◌, ◌≤◌, cond, Bool, true, false, List, [], ◌∷◌, ◌++◌, length, append_assoc, append-nil, Option, Some, None, true≢false, string_bytes}
-use Rattle.std.specs.Prelude.{All, Result, Ok, Err}
+use Rattle.std.proofs.Common.{◌≡◌, ◌∙◌, ap, sym, subst, refl, arith, ℕ, ◌+◌, ◌≤◌, cond, Bool, true, false, List, [], ◌∷◌, ◌++◌, length, append_assoc, append-nil, Option, Some, None, string_bytes}
+use Rattle.std.specs.Prelude.{All, Ok, Err}
 use Rattle.std.proofs.lemmas.List.Elements.{All-append}
-use Rattle.std.proofs.lemmas.Option.{none-some, same_Some}
 use mathlib.Core.List.{IsPrefix}
 use Rattle.filing_model.specs.Common.Text.{Text}
 use Rattle.filing_model.specs.Common.TextMap.{TextMap, get, insert, remove}
@@ -19,7 +18,7 @@ use Rattle.filing_office.specs.declared.session_place.SessionPlace.TheVariants a
 use Rattle.filing_office.specs.declared.work.DeskStep.{DeskStep}
 use Rattle.filing_office.specs.declared.answer.Answer.{Answer}
 use Rattle.filing_office.specs.Tallies.{IsCounted}
-use Rattle.filing_office.specs.Runs.{RunState, IsTaken, IsWithin, Reviews, Loads, ReviewOpens, OfficeOpens, Opens, OpensUnder, GoesOnAt, StepsUnder, Goes, Runs, Learns, names_after, is_no_memory}
+use Rattle.filing_office.specs.Runs.{RunState, IsTaken, IsWithin, Loads, ReviewOpens, OfficeOpens, Opens, OpensUnder, GoesOnAt, StepsUnder, Goes, Runs, Learns, names_after, is_no_memory}
 use Rattle.filing_office.proofs.Learning.{all_within_more, last_number, prefix_length}
 
 -- a reviewer has seen at least what it had, and then what else it has learnt

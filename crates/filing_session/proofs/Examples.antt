@@ -7,9 +7,7 @@ use Rattle.filing_model.specs.Sessions.Repository.{Repository}
 use Rattle.filing_model.specs.Sessions.Changes.{change_at}
 use Rattle.filing_model.specs.Sessions.Calls.{Call, Get, Cell, Page, Add, Remove, Declared, Declare, Without}
 use Rattle.filing_model.specs.Sessions.Replies as reply
-use Rattle.filing_model.specs.Sessions.Replies.{Reply}
 use Rattle.filing_model.specs.Sessions.Things as thing
-use Rattle.filing_model.specs.Sessions.Things.{Thing}
 use Rattle.filing_model.specs.declared.duplicates.Allowed.TheVariants.{Never, All}
 use Rattle.filing_model.specs.declared.duplicates.Class.TheVariants.{Single, Complete}
 use Rattle.filing_model.specs.declared.kind.Kind.TheVariants.{Review, Amend}

@@ -9,7 +9,7 @@ use Rattle.filing_model.specs.Oim.Reports.{Report}
 use Rattle.filing_model.specs.Sessions.Repository.{Repository, report_at, fact_in, fact_at}
 use Rattle.filing_model.specs.Sessions.Changes.{Change, change_in, change_at, declared_in, with_change, declaring_if, changed, laid_over}
 use Rattle.filing_model.specs.Sessions.Calls as call
-use Rattle.filing_model.specs.Sessions.Calls.{Call, report_of_call}
+use Rattle.filing_model.specs.Sessions.Calls.{Call}
 use Rattle.filing_model.specs.Sessions.Replies as reply
 use Rattle.filing_model.specs.Sessions.Replies.{Reply}
 use Rattle.filing_model.specs.Sessions.Sessions.{answer, solo_copy, solo_replies}

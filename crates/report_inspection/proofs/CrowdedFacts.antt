@@ -2,15 +2,12 @@
 use Rattle.std.proofs.Common.{◌≡◌, ◌∙◌, ap, sym, refl, ℕ, ◌<◌, ◌≤◌, ◌==◌, Bool, true, false, cond, ◌||◌, ◌&&◌, nat_lt, true≢false, List, [], ◌∷◌, ◌++◌, length, map, filter, arith}
 use Rattle.std.proofs.lemmas.Bool.{or_right, ltb-true, lt-ltb, eqb-true, eq-eqb}
 use Rattle.std.proofs.lemmas.List.{append_assoc, map-append}
-use Rattle.std.specs.List.{list_any}
 use Rattle.oim_report.specs.Parts.{fact_view, facts_view}
-use Rattle.filing_model.specs.Common.Text.{Text}
 use Rattle.filing_model.specs.Oim.Dimensions.{Dims, dims_eq}
 use Rattle.filing_model.specs.Oim.Duplicates.{cell_of}
-use Rattle.filing_model.specs.Oim.Facts.{Fact}
 use Rattle.filing_model.specs.declared.duplicates.Allowed.{Allowed}
 use Rattle.filing_model.proofs.Oim.DimensionSets.{dims_same}
-use Rattle.report_inspection.specs.Cells.{AreCells, IsCell, ToldCell, is_shared}
+use Rattle.report_inspection.specs.Cells.{AreCells, IsCell, ToldCell}
 use Rattle.report_inspection.specs.Crowds.{AreTwice, KeepsShared, hash_at, hash_in, has_hash, is_in, is_twice, with_hashes}
 use Rattle.report_inspection.specs.Runs.{dims_in}
 use Rattle.report_inspection.proofs.AddedNames.{new_turn, seen_turn}

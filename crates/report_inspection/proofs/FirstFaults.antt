@@ -9,13 +9,13 @@ use Rattle.serde_json.specs.Data.{Data, null, boolean, number, string, array, ob
 use Rattle.serde_json.specs.Find.{get, get_member, as_object}
 use Rattle.serde_json.specs.Read.{read}
 use Rattle.filing_model.specs.Common.Text.{Text, text_cmp}
-use Rattle.filing_model.specs.Common.TextMap.{TextMap, empty, from_entries}
+use Rattle.filing_model.specs.Common.TextMap.{empty, from_entries}
 use Rattle.filing_model.specs.Common.Try.{◌>>=◌, each, map_err}
 use Rattle.filing_model.specs.Oim.Facts.{Fact, Names, RawFact, Table, fit_of}
 use Rattle.filing_model.specs.Oim.Reports.{Report}
 use Rattle.filing_model.specs.Reading.JsonText.{json_of, without_mark, pairs, an_object}
 use Rattle.filing_model.specs.Reading.ReadFact.{raw_fact_of}
-use Rattle.filing_model.specs.Reading.ReadReport.{ReportFault, NotJson, WrongShape, WrongDocumentType, BadFact, entry_of, facts_of, read_report_of, report_of, whole_text_of}
+use Rattle.filing_model.specs.Reading.ReadReport.{ReportFault, NotJson, WrongDocumentType, BadFact, entry_of, facts_of, read_report_of, report_of, whole_text_of}
 use Rattle.filing_model.specs.declared.duplicates.Allowed.{Allowed}
 use Rattle.filing_model.specs.declared.duplicates.Allowed.TheVariants.{All}
 use Rattle.filing_model.specs.declared.faults.FactFault.{FactFault}
@@ -27,7 +27,7 @@ use Rattle.oim_report.specs.Readings.{Declaration, declared_names, document_info
 use Rattle.oim_report.proofs.FactList.{sorted_facts}
 use Rattle.oim_report.proofs.ReportsByParts.{report_by_members}
 use Rattle.script_reasons.specs.ToldFacts.{is_refused, is_refused_as}
-use Rattle.report_inspection.specs.EachFault.{fault_in, value_in, allowed_declared, allowed_known, data_in, fact_faults, fact_judged, fact_members, facts_read, info_faults, member_fact, member_faults, names_known, report_faults, shape_fault}
+use Rattle.report_inspection.specs.EachFault.{fault_in, value_in, allowed_declared, allowed_known, data_in, fact_faults, fact_judged, fact_members, facts_read, info_faults, names_known, report_faults, shape_fault}
 use Rattle.report_inspection.specs.FaultLaws.{BeginWith, FirstFaultIsTheReadings, FactsHaveFaultsWhereRefused}
 
 -- ---- one fact

@@ -1,5 +1,5 @@
 -- Facts in the order of their dimension sets.
-use Rattle.std.proofs.Common.{◌≡◌, ◌∙◌, ap, sym, subst, refl, suc, ◌+◌, ◌&&◌, Bool, true, false, cond, not, true≢false, List, [], ◌∷◌, map, filter, ◌⊎◌, inl, inr, Ordering, Less, Equal, Greater, is_lt, is_eq, arith, String}
+use Rattle.std.proofs.Common.{◌≡◌, ◌∙◌, ap, sym, subst, refl, suc, ◌+◌, ◌&&◌, Bool, true, false, cond, not, List, [], ◌∷◌, map, filter, ◌⊎◌, inl, inr, Ordering, Less, Equal, Greater, is_lt, is_eq, arith, String}
 use Rattle.std.specs.Cmp.{IsStrictWeakOrder}
 use Rattle.std.specs.declared.alloc.Global.{Global}
 use Rattle.std.specs.declared.sync.Arc.{Arc}

@@ -1,5 +1,5 @@
 -- Faults that are told one behind another.
-use Rattle.std.proofs.Common.{◌≡◌, ◌∙◌, ap, sym, subst, refl, List, [], ◌∷◌, ◌++◌, map, Option, None, Some, is_some, true, true≢false, Result, Ok, Err}
+use Rattle.std.proofs.Common.{◌≡◌, ◌∙◌, ap, sym, subst, refl, List, [], ◌∷◌, ◌++◌, map, Option, None, Some, is_some, true, true≢false, Result, Ok}
 use Rattle.std.proofs.lemmas.List.{append-nil, append_assoc, map-append}
 use Rattle.std.specs.List.{AllByRecursion}
 use Rattle.filing_model.specs.Common.Try.{Fails}
