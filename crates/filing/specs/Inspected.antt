@@ -13,7 +13,8 @@ abbrev pub inspected_status : Bool → ℕ
 inspected_status would_load = if would_load then 0 else 4
 
 -- a text was written of a report and nothing else, as far as the bytes are known: its lines, unless lines for people are wanted; and the status tells whether a load of it would be accepted
-pub record WritesInspection (table : Table) (manner : Manner) (bytes : List ℕ) (file : Text) (written written' : Option (List ℕ)) (status : ℕ)
+pub record WritesInspection (table : Table) (manner : Manner) (bytes : List ℕ) (file : Text)
+    (written written' : Option (List ℕ)) (status : ℕ)
     : Type 0 where
   pub inspection : Inspection
   pub is : IsInspection table manner.asked bytes inspection

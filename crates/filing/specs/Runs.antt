@@ -58,7 +58,8 @@ pub record HasHistory {D : Type 0} (seen : D → List ℕ) (may_leave : D → Li
   pub lines : recovered (seen (device_of journal)) ≡ journal_text history
 
 -- the engine is that of what the script made
-pub record ResumesScript (table : Table) (h : History) (rest rest' written written' : Option (List ℕ)) (engine : EngineState)
+pub record ResumesScript (table : Table) (h : History)
+    (rest rest' written written' : Option (List ℕ)) (engine : EngineState)
     : Type 0 where
   pub after : History
   pub writes : WritesOn table h rest rest' written written' after
@@ -123,7 +124,8 @@ IsShown found written written' NoReport = (found ≡ Some None) × (written' ≡
 IsShown found written written' NoVersion = (found ≡ None) × (written' ≡ written)
 
 -- the reader was read to its end, its lines are a lawful history, and this is what was shown of a text that is found in that history
-pub record ShowsFound (table : Table) (found_in : History → Option (Option Text)) (rest rest' written written' : Option (List ℕ)) (shown : Shown)
+pub record ShowsFound (table : Table) (found_in : History → Option (Option Text))
+    (rest rest' written written' : Option (List ℕ)) (shown : Shown)
     : Type 0 where
   pub given : List ℕ
   pub gave : Consumes rest rest' given
@@ -132,12 +134,15 @@ pub record ShowsFound (table : Table) (found_in : History → Option (Option Tex
   pub is_shown : IsShown (found_in (reverse (entries_on table (spoken (lines_of given))))) written written' shown
 
 -- so of a text that the version which is asked for has
-abbrev pub ShowsVersion : Table → Option ℕ → (Repository → Option Text) → Option (List ℕ) → Option (List ℕ) → Option (List ℕ) → Option (List ℕ) → Shown → Type 0
+abbrev pub ShowsVersion : Table → Option ℕ → (Repository → Option Text) → Option (List ℕ) → Option (List ℕ)
+    → Option (List ℕ) → Option (List ℕ) → Shown → Type 0
 ShowsVersion table number text_of = ShowsFound table (λ h. option_map text_of (version_asked number h))
 
 -- so of a text that each history has, which is written
-abbrev pub AreShown : Table → (History → Text) → Option (List ℕ) → Option (List ℕ) → Option (List ℕ) → Option (List ℕ) → Type 0
-AreShown table text_of rest rest' written written' = ShowsFound table (λ h. Some (Some (text_of h))) rest rest' written written' Written
+abbrev pub AreShown : Table → (History → Text) → Option (List ℕ) → Option (List ℕ)
+    → Option (List ℕ) → Option (List ℕ) → Type 0
+AreShown table text_of rest rest' written written' =
+    ShowsFound table (λ h. Some (Some (text_of h))) rest rest' written written' Written
 
 -- some bytes were written and nothing else, as far as they are known
 abbrev pub WritesSome : Option (List ℕ) → Option (List ℕ) → Type 0

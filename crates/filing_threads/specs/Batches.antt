@@ -14,7 +14,8 @@ use Rattle.filing_threads.specs.declared.batch.Batch.{Batch}
 use Rattle.filing_threads.specs.Lines.{AreJudged}
 
 -- a line that was classified so is put behind those of a batch
-abbrev pub Adds : LineOutcome → List (Option (String Global)) → List (Option (String Global)) → List DeskStep → List DeskStep → Type 0
+abbrev pub Adds : LineOutcome → List (Option (String Global)) → List (Option (String Global))
+    → List DeskStep → List DeskStep → Type 0
 Adds (ReplyNow text) told told' steps steps' = (told' ≡ told ++ Some text ∷ []) × (steps' ≡ steps)
 Adds (Export name) told told' steps steps' =
     (text : String Global) × (string_bytes text ≡ bad_line_text) × (told' ≡ told ++ Some text ∷ []) × (steps' ≡ steps)

@@ -26,6 +26,8 @@ TakesStep table line step = IsLineOutcome table line (StepDue step.name step.ste
 abbrev pub AreJudged : Table → List Text → List (Option (String Global)) → List DeskStep → Type 0
 AreJudged table [] told steps = (told ≡ []) × (steps ≡ [])
 AreJudged table (line ∷ lines) [] steps = ⊥
-AreJudged table (line ∷ lines) (Some text ∷ told) steps = IsToldAtOnce table line (string_bytes text) × AreJudged table lines told steps
+AreJudged table (line ∷ lines) (Some text ∷ told) steps =
+    IsToldAtOnce table line (string_bytes text) × AreJudged table lines told steps
 AreJudged table (line ∷ lines) (None ∷ told) [] = ⊥
-AreJudged table (line ∷ lines) (None ∷ told) (step ∷ steps) = TakesStep table line step × AreJudged table lines told steps
+AreJudged table (line ∷ lines) (None ∷ told) (step ∷ steps) =
+    TakesStep table line step × AreJudged table lines told steps

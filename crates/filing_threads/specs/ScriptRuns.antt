@@ -27,7 +27,8 @@ EndsSo StepStarved later told outcomes = all_told told outcomes ≡ false
 EndsSo LineStarved later told outcomes = all_told told outcomes ≡ true
 
 -- the first lines of the script are classified, their steps are taken at a desk that begins in this state, and the replies are those that lines have at once and those of the outcomes, in the order of the lines
-pub record IsScriptRun (J : Type 0) (table : Table) (script : Text) (start : RunState) (replies : Replies) : Type 0 where
+pub record IsScriptRun (J : Type 0) (table : Table) (script : Text) (start : RunState)
+    (replies : Replies) : Type 0 where
   pub lines : List Text
   pub later : List Text
   pub parts : spoken (lines_of script) ≡ lines ++ later
@@ -45,7 +46,9 @@ abbrev pub at_office : RunState
 at_office = record { tally = nothing_taken; seen = Some (nothing ∷ []); names = empty }
 
 -- each script has its replies, or none where memory was refused for them
-pub record EachScriptRun (J : Type 0) (table : Table) (scripts : List (Vec ℕ Global)) (all : List (Result Replies AllocError)) : Type 0 where
+pub record EachScriptRun (J : Type 0) (table : Table) (scripts : List (Vec ℕ Global))
+    (all : List (Result Replies AllocError)) : Type 0 where
   pub all_run : length all ≡ length scripts
-  pub each : (place : ℕ) (script : Vec ℕ Global) (replies : Result Replies AllocError) → slice_get scripts place ≡ Some script
+  pub each : (place : ℕ) (script : Vec ℕ Global) (replies : Result Replies AllocError)
+      → slice_get scripts place ≡ Some script
       → slice_get all place ≡ Some replies → IfOk replies (IsScriptRun J table script.items at_office)

@@ -26,7 +26,8 @@ pub record IsTaskOf {J M : Type 0} (table : Table) (script : Vec ℕ Global) (at
   pub begins : has_task at_desk ≡ at_office
 
 -- the same at an office whose reviewers have seen so many versions
-pub record IsTaskOn {J M : Type 0} (many : ℕ) (table : Table) (script : Vec ℕ Global) (at_desk : TaskAtDesk J M ScriptTask)
+pub record IsTaskOn {J M : Type 0} (many : ℕ) (table : Table) (script : Vec ℕ Global)
+    (at_desk : TaskAtDesk J M ScriptTask)
     : Type 0 where
   pub script_is : at_desk.task.script.now ≡ script.items
   pub table_is : arc_value at_desk.task.table.now ≡ table

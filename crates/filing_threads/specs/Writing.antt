@@ -44,12 +44,15 @@ Writes replies (Err NoMemory) sink sink' = Took sink sink' (texts_of replies) 0 
 Writes replies (Err NoPlace) sink sink' = ⊥
 
 -- the scripts are run, and what they are told is written
-abbrev pub RunsAndWrites : Type 0 → Table → List (Vec ℕ Global) → Result (Unit {0}) ThreadsFault → SinkState → SinkState → Type 0
+abbrev pub RunsAndWrites : Type 0 → Table → List (Vec ℕ Global) → Result (Unit {0}) ThreadsFault
+    → SinkState → SinkState → Type 0
 RunsAndWrites J table scripts result sink sink' =
     (all : List (Result Replies AllocError)) × EachScriptRun J table scripts all × Writes all result sink sink'
 
 -- where no place or no memory was had for desks, reviewers or threads, nothing is written
-abbrev pub ThreadsWrite : Type 0 → Table → List (Vec ℕ Global) → Result (Unit {0}) ThreadsFault → SinkState → SinkState → Type 0
+abbrev pub ThreadsWrite : Type 0 → Table → List (Vec ℕ Global) → Result (Unit {0}) ThreadsFault
+    → SinkState → SinkState → Type 0
 ThreadsWrite J table scripts (Err NoPlace) sink sink' = sink' ≡ sink
-ThreadsWrite J table scripts (Err NoMemory) sink sink' = (sink' ≡ sink) ⊎ RunsAndWrites J table scripts (Err NoMemory) sink sink'
+ThreadsWrite J table scripts (Err NoMemory) sink sink' =
+    (sink' ≡ sink) ⊎ RunsAndWrites J table scripts (Err NoMemory) sink sink'
 ThreadsWrite J table scripts result sink sink' = RunsAndWrites J table scripts result sink sink'

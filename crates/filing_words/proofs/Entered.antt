@@ -64,7 +64,15 @@ pub threads_read : (rows : List Row) (table file begun journal told marked : Opt
     → table ≡ first_of (codes "numeric") rows → file ≡ first_of (codes "history") rows → begun ≡ first_of (codes "from") rows
     → journal ≡ first_of (codes "journal") rows → Some files ≡ all_of (codes "scripts") rows
     → told ≡ first_of (codes "explain") rows → explains ≡ is_given told → marked ≡ first_of (codes "strict") rows → is_strict ≡ is_given marked
-    → threads_asked rows ≡ Some (ToThread (record { numeric_file = table; history_file = file; begun_file = begun; journal_file = journal; script_files = files; explains = explains; is_strict = is_strict }))
+    → threads_asked rows ≡ Some (ToThread (record {
+      numeric_file = table;
+      history_file = file;
+      begun_file = begun;
+      journal_file = journal;
+      script_files = files;
+      explains = explains;
+      is_strict = is_strict;
+    }))
 threads_read rows table file begun journal told marked explains is_strict files table_read file_read begun_read journal_read files_read told_read explains_is marked_read strict_is =
     rw (explains_is, strict_is, told_read, marked_read, table_read, file_read, begun_read, journal_read, ← files_read) refl
 

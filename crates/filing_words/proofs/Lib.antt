@@ -1,4 +1,5 @@
 mod BuiltCommands
+mod OnLiterals
 mod Program
 mod Entered
 mod Examples

@@ -4,15 +4,15 @@ use Rattle.clap.specs.Words.{App, HasKind, HasMatchesOf, Text, fault_of, is_simp
 use Rattle.clap.specs.declared.error.Error.{Error}
 use Rattle.clap.specs.declared.error.kind.ErrorKind.TheVariants.{OutOfMemory}
 use Rattle.clap.specs.declared.parser.matches.ArgMatches.{ArgMatches}
-use Rattle.clap.proofs.OnLiterals.{clap_on_literals}
-use Rattle.filing_words.specs.Words.{allowing, at, check, diff, earlier, every_reply, explain, first, from, history, inspect, journal, judged, later, log, numeric, plain, program, report, reports, run, scripts, show, strict, svg, threads, viewed, words}
+use Rattle.filing_words.proofs.OnLiterals.{filing_words_on_literals}
+use Rattle.filing_words.specs.Words.{program}
 
 is_simple_program : is_simple program ≡ true
-unfolding clap_on_literals program run check show diff log inspect threads words numeric history from journal every_reply explain strict judged viewed report at earlier later svg first allowing plain reports scripts
+unfolding filing_words_on_literals
 is_simple_program = refl
 
 is_free_program : is_simple_and_free program ≡ true
-unfolding clap_on_literals program run check show diff log inspect threads words numeric history from journal every_reply explain strict judged viewed report at earlier later svg first allowing plain reports scripts
+unfolding filing_words_on_literals
 is_free_program = refl
 
 -- what clap says of a command line says the same of the program, where that is the command line

@@ -157,7 +157,8 @@ unfoldable pub program : App
 program = let bare = new_app (codes "filing") in
     let wanting = record bare { top = record bare.top { has_version = true; subcommand_required = true } } in
     let running = with_subcommand (with_subcommand wanting run.top) threads.top in
-    let viewing = with_subcommand (with_subcommand (with_subcommand (with_subcommand running check.top) show.top) diff.top) log.top in
+    let viewing =
+    with_subcommand (with_subcommand (with_subcommand (with_subcommand running check.top) show.top) diff.top) log.top in
     with_subcommand (with_subcommand viewing inspect.top) words.top
 
 -- what a run is given: the file of a numeric table, that to which its history goes, that of a history to go on from, and that of

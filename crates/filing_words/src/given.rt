@@ -110,7 +110,8 @@ fn inspect_words<'a>(
     alloc: Global,
     inspect: &ArgMatches<'a>,
 ) -> Result<InspectWords<'a>, WordsFault>
-    ensures { IfOk result (λ given. inspect_asked (rows_of (found_of inspect.now)) ≡ Some (ToInspect (inspected_of given))) }
+    ensures { IfOk result (λ given. inspect_asked (rows_of (found_of inspect.now))
+        ≡ Some (ToInspect (inspected_of given))) }
 {
     let Some(reports) = inspect.get_strs("reports") else {
         return Err(WordsFault::Refused);
@@ -128,7 +129,8 @@ fn threads_words<'a>(
     alloc: Global,
     threads: &ArgMatches<'a>,
 ) -> Result<ThreadsWords<'a>, WordsFault>
-    ensures { IfOk result (λ given. threads_asked (rows_of (found_of threads.now)) ≡ Some (ToThread (threads_of given))) }
+    ensures { IfOk result (λ given. threads_asked (rows_of (found_of threads.now))
+        ≡ Some (ToThread (threads_of given))) }
 {
     let Some(scripts) = threads.get_strs("scripts") else {
         return Err(WordsFault::Refused);

@@ -174,7 +174,8 @@ module _ (name id : Text) where
       by (Passed it) =
           let copy = solo_copy Amend (repository h) (calls_of it.s h) in
           subst (λ c. Stands c (repository h)) (sym it.result)
-          (stands_then (record copy { count = (repository h).count + 1 }) copy (repository h) (stands_same_report (record copy { count = (repository h).count + 1 }) copy refl) (run_stands h it.s never))
+          (stands_then (record copy { count = (repository h).count + 1 }) copy (repository h)
+          (stands_same_report (record copy { count = (repository h).count + 1 }) copy refl) (run_stands h it.s never))
 
   -- what stood there in a version stands there now
   stands_always : (h : History) → IsLawful h → IsUnstaged h → Each (Stands (repository h)) (versions h)

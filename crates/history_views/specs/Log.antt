@@ -39,7 +39,8 @@ ending_of _ = Closed
 
 -- after its end, by the reply, the number of the version then, and the session that touched what it had read
 abbrev pub with_end : Reply → ℕ → Option ℕ → Told → Told
-with_end r number by t = record t { ended = Some (record { ending = ending_of r; reply = reply_text r; version = number }); touched_by = by }
+with_end r number by t =
+    record t { ended = Some (record { ending = ending_of r; reply = reply_text r; version = number }); touched_by = by }
 
 -- the session whose commit made the version of a number; none where a load made it
 abbrev pub maker : ℕ → History → Option ℕ
@@ -55,8 +56,10 @@ abbrev pub told_after : Step → Entry → History → Option Told → Option To
 told_after (Load name x) e older told = told
 told_after (Open kind) e older told = Some (told_first kind (repository older).count)
 told_after (Ask call) e older told = option_map (with_call e.reply) told
-told_after Commit e older told = option_map (with_end e.reply (repository (e ∷ older)).count (toucher (ending_of e.reply) older)) told
-told_after Close e older told = option_map (with_end e.reply (repository (e ∷ older)).count (toucher (ending_of e.reply) older)) told
+told_after Commit e older told =
+    option_map (with_end e.reply (repository (e ∷ older)).count (toucher (ending_of e.reply) older)) told
+told_after Close e older told =
+    option_map (with_end e.reply (repository (e ∷ older)).count (toucher (ending_of e.reply) older)) told
 
 -- what is told of the session of a number, where it was opened
 abbrev pub told_of : ℕ → History → Option Told
@@ -78,8 +81,10 @@ end_text None = codes "null"
 end_text (Some e) = e.reply
 
 unfoldable pub session_line : ℕ → Told → Text
-session_line s t = codes "[" ++ (decimal s ++ (codes "," ++ (kind_word t.kind ++ (codes "," ++ (decimal t.opened_at ++ (codes ","
-    ++ (end_text t.ended ++ (codes "," ++ (decimal t.staged ++ (codes "," ++ (session_text t.touched_by ++ codes "]\n")))))))))))
+session_line s t =
+    codes "[" ++ (decimal s ++ (codes "," ++ (kind_word t.kind ++ (codes "," ++ (decimal t.opened_at ++ (codes ","
+    ++ (end_text t.ended ++ (codes ","
+    ++ (decimal t.staged ++ (codes "," ++ (session_text t.touched_by ++ codes "]\n")))))))))))
 
 -- of sessions that are numbered from this number on
 abbrev pub session_lines : ℕ → List Told → Text

@@ -31,7 +31,8 @@ KnowsPlaces places (Some c) (Some d) h = CoverDifference places c d
 KnowsPlaces places _ _ h = HasPlaces places h
 
 abbrev pub SeeksPlaced : PlacedVersions → History → Type 0
-SeeksPlaced v h = Seeks v.from h × Seeks v.to h × KnowsPlaces v.places (version_kept v.from.found) (version_kept v.to.found) h
+SeeksPlaced v h =
+    Seeks v.from h × Seeks v.to h × KnowsPlaces v.places (version_kept v.from.found) (version_kept v.to.found) h
 
 -- of the numbers with which it began
 abbrev pub SeeksPlacedOn : PlacedVersions → PlacedVersions → History → Type 0

@@ -46,7 +46,8 @@ fn found_text(
     places: &Places,
     report: Option<&str>,
 ) -> Result<Option<Option<String>>, AllocError>
-    ensures { ((c d : Repository) → version_kept from.now ≡ Some c → version_kept to.now ≡ Some d → CoverDifference places.now c d)
+    ensures { ((c d : Repository) → version_kept from.now ≡ Some c → version_kept to.now ≡ Some d
+        → CoverDifference places.now c d)
         → IfOk result (λ text. option_map (option_map string_bytes) text
         ≡ difference_between (option_map (λ t. t.now) report.entry) (version_kept from.now) (version_kept to.now)) }
 {
@@ -68,7 +69,8 @@ pub fn difference_of_history<R: Source>(
 ) -> Result<FoundDifference, ScriptFault>
     ensures judged { IfOk result (λ found. IsHistoryJudged (arc_value table.now) (R.state input.old) (R.state input.new)
         found.verdict) }
-    ensures found { IfOk result (λ found. found.verdict ≡ Lawful → (h : History) × (IsHistoryFollowed (arc_value table.now)
+    ensures found { IfOk result (λ found. found.verdict ≡ Lawful
+        → (h : History) × (IsHistoryFollowed (arc_value table.now)
         (R.state input.old) (R.state input.new) found.engine h
         × (version_kept found.from ≡ version_at h from) × (version_kept found.to ≡ version_at h to)
         × (option_map (option_map string_bytes) found.text

@@ -37,7 +37,8 @@ pub fn version_of_history<R: Source>(
 ) -> Result<FoundVersion, ScriptFault>
     ensures judged { IfOk result (λ found. IsHistoryJudged (arc_value table.now) (R.state input.old) (R.state input.new)
         found.verdict) }
-    ensures found { IfOk result (λ found. found.verdict ≡ Lawful → (h : History) × (IsHistoryFollowed (arc_value table.now)
+    ensures found { IfOk result (λ found. found.verdict ≡ Lawful
+        → (h : History) × (IsHistoryFollowed (arc_value table.now)
         (R.state input.old) (R.state input.new) found.engine h
         × (version_kept found.version ≡ version_asked number h))) }
     ensures bounded { (R.state input.new).reads ≤ (R.state input.old).reads + most_reads }

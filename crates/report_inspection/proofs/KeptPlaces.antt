@@ -15,7 +15,8 @@ pub put_seen : (ps : List PlaceRef) (k : Bor Text) (v : Bor (TextValue Global))
 put_seen [] k v = refl
 put_seen (p ∷ ps) k v =
     by_order (name_cmp k p.0)
-    ∙ ap (λ qs. match_ordering (name_cmp k p.0) ((k.now, value_view v.now) ∷ members_seen (p ∷ ps)) ((p.0.now, value_view v.now) ∷ members_seen ps) ((p.0.now, value_view p.1.now) ∷ qs)) (put_seen ps k v)
+    ∙ ap (λ qs. match_ordering (name_cmp k p.0) ((k.now, value_view v.now) ∷ members_seen (p ∷ ps)) ((p.0.now, value_view v.now) ∷ members_seen ps)
+    ((p.0.now, value_view p.1.now) ∷ qs)) (put_seen ps k v)
   where
     by_order : (o : Ordering)
         → members_seen (match_ordering o ((k, v) ∷ p ∷ ps) ((p.0, v) ∷ ps) (p ∷ insert_entry name_cmp ps k v))

@@ -81,7 +81,8 @@ fact_faults names members = flat_map (member_faults names) members
 
 -- the fact of a member, where it can be read and fitted
 abbrev pub member_fact : Option Names → Text × Data → Option (Text × Fact)
-member_fact names member = option_map (λ fact. (member.0, fact)) (option_flatten (value_in (fact_judged names member.1)))
+member_fact names member =
+    option_map (λ fact. (member.0, fact)) (option_flatten (value_in (fact_judged names member.1)))
 
 abbrev pub facts_read : Option Names → List (Text × Data) → List (Text × Fact)
 facts_read names members = filter_map (member_fact names) members

@@ -33,4 +33,5 @@ pub record TakesEach (names : Option Names) (members : List (Text × Data)) (bef
 -- so each fact of a report is, of what stands at `facts`, behind what is wrong with all of them
 pub record TakesFacts (names : Option Names) (facts : Option Data) (before after : Found) : Type 0 where
   pub taken : facts_view after.facts.items ≡ facts_view before.facts.items ++ facts_read names (members_of facts)
-  pub faults : AddsFaults (shape_fault facts ++ fact_faults names (members_of facts)) before.faults.items after.faults.items
+  pub faults : AddsFaults (shape_fault facts
+      ++ fact_faults names (members_of facts)) before.faults.items after.faults.items

@@ -12,6 +12,9 @@ use Rattle.report_inspection.specs.declared.info.Head.{Head}
 
 -- of the member `documentInfo`, by this numeric table: its faults, the names that it binds, and the declared value
 pub record IsHead (table : Table) (info : Option Data) (head : Head) : Type 0 where
-  pub faults : AreFaults (fault_in (document_info_at info) ++ option_map_or (info_faults table) (option_and_then an_object info) []) head.faults.items
-  pub names : head.names ≡ option_and_then (λ info. value_in (declared_names table info)) (option_and_then an_object info)
-  pub allowed : head.allowed ≡ unwrap_or (option_and_then (λ info. value_in (allowed_declared info)) (option_and_then an_object info)) All
+  pub faults : AreFaults (fault_in (document_info_at info)
+      ++ option_map_or (info_faults table) (option_and_then an_object info) []) head.faults.items
+  pub names : head.names
+      ≡ option_and_then (λ info. value_in (declared_names table info)) (option_and_then an_object info)
+  pub allowed : head.allowed
+      ≡ unwrap_or (option_and_then (λ info. value_in (allowed_declared info)) (option_and_then an_object info)) All

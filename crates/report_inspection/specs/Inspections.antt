@@ -32,7 +32,8 @@ pub record AreFaults (faults : List ReportFault) (told : List Fault) : Type 0 wh
 
 -- these faults are told behind those before
 abbrev pub AddsFaults : List ReportFault → List Fault → List Fault → Type 0
-AddsFaults faults before after = (earlier : List ReportFault) → AreFaults earlier before → AreFaults (earlier ++ faults) after
+AddsFaults faults before after =
+    (earlier : List ReportFault) → AreFaults earlier before → AreFaults (earlier ++ faults) after
 
 -- one is told behind those before
 abbrev pub TellsFault : Option ReportFault → List Fault → List Fault → Type 0

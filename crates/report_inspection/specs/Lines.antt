@@ -89,7 +89,8 @@ warning_end id name = codes "," ++ (nullable_text id ++ (codes "," ++ (quoted na
 
 -- `["warning",file,kind,id or null,name]`
 abbrev pub warning_line : Text → Warning → Text
-warning_line file w = warning_head file (kind_word w.kind) ++ warning_end (option_map string_bytes w.fact) (string_bytes w.name)
+warning_line file w =
+    warning_head file (kind_word w.kind) ++ warning_end (option_map string_bytes w.fact) (string_bytes w.name)
 
 abbrev pub disallowed : List ToldCell → ℕ
 disallowed cells = count_by (λ cell. not cell.allowed) cells
@@ -101,7 +102,8 @@ count_text n = codes "," ++ decimal n
 -- `["inspected",file,facts,cells,faults,disallowed,warnings]`
 abbrev pub summary_line : Text → Inspection → Text
 summary_line file i = (head_text (codes "inspected") file ++ (count_text i.facts ++ count_text (vec_len i.cells)))
-    ++ (count_text (vec_len i.faults) ++ (count_text (disallowed i.cells.items) ++ (count_text (vec_len i.warnings) ++ codes "]\n")))
+    ++ (count_text (vec_len i.faults)
+    ++ (count_text (disallowed i.cells.items) ++ (count_text (vec_len i.warnings) ++ codes "]\n")))
 
 -- all lines of an inspection: faults, cells, warnings, and how many there are
 abbrev pub inspection_text : Text → Inspection → Text

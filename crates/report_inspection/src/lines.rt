@@ -306,7 +306,8 @@ fn push_cells(out: &mut String, file: &str, cells: &[Cell]) -> Result<(), AllocE
 
 /// Appends the lines of all warnings.
 fn push_warnings(out: &mut String, file: &str, warnings: &[Warning]) -> Result<(), AllocError>
-    ensures { OnOk result (string_bytes out.new ≡ string_bytes out.old ++ flat_map (warning_line file.now) warnings.now) }
+    ensures { OnOk result (string_bytes out.new
+        ≡ string_bytes out.old ++ flat_map (warning_line file.now) warnings.now) }
 {
     for warning in warnings {
         push_warning(out, file, warning)?;

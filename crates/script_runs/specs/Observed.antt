@@ -15,7 +15,8 @@ looks_at_nothing before line reply after = Unit {0}
 module _ {M O : Type 0} (replies : M → Text → Text → M → Type 0) (sees : O → Text → Text → O → Type 0) where
   -- the machine answers, and the observer sees the line with its reply
   abbrev pub RepliesSeen : Observed M O → Text → Text → Observed M O → Type 0
-  RepliesSeen before line reply after = replies before.machine line reply after.machine × sees before.observer line reply after.observer
+  RepliesSeen before line reply after =
+      replies before.machine line reply after.machine × sees before.observer line reply after.observer
 
 -- keeping changes the machine alone
 module _ {M O : Type 0} (keeps : M → M → Type 0) where
@@ -25,7 +26,8 @@ module _ {M O : Type 0} (keeps : M → M → Type 0) where
   pub keeps_nothing : ((m : M) → keeps m m) → (m : Observed M O) → KeepsSeen m m
   keeps_nothing nothing m = (nothing m.machine, refl)
 
-  pub keeps_twice : ((a b c : M) → keeps a b → keeps b c → keeps a c) → (a b c : Observed M O) → KeepsSeen a b → KeepsSeen b c → KeepsSeen a c
+  pub keeps_twice : ((a b c : M) → keeps a b → keeps b c → keeps a c) → (a b c : Observed M O) → KeepsSeen a b
+      → KeepsSeen b c → KeepsSeen a c
   keeps_twice twice a b c p q = (twice a.machine b.machine c.machine p.0 q.0, q.1 ∙ p.1)
 
 -- the source was read to its end, replies to all its lines are written and nothing else, and the observer saw each line with its reply, in their order

@@ -37,7 +37,8 @@ pub record IsScriptStopped {S : Type 0} (state : S → SourceState) (reads : ℕ
   pub runs : Runs {X = Unit {0}} IsReply state reads (Err fault) (start table) after source source' sink sink'
 
 -- a run of so many reads at most, with what took the steps of the script
-abbrev pub TakerRuns : {S T : Type 0} → (T → History → Type 0) → (S → SourceState) → ℕ → Table → Result T ScriptFault → S → S
+abbrev pub TakerRuns : {S T : Type 0} → (T → History → Type 0) → (S → SourceState) → ℕ → Table
+    → Result T ScriptFault → S → S
     → SinkState → SinkState → Type 0
 TakerRuns has_taken state reads table (Ok taker) source source' sink sink' =
     (h : History) × (IsScriptEnded table (state source) (state source') sink sink' h × has_taken taker h)

@@ -54,13 +54,16 @@ down first number = row * (number - first)
 
 -- elements as seen from a point
 abbrev pub group : ℕ → ℕ → Text → Text
-group x y inside = codes "<g transform=\"translate(" ++ (decimal x ++ (codes "," ++ (decimal y ++ (codes ")\">" ++ (inside ++ codes "</g>\n")))))
+group x y inside =
+    codes "<g transform=\"translate("
+    ++ (decimal x ++ (codes "," ++ (decimal y ++ (codes ")\">" ++ (inside ++ codes "</g>\n")))))
 
 -- the line at which a version begins, and its number
 abbrev pub column_text : ℕ → List ℕ → ℕ → Text
 column_text many cs number = codes "<g transform=\"translate(" ++ (decimal (along cs number)
     ++ (codes ",0)\"><line y1=\"-6\" y2=\"" ++ (decimal (row * many)
-    ++ (codes "\" stroke=\"#c8c8c8\"/><text transform=\"translate(3,-10) rotate(-60)\">" ++ (decimal number ++ codes "</text></g>\n")))))
+    ++ (codes "\" stroke=\"#c8c8c8\"/><text transform=\"translate(3,-10) rotate(-60)\">"
+    ++ (decimal number ++ codes "</text></g>\n")))))
 
 -- ---- the row of a session
 
@@ -74,7 +77,8 @@ kind_style Review = codes "fill=\"#ffffff\" stroke-dasharray=\"3,2\""
 kind_style Amend = codes "fill=\"#c8c8c8\""
 
 abbrev pub label_text : ℕ → Told → Text
-label_text number t = codes "<text x=\"-8\" y=\"14\" text-anchor=\"end\">" ++ (decimal number ++ (codes " " ++ (kind_word t.kind
+label_text number t =
+    codes "<text x=\"-8\" y=\"14\" text-anchor=\"end\">" ++ (decimal number ++ (codes " " ++ (kind_word t.kind
     ++ (codes ", " ++ (decimal t.staged ++ codes " staged</text>")))))
 
 abbrev pub bar_start : List ℕ → Told → ℕ
@@ -93,7 +97,9 @@ bar_end cs None = cell * length cs
 bar_end cs (Some e) = along cs e.version + end_inset e.ending
 
 abbrev pub bar_text : List ℕ → Told → Text
-bar_text cs t = codes "<rect x=\"" ++ (decimal (bar_start cs t) ++ (codes "\" y=\"4\" width=\"" ++ (decimal (bar_end cs t.ended - bar_start cs t)
+bar_text cs t =
+    codes "<rect x=\"" ++ (decimal (bar_start cs t)
+    ++ (codes "\" y=\"4\" width=\"" ++ (decimal (bar_end cs t.ended - bar_start cs t)
     ++ (codes "\" height=\"12\" stroke=\"#000000\" " ++ (kind_style t.kind ++ codes "/>")))))
 
 -- a square for a commit, a cross for a conflict, a stroke where it was closed, a hollow square with a stroke where it was disallowed
@@ -140,10 +146,14 @@ rows_text first cs number (t ∷ ts) = row_text first cs number t ++ rows_text f
 -- ---- arrows, as seen from the middle of the bar
 
 abbrev pub from_above : ℕ → Text
-from_above length = codes "<line y1=\"-" ++ (decimal length ++ codes "\" y2=\"-6\" stroke=\"#000000\"/><polygon points=\"-4,-14 4,-14 0,-6\"/>")
+from_above length =
+    codes "<line y1=\"-" ++ (decimal length
+    ++ codes "\" y2=\"-6\" stroke=\"#000000\"/><polygon points=\"-4,-14 4,-14 0,-6\"/>")
 
 abbrev pub from_below : ℕ → Text
-from_below length = codes "<line y1=\"" ++ (decimal length ++ codes "\" y2=\"6\" stroke=\"#000000\"/><polygon points=\"-4,14 4,14 0,6\"/>")
+from_below length =
+    codes "<line y1=\"" ++ (decimal length
+    ++ codes "\" y2=\"6\" stroke=\"#000000\"/><polygon points=\"-4,14 4,14 0,6\"/>")
 
 -- from no row
 abbrev pub from_nowhere : Text
@@ -162,7 +172,8 @@ arrow_by first many number (Some s) = cond (is_shown first many s) (from_row num
 
 abbrev pub arrow_at : ℕ → ℕ → List ℕ → ℕ → Option ℕ → Option ℕ → Text
 arrow_at first many cs number by None = []
-arrow_at first many cs number by (Some version) = group (along cs version) (down first number) (arrow_by first many number by)
+arrow_at first many cs number by (Some version) =
+    group (along cs version) (down first number) (arrow_by first many number by)
 
 -- at the version that touched what it had read, if one did
 abbrev pub arrow_text : ℕ → ℕ → List ℕ → ℕ → Told → Text
@@ -170,17 +181,22 @@ arrow_text first many cs number t = arrow_at first many cs number t.touched_by (
 
 abbrev pub arrows_text : ℕ → ℕ → List ℕ → ℕ → List Told → Text
 arrows_text first many cs number [] = []
-arrows_text first many cs number (t ∷ ts) = arrow_text first many cs number t ++ arrows_text first many cs (number + 1) ts
+arrows_text first many cs number (t ∷ ts) =
+    arrow_text first many cs number t ++ arrows_text first many cs (number + 1) ts
 
 -- ---- what stands above the rows
 
 abbrev pub head_text : ℕ → ℕ → Text
-head_text width height = codes "<svg xmlns=\"http://www.w3.org/2000/svg\" width=\"" ++ (decimal width ++ (codes "\" height=\"" ++ (decimal height
+head_text width height =
+    codes "<svg xmlns=\"http://www.w3.org/2000/svg\" width=\""
+    ++ (decimal width ++ (codes "\" height=\"" ++ (decimal height
     ++ (codes "\" viewBox=\"0 0 " ++ (decimal width ++ (codes " " ++ (decimal height
     ++ codes "\" font-family=\"sans-serif\" font-size=\"11\">\n<rect width=\"100%\" height=\"100%\" fill=\"#ffffff\"/>\n")))))))
 
 abbrev pub title_text : ℕ → ℕ → ℕ → Text
-title_text first many all = codes "<text x=\"20\" y=\"24\" font-weight=\"bold\">Sessions from " ++ (decimal first ++ (codes " on: " ++ (decimal many
+title_text first many all =
+    codes "<text x=\"20\" y=\"24\" font-weight=\"bold\">Sessions from "
+    ++ (decimal first ++ (codes " on: " ++ (decimal many
     ++ (codes " of " ++ (decimal all ++ codes "</text>\n")))))
 
 -- what an element means
@@ -188,7 +204,8 @@ abbrev pub entry_text : ℕ → ℕ → Text → Text → Text
 entry_text x y drawn words = group x y (drawn ++ (codes "<text x=\"20\" y=\"14\">" ++ (words ++ codes "</text>")))
 
 abbrev pub sample : Kind → Text
-sample kind = codes "<rect x=\"-14\" y=\"4\" width=\"28\" height=\"12\" stroke=\"#000000\" " ++ (kind_style kind ++ codes "/>")
+sample kind =
+    codes "<rect x=\"-14\" y=\"4\" width=\"28\" height=\"12\" stroke=\"#000000\" " ++ (kind_style kind ++ codes "/>")
 
 abbrev pub arrow_sample : Text → Text
 arrow_sample arrow = codes "<g transform=\"translate(0,18)\">" ++ (arrow ++ codes "</g>")
@@ -197,8 +214,10 @@ abbrev pub kinds_legend : Text
 kinds_legend = entry_text 34 34 (sample Amend) (kind_word Amend) ++ entry_text 34 54 (sample Review) (kind_word Review)
 
 abbrev pub ends_legend : Text
-ends_legend = entry_text 134 34 (mark Committed) (codes "committed") ++ (entry_text 134 54 (mark Closed) (codes "closed")
-    ++ (entry_text 254 34 (mark (Conflict 0)) (codes "conflict") ++ entry_text 254 54 (mark Disallowed) (codes "disallowed")))
+ends_legend =
+    entry_text 134 34 (mark Committed) (codes "committed") ++ (entry_text 134 54 (mark Closed) (codes "closed")
+    ++ (entry_text 254 34 (mark (Conflict 0)) (codes "conflict")
+    ++ entry_text 254 54 (mark Disallowed) (codes "disallowed")))
 
 abbrev pub arrows_legend : Text
 arrows_legend = entry_text 34 78 (arrow_sample (from_above 18)) (codes "here a commit changed what the session had read")
@@ -208,13 +227,15 @@ arrows_legend = entry_text 34 78 (arrow_sample (from_above 18)) (codes "here a c
 -- ---- the whole
 
 unfoldable pub columns_text : ℕ → List ℕ → Text
-columns_text many cs = codes "<text x=\"-8\" y=\"-10\" text-anchor=\"end\">version</text>\n" ++ flat_map (column_text many cs) cs
+columns_text many cs =
+    codes "<text x=\"-8\" y=\"-10\" text-anchor=\"end\">version</text>\n" ++ flat_map (column_text many cs) cs
 
 unfoldable pub arrows_group : ℕ → ℕ → List ℕ → List Told → Text
 arrows_group first many cs ts = group 0 10 (arrows_text first many cs first ts)
 
 unfoldable pub grid : ℕ → ℕ → List ℕ → List Told → Text
-grid first many cs ts = group left above (columns_text many cs ++ (arrows_group first many cs ts ++ rows_text first cs first ts))
+grid first many cs ts =
+    group left above (columns_text many cs ++ (arrows_group first many cs ts ++ rows_text first cs first ts))
 
 -- of so many versions, and of so many sessions from this number on, among all
 unfoldable pub above_text : ℕ → ℕ → ℕ → ℕ → Text
@@ -222,7 +243,9 @@ above_text first versions many all = head_text (left + cell * versions + right) 
     ++ (title_text first many all ++ (kinds_legend ++ (ends_legend ++ arrows_legend)))
 
 unfoldable pub picture_from : ℕ → List Told → ℕ → Text
-picture_from first ts all = above_text first (length (columns ts)) (length ts) all ++ (grid first (length ts) (columns ts) ts ++ codes "</svg>\n")
+picture_from first ts all =
+    above_text first (length (columns ts)) (length ts) all
+    ++ (grid first (length ts) (columns ts) ts ++ codes "</svg>\n")
 
 abbrev pub shown : ℕ → List Told → List Told
 shown first ts = take most (drop (first - 1) ts)

@@ -26,4 +26,5 @@ abbrev pub end_in : SessionEnd → End
 end_in e = record { ending = e.ending; reply = string_bytes e.reply; version = e.version }
 
 abbrev pub told_in : ToldSession → Told
-told_in s = record { kind = s.kind; opened_at = s.opened_at; staged = s.staged; ended = option_map end_in s.ended; touched_by = s.touched_by }
+told_in s =
+    record { kind = s.kind; opened_at = s.opened_at; staged = s.staged; ended = option_map end_in s.ended; touched_by = s.touched_by }

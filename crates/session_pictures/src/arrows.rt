@@ -57,7 +57,8 @@ fn push_arrow(
     number: u64,
     session: &ToldSession,
 ) -> Result<(), AllocError>
-    ensures { OnOk result (string_bytes out.new ≡ string_bytes out.old ++ arrow_text first many columns.now number (told_in session.now)) }
+    ensures { OnOk result (string_bytes out.new
+        ≡ string_bytes out.old ++ arrow_text first many columns.now number (told_in session.now)) }
 {
     let Some(version) = touching_end(&session.ended) else {
         return Ok(());
@@ -75,7 +76,8 @@ fn push_arrows(
     columns: &[u64],
     sessions: &[ToldSession],
 ) -> Result<(), AllocError>
-    ensures { OnOk result (string_bytes out.new ≡ string_bytes out.old ++ arrows_text first many columns.now first (map told_in sessions.now)) }
+    ensures { OnOk result (string_bytes out.new
+        ≡ string_bytes out.old ++ arrows_text first many columns.now first (map told_in sessions.now)) }
 {
     let mut number = first;
     for session in sessions {
@@ -96,7 +98,8 @@ pub(crate) fn push_arrows_group(
     columns: &[u64],
     sessions: &[ToldSession],
 ) -> Result<(), AllocError>
-    ensures { OnOk result (string_bytes out.new ≡ string_bytes out.old ++ arrows_group first many columns.now (map told_in sessions.now)) }
+    ensures { OnOk result (string_bytes out.new
+        ≡ string_bytes out.old ++ arrows_group first many columns.now (map told_in sessions.now)) }
 {
     push_group(out, 0, 10)?;
     push_arrows(out, first, many, columns, sessions)?;

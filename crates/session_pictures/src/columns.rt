@@ -60,7 +60,8 @@ pub(crate) fn touching_end(ended: &Option<SessionEnd>) -> Option<u64>
 
 /// Puts the versions of an end in their places.
 fn add_end(columns: &mut Vec<u64>, ended: &Option<SessionEnd>) -> Result<(), AllocError>
-    ensures { OnOk result (columns.new.items ≡ with_numbers (versions_of_end (option_map end_in ended.now)) columns.old.items) }
+    ensures { OnOk result (columns.new.items
+        ≡ with_numbers (versions_of_end (option_map end_in ended.now)) columns.old.items) }
 {
     let Some(end) = ended else {
         return Ok(());

@@ -12,7 +12,9 @@ use std::alloc::AllocError;
 
 /// Appends the words of an entry, and ends its group.
 fn push_meaning(out: &mut String, words: &str) -> Result<(), AllocError>
-    ensures { OnOk result (string_bytes out.new ≡ string_bytes out.old ++ (codes "<text x=\"20\" y=\"14\">" ++ (words.now ++ (codes "</text>" ++ codes "</g>\n")))) }
+    ensures { OnOk result (string_bytes out.new
+        ≡ string_bytes out.old ++ (codes "<text x=\"20\" y=\"14\">"
+        ++ (words.now ++ (codes "</text>" ++ codes "</g>\n")))) }
 {
     out.push_str("<text x=\"20\" y=\"14\">")?;
     out.push_str(words)?;
@@ -47,7 +49,8 @@ fn push_sample(out: &mut String, kind: Kind) -> Result<(), AllocError>
 
 /// Appends what the bar of a kind means.
 fn push_kind(out: &mut String, y: u128, kind: Kind) -> Result<(), AllocError>
-    ensures { OnOk result (string_bytes out.new ≡ string_bytes out.old ++ entry_text 34 y (sample kind) (kind_word kind)) }
+    ensures { OnOk result (string_bytes out.new
+        ≡ string_bytes out.old ++ entry_text 34 y (sample kind) (kind_word kind)) }
 {
     push_group(out, 34, y)?;
     push_sample(out, kind)?;

@@ -87,7 +87,8 @@ fn push_grid(
     columns: &[u64],
     sessions: &[ToldSession],
 ) -> Result<(), AllocError>
-    ensures { OnOk result (string_bytes out.new ≡ string_bytes out.old ++ grid first many columns.now (map told_in sessions.now)) }
+    ensures { OnOk result (string_bytes out.new
+        ≡ string_bytes out.old ++ grid first many columns.now (map told_in sessions.now)) }
 {
     push_group(out, LEFT, ABOVE)?;
     push_columns(out, many, columns)?;

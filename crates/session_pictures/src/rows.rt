@@ -85,7 +85,8 @@ fn push_words(
     ended: &Option<SessionEnd>,
     touched_by: Option<u64>,
 ) -> Result<(), AllocError>
-    ensures { OnOk result (string_bytes out.new ≡ string_bytes out.old ++ end_words (option_map end_in ended.now) touched_by) }
+    ensures { OnOk result (string_bytes out.new
+        ≡ string_bytes out.old ++ end_words (option_map end_in ended.now) touched_by) }
 {
     match ended {
         Some(end) => push_ending(out, end.ending, end.version, touched_by),
@@ -123,7 +124,8 @@ fn push_row(
     number: u64,
     session: &ToldSession,
 ) -> Result<(), AllocError>
-    ensures { OnOk result (string_bytes out.new ≡ string_bytes out.old ++ row_text first columns.now number (told_in session.now)) }
+    ensures { OnOk result (string_bytes out.new
+        ≡ string_bytes out.old ++ row_text first columns.now number (told_in session.now)) }
 {
     push_group(out, 0, down(first, number))?;
     push_label(out, number, session)?;
@@ -139,7 +141,8 @@ pub(crate) fn push_rows(
     columns: &[u64],
     sessions: &[ToldSession],
 ) -> Result<(), AllocError>
-    ensures { OnOk result (string_bytes out.new ≡ string_bytes out.old ++ rows_text first columns.now first (map told_in sessions.now)) }
+    ensures { OnOk result (string_bytes out.new
+        ≡ string_bytes out.old ++ rows_text first columns.now first (map told_in sessions.now)) }
 {
     let mut number = first;
     for session in sessions {

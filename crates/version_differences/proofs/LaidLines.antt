@@ -280,10 +280,12 @@ module _ (from to : Repository) (m : Text) (r s : Report) (is_r : report_at from
 
       by : (o : Option Report) → report_at laid m ≡ o → (made : Report) × (report_at laid m ≡ Some made) × IsMadeTo made r s
       by None gone =
-          let apart : None ≡ Some r.names = sym (ap (option_map (λ (r : Report). r.names)) gone) ∙ lines_leave_names from to m from (difference from to) ∙ ap (option_map (λ (r : Report). r.names)) is_r in
+          let apart : None ≡ Some r.names = sym (ap (option_map (λ (r : Report). r.names)) gone) ∙ lines_leave_names from to m from (difference from to)
+          ∙ ap (option_map (λ (r : Report). r.names)) is_r in
           cc
       by (Some x) is =
-          let names : Some x.names ≡ Some r.names = sym (ap (option_map (λ (r : Report). r.names)) is) ∙ lines_leave_names from to m from (difference from to) ∙ ap (option_map (λ (r : Report). r.names)) is_r in
+          let names : Some x.names ≡ Some r.names = sym (ap (option_map (λ (r : Report). r.names)) is) ∙ lines_leave_names from to m from (difference from to)
+          ∙ ap (option_map (λ (r : Report). r.names)) is_r in
           let values : Some x.allowed ≡ Some s.allowed = sym (ap (option_map (λ (r : Report). r.allowed)) is) ∙ value_made ∙ ap (option_map (λ (r : Report). r.allowed)) is_s in (
             x,
             is,

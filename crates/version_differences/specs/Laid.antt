@@ -35,7 +35,8 @@ EachDifferenceMakesTheOther = (from to : Repository) (name : Text) (r s : Report
 abbrev pub IsToldOf : Repository → Repository → Line → Type 0
 IsToldOf from to (NewReport name) = (r : Report) × (report_at from name ≡ None) × (report_at to name ≡ Some r)
 IsToldOf from to (NoReport name) = (r : Report) × (report_at from name ≡ Some r) × (report_at to name ≡ None)
-IsToldOf from to (Declared name a b) = (r : Report) × (s : Report) × (report_at from name ≡ Some r) × (report_at to name ≡ Some s)
+IsToldOf from to (Declared name a b) =
+    (r : Report) × (s : Report) × (report_at from name ≡ Some r) × (report_at to name ≡ Some s)
     × (r.allowed ≡ a) × (s.allowed ≡ b) × (a ≡ b → ⊥)
 IsToldOf from to (Added name id fact) = (fact_at from name id ≡ None) × (fact_at to name id ≡ Some fact)
 IsToldOf from to (Removed name id fact) = (fact_at from name id ≡ Some fact) × (fact_at to name id ≡ None)

@@ -19,7 +19,8 @@ line_text (Declared name from to) =
 line_text (Added name id fact) =
     codes "[\"added\"," ++ (quoted name ++ (codes "," ++ (quoted id ++ (codes "," ++ (fact_text fact ++ codes "]\n")))))
 line_text (Removed name id fact) =
-    codes "[\"removed\"," ++ (quoted name ++ (codes "," ++ (quoted id ++ (codes "," ++ (fact_text fact ++ codes "]\n")))))
+    codes "[\"removed\"," ++ (quoted name
+    ++ (codes "," ++ (quoted id ++ (codes "," ++ (fact_text fact ++ codes "]\n")))))
 line_text (Changed name id from to) =
     codes "[\"changed\"," ++ (quoted name ++ (codes "," ++ (quoted id
     ++ (codes "," ++ (fact_text from ++ (codes "," ++ (fact_text to ++ codes "]\n")))))))

@@ -20,7 +20,8 @@ fn text_of_all(
     places: &Places,
 ) -> Result<String, AllocError>
     ensures { CoverDifference places.now (repository_in from.now) (repository_in to.now)
-        → IfOk result (λ text. string_bytes text ≡ lines_text (difference (repository_in from.now) (repository_in to.now))) }
+        → IfOk result (λ text. string_bytes text
+        ≡ lines_text (difference (repository_in from.now) (repository_in to.now))) }
 {
     let mut out = String::new(alloc);
     for entry in places.iter() {
@@ -46,7 +47,8 @@ fn text_of_report(
     name: &str,
 ) -> Result<Option<String>, AllocError>
     ensures { CoverDifference places.now (repository_in from.now) (repository_in to.now)
-        → IfOk result (λ o. option_map string_bytes o ≡ report_difference_text name.now (repository_in from.now) (repository_in to.now)) }
+        → IfOk result (λ o. option_map string_bytes o
+        ≡ report_difference_text name.now (repository_in from.now) (repository_in to.now)) }
 {
     let Some(ids) = places.get(name) else {
         return Ok(None);

@@ -41,7 +41,8 @@ pub(crate) fn push_no_report(out: &mut String, name: &str) -> Result<(), AllocEr
 
 /// Appends a comma and the word of allowed duplicates.
 fn push_allowed(out: &mut String, allowed: Allowed) -> Result<(), AllocError>
-    ensures { OnOk result (string_bytes out.new ≡ string_bytes out.old ++ (codes "," ++ word_text (allowed_word allowed))) }
+    ensures { OnOk result (string_bytes out.new
+        ≡ string_bytes out.old ++ (codes "," ++ word_text (allowed_word allowed))) }
 {
     out.push_str(",")?;
     push_word(out, allowed_word(allowed))
@@ -84,7 +85,8 @@ pub(crate) fn push_declared(
     from: Allowed,
     to: Allowed,
 ) -> Result<(), AllocError>
-    ensures { OnOk result (string_bytes out.new ≡ string_bytes out.old ++ lines_text (declared_lines name.now from to)) }
+    ensures { OnOk result (string_bytes out.new
+        ≡ string_bytes out.old ++ lines_text (declared_lines name.now from to)) }
 {
     if are_same_values(from, to) {
         return Ok(());
@@ -120,7 +122,8 @@ fn push_one_fact(
     fact: &Fact,
 ) -> Result<(), AllocError>
     ensures { OnOk result (string_bytes out.new ≡ string_bytes out.old
-        ++ (begin.now ++ (quoted name.now ++ (codes "," ++ (quoted id.now ++ (codes "," ++ (fact_text fact.now ++ codes "]\n"))))))) }
+        ++ (begin.now ++ (quoted name.now
+        ++ (codes "," ++ (quoted id.now ++ (codes "," ++ (fact_text fact.now ++ codes "]\n"))))))) }
 {
     push_place(out, begin, name, id)?;
     push_next_fact(out, fact)?;

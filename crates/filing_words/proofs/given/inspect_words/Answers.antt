@@ -7,7 +7,8 @@ use Rattle.filing_words.proofs.given.inspect_words.Goals as goal
 pub returns : goal.returns
 returns c =
     let found = found_of c.args.inspect.now in
-    inspect_read (rows_of found) (option_map (λ s. s.now) c.get_str.result) (option_map (λ s. s.now) c.get_str-2.result) (option_map (λ s. s.now) c.get_str-3.result) c.is_given.result (map (λ s. s.now) c.in_ok-to_vec.field-0.items)
+    inspect_read (rows_of found) (option_map (λ s. s.now) c.get_str.result) (option_map (λ s. s.now) c.get_str-2.result)
+    (option_map (λ s. s.now) c.get_str-3.result) c.is_given.result (map (λ s. s.now) c.in_ok-to_vec.field-0.items)
     (c.get_str.ensures ∙ first_value-rows found (codes "numeric"))
     (ap (λ (l : List (Bor (List ℕ))). Some (map (λ (s : Bor (List ℕ)). s.now) l)) (c.in_ok-to_vec.ensures.items_if_clones_equal (λ x y h. h))
     ∙ c.in-Some.ensures ∙ raw_values-rows found (codes "reports"))

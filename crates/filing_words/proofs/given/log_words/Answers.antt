@@ -7,7 +7,8 @@ use Rattle.filing_words.proofs.given.log_words.Goals as goal
 pub returns : goal.returns
 returns c =
     let found = found_of c.args.log.now in
-    log_read (rows_of found) (option_map (λ s. s.now) c.get_str-2.result) (option_map (λ s. s.now) c.get_str-3.result) (option_map (λ s. s.now) c.get_str-4.result) c.is_given.result c.in-Some.history.now
+    log_read (rows_of found) (option_map (λ s. s.now) c.get_str-2.result) (option_map (λ s. s.now) c.get_str-3.result)
+    (option_map (λ s. s.now) c.get_str-4.result) c.is_given.result c.in-Some.history.now
     (c.get_str-2.ensures ∙ first_value-rows found (codes "numeric"))
     (c.in-Some.ensures ∙ first_value-rows found (codes "viewed"))
     (c.get_str-3.ensures ∙ first_value-rows found (codes "svg"))

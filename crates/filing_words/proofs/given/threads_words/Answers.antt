@@ -7,7 +7,9 @@ use Rattle.filing_words.proofs.given.threads_words.Goals as goal
 pub returns : goal.returns
 returns c =
     let found = found_of c.args.threads.now in
-    threads_read (rows_of found) (option_map (λ s. s.now) c.get_str.result) (option_map (λ s. s.now) c.get_str-2.result) (option_map (λ s. s.now) c.get_str-3.result) (option_map (λ s. s.now) c.get_str-4.result) (option_map (λ s. s.now) c.get_str-5.result) (option_map (λ s. s.now) c.get_str-6.result) c.is_given.result c.is_given-2.result
+    threads_read (rows_of found) (option_map (λ s. s.now) c.get_str.result) (option_map (λ s. s.now) c.get_str-2.result)
+    (option_map (λ s. s.now) c.get_str-3.result) (option_map (λ s. s.now) c.get_str-4.result) (option_map (λ s. s.now) c.get_str-5.result)
+    (option_map (λ s. s.now) c.get_str-6.result) c.is_given.result c.is_given-2.result
     (map (λ s. s.now) c.in_ok-to_vec.field-0.items)
     (c.get_str.ensures ∙ first_value-rows found (codes "numeric"))
     (c.get_str-2.ensures ∙ first_value-rows found (codes "history"))

@@ -14,5 +14,6 @@ returns-in-Some-as_object c =
     let e : get (codes "facts") (view c.args.report.now) ≡ Some (object (members_view c.in-Some-as_object.members.now.entries)) =
     sym c.in-Some.ensures ∙ ap (λ (d : Data). Some d) facts in
     on_ok c.gather_facts.result
-    (facts_kept (view c.args.report.now) _ c.args.gathered.now.reasons.items c.add.new.self.reasons.items c.gather_facts.new.gathered.reasons.items e (c.in_ok-add.ensures (λ id. has_fact id (view c.args.report.now)) refl))
+    (facts_kept (view c.args.report.now) _ c.args.gathered.now.reasons.items c.add.new.self.reasons.items c.gather_facts.new.gathered.reasons.items e
+    (c.in_ok-add.ensures (λ id. has_fact id (view c.args.report.now)) refl))
     c.gather_facts.ensures

@@ -6,4 +6,13 @@ use Rattle.session_pictures.proofs.picture.picture_from.Goals as goal
 pub returns : goal.returns
 unfolding picture_from
 returns c = simp length-map
-    (simp (c.in_ok-push_grid.ensures, c.in_ok-push_above.ensures, c.new-out.ensures.bytes, c.len.ensures, ← c.deref.ensures.len, c.deref.ensures.value, c.in_ok-columns.ensures, append_assoc) at c.in_ok-push_str.ensures.bytes)
+    (simp (
+      c.in_ok-push_grid.ensures,
+      c.in_ok-push_above.ensures,
+      c.new-out.ensures.bytes,
+      c.len.ensures,
+      ← c.deref.ensures.len,
+      c.deref.ensures.value,
+      c.in_ok-columns.ensures,
+      append_assoc,
+    ) at c.in_ok-push_str.ensures.bytes)

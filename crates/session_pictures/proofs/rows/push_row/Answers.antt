@@ -4,4 +4,12 @@ use Rattle.session_pictures.proofs.rows.push_row.Goals as goal
 
 pub returns : goal.returns
 unfolding row_text
-returns c = simp append_assoc (simp (c.in_ok-push_end.ensures, c.in_ok-push_bar.ensures, c.in_ok-push_label.ensures, c.in_ok-push_group.ensures, c.down.ensures, append_assoc) at c.push_group_end.ensures)
+returns c =
+    simp append_assoc (simp (
+      c.in_ok-push_end.ensures,
+      c.in_ok-push_bar.ensures,
+      c.in_ok-push_label.ensures,
+      c.in_ok-push_group.ensures,
+      c.down.ensures,
+      append_assoc,
+    ) at c.push_group_end.ensures)

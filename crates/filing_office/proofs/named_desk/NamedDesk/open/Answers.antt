@@ -12,4 +12,5 @@ returns-in-Review-clause-opens g c =
     sym (ap (λ (u : NamedDeskState). get u.state.names name) c.self.view_is)
     ∙ sym (ap (λ t. get c.self.inside.names t) c.deref.ensures)
     ∙ none_of _ c.get.result _ c.get.ensures (sym c.is_some.ensures ∙ c.if-is_some.false) in
-    opens_review c.args.self.now.state c.open_review.new.self.state c.args.told.now name c.args.kind (outcome_of c.open_review.result) free c.in-Review.is (sym (ap (λ (u : NamedDeskState). is_some u.state.seen) c.self.view_is) ∙ c.if-is_none.ensures) c.open_review.ensures.opens
+    opens_review c.args.self.now.state c.open_review.new.self.state c.args.told.now name c.args.kind (outcome_of c.open_review.result) free c.in-Review.is
+    (sym (ap (λ (u : NamedDeskState). is_some u.state.seen) c.self.view_is) ∙ c.if-is_none.ensures) c.open_review.ensures.opens

@@ -7,5 +7,6 @@ use Rattle.script_runs.proofs.takes_steps.CoreTakesSteps.take_step.Goals as goal
 pub returns-clause-answers : goal.returns-clause-answers
 returns-clause-answers c = λ h taken.
     IfOk-weaker c.told.result _ _
-    (λ text is. told_of (λ x. c.step_of_core-outcome.new.core.history ≡ x) h c.args.session (step_of c.args.step) c.step_of_core-outcome.result (string_bytes text) (c.step_of_core-outcome.ensures h taken) is)
+    (λ text is. told_of (λ x. c.step_of_core-outcome.new.core.history ≡ x) h c.args.session (step_of c.args.step) c.step_of_core-outcome.result
+    (string_bytes text) (c.step_of_core-outcome.ensures h taken) is)
     c.told.ensures

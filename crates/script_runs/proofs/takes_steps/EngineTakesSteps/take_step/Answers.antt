@@ -8,5 +8,6 @@ use Rattle.script_runs.proofs.takes_steps.EngineTakesSteps.take_step.Goals as go
 pub returns-clause-answers : goal.returns-clause-answers
 returns-clause-answers c = λ h taken.
     IfOk-weaker c.told.result _ _
-    (λ text is. told_of (λ x. IsEngineOf x c.step_of_engine-outcome.new.engine) h c.args.session (step_of c.args.step) c.step_of_engine-outcome.result (string_bytes text) (c.step_of_engine-outcome.ensures h taken) is)
+    (λ text is. told_of (λ x. IsEngineOf x c.step_of_engine-outcome.new.engine) h c.args.session (step_of c.args.step) c.step_of_engine-outcome.result
+    (string_bytes text) (c.step_of_engine-outcome.ensures h taken) is)
     c.told.ensures
