@@ -32,7 +32,7 @@ use Rattle.filing_index.specs.Cells.{shares_hash, first_of, crowded, are_these, 
 use Rattle.filing_index.proofs.AskedHashes.{hash_of_cell}
 use Rattle.filing_index.proofs.FoundEntries.{found_is, found_all, sorted_from_rising}
 use Rattle.filing_index.proofs.KeptElements as kept
-use Rattle.filing_index.proofs.KeptElements.{filter-filter, has_two, any_of_two, map-filter, list_any-map, has_two-map, map-map}
+use Rattle.filing_index.proofs.KeptElements.{filter-filter, has_two, any_of_two, map-filter, list_any-map, has_two-map}
 
 -- ---- a cell, by its class
 

@@ -80,7 +80,8 @@ impl CellSum {
 
     /// With the facts of a page at the end.
     pub(crate) fn with_kept(self, kept: &KeptSum) -> CellSum
-        ensures { (facts more : List PlainFact) → Tells self facts → Keeps kept.now more → Tells result (facts ++ more) }
+        ensures { (facts more : List PlainFact) → Tells self facts → Keeps kept.now more
+            → Tells result (facts ++ more) }
     {
         match kept {
             Some(more) => self.with_tally(more),

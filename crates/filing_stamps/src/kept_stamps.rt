@@ -15,7 +15,8 @@ pub(crate) trait KeptStamps: Drop {
 
     /// The greatest number in a range where it is greater than `since`, or else a number that is not greater either.
     fn greatest_since(&self, among: &Among<'_>, since: u64) -> u64
-        ensures { max since result ≡ max since (greatest (λ s. s.number) (within (among_side among.now) (stamps self.now))) };
+        ensures { max since result
+            ≡ max since (greatest (λ s. s.number) (within (among_side among.now) (stamps self.now))) };
 
     /// Appends them to a list, each shared.
     fn append_to(&self, all: &mut Vec<Stamp>) -> Result<(), AllocError>

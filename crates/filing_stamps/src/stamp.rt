@@ -364,7 +364,7 @@ impl Stamp {
         }
     }
 
-    /// Whether it ties with another stamp of the same code. Most are told apart by the keys of their identifiers, which stand in place.
+    /// Whether it ties with another stamp of the same code. Identifiers are compared first: their keys stand in the stamp.
     #[tactic(auto, using(crate::proofs::StampTies::alike))]
     fn is_alike(&self, other: &Stamp) -> bool
         requires { self.now.code ≡ other.now.code }

@@ -1,6 +1,5 @@
 use Rattle.std.proofs.Common.{◌≡◌, ◌∙◌, ap, sym, subst, ◌+◌}
 use Rattle.std.specs.Prelude.{string_bytes}
-use Rattle.std.specs.Arc.{arc_value}
 use Rattle.filing_model.specs.Common.TextMap.{insert}
 use Rattle.filing_version.specs.Filed.{StampedReports, mapped, filed_of, newly_filed, version_of, IsStampedUpTo}
 use Rattle.filing_version.proofs.FiledReports.{version_with_report, with_is_stamped_up_to}
