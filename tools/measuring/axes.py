@@ -2,9 +2,13 @@
 import math
 from typing import NamedTuple
 
-STYLE = """<style>text{font:12px sans-serif;fill:#222}.t{font-weight:bold}.b{fill:#fff}.g{stroke:#ddd}.a{stroke:#222;fill:none}.s{fill:none;stroke-width:2}
-.s0{stroke:#1f5fbf}.s1{stroke:#b34700;stroke-dasharray:7 3}.s2{stroke:#2b7a2b;stroke-dasharray:2 3}
-@media(prefers-color-scheme:dark){text{fill:#ddd}.b{fill:#161616}.g{stroke:#3a3a3a}.a{stroke:#ddd}.s0{stroke:#7fb0ff}.s1{stroke:#ff9f5f}.s2{stroke:#7fd07f}}</style>"""
+STYLE = (
+    "<style>text{font:12px sans-serif;fill:#222}.t{font-weight:bold}.b{fill:#fff}.g{stroke:#ddd}.a{stroke:#222;fill:none}"
+    ".s{fill:none;stroke-width:2}\n"
+    ".s0{stroke:#1f5fbf}.s1{stroke:#b34700;stroke-dasharray:7 3}.s2{stroke:#2b7a2b;stroke-dasharray:2 3}\n"
+    "@media(prefers-color-scheme:dark){text{fill:#ddd}.b{fill:#161616}.g{stroke:#3a3a3a}.a{stroke:#ddd}"
+    ".s0{stroke:#7fb0ff}.s1{stroke:#ff9f5f}.s2{stroke:#7fd07f}}</style>"
+)
 
 
 class Axis(NamedTuple):
@@ -31,10 +35,14 @@ class Axis(NamedTuple):
 
 def panel(left, title, across, up, powers, lines):
     """One pair of axes with its lines, each a name and its points."""
-    x, y = (Axis.of([it[axis] for _, points in lines for it in points], powers, *ends) for axis, ends in enumerate([(70, 350), (310, 110)]))
+    x, y = (
+        Axis.of([it[axis] for _, points in lines for it in points], powers, *ends)
+        for axis, ends in enumerate([(70, 350), (310, 110)])
+    )
     yield f'<g transform="translate({left},0)"><text class="t" x="16" y="22">{title}</text><text x="16" y="98">{up}</text>'
     for it in x.ticks:
-        yield f'<path class="g" d="M{x.place(it)} 110V310"/><text x="{x.place(it)}" y="328" text-anchor="middle">{it:,.10g}</text>'
+        at = x.place(it)
+        yield f'<path class="g" d="M{at} 110V310"/><text x="{at}" y="328" text-anchor="middle">{it:,.10g}</text>'
     for it in y.ticks:
         yield f'<path class="g" d="M70 {y.place(it)}H350"/><text x="64" y="{y.place(it) + 4}" text-anchor="end">{it:,.10g}</text>'
     yield f'<path class="a" d="M70 110V310H350"/><text x="210" y="348" text-anchor="middle">{across}</text>'
@@ -48,6 +56,10 @@ def panel(left, title, across, up, powers, lines):
 def svg(*panels):
     """A picture of panels beside one another."""
     wide = 400 * len(panels)
-    parts = [f'<svg xmlns="http://www.w3.org/2000/svg" width="{wide}" height="360" viewBox="0 0 {wide} 360">', STYLE, '<rect class="b" width="100%" height="100%"/>']
+    parts = [
+        f'<svg xmlns="http://www.w3.org/2000/svg" width="{wide}" height="360" viewBox="0 0 {wide} 360">',
+        STYLE,
+        '<rect class="b" width="100%" height="100%"/>',
+    ]
     parts += [it for at, words in enumerate(panels) for it in panel(400 * at, *words)]
     return "\n".join([*parts, "</svg>"]) + "\n"

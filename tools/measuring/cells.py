@@ -1,5 +1,5 @@
 """Shapes with many duplicates. Where a report allows `complete` alone, those of a new fact are looked at."""
-from lines import OPENED, add, commit, load
+from measuring.lines import OPENED, add, commit, load
 
 CROWD = 10_000
 

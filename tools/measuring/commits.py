@@ -1,5 +1,5 @@
 """Shapes of many commits, behind which old sessions look for what they have read."""
-from lines import OPENED, add, commit, fact, load
+from measuring.lines import OPENED, add, commit, fact, load
 
 READ = 20
 # Each of these is more than stands by itself.

@@ -2,7 +2,7 @@
 import random
 from typing import NamedTuple
 
-from lines import add, commit, fact, load
+from measuring.lines import add, commit, fact, load
 
 SIZE = 4_000
 

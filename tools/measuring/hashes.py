@@ -1,14 +1,15 @@
 """Shapes that read things of one hash.
 
-A session finds what it has read by a hash whose keys the program draws, so that nobody can choose such things. These have one
-hash by the toolchain's `FoldHasher`, whose seed is fixed: it takes a text by blocks of 16 bytes, and a block whose first word is
-the state leaves 0, whatever its second word is. So texts that differ in such a word alone have one hash, and no search is
-needed. By another hasher these are plain texts; they tell whether a hash without keys comes back.
+A session finds what it has read by a hash whose keys the program draws, so that nobody can choose such things. These
+have one hash by the toolchain's `FoldHasher`, whose seed is fixed: it takes a text by blocks of 16 bytes, and a block
+whose first word is the state leaves 0, whatever its second word is. So texts that differ in such a word alone have one
+hash, and no search is needed. By another hasher these are plain texts; they tell whether a hash without keys comes
+back.
 """
 import itertools
 import json
 
-from lines import OPENED, add, commit, load
+from measuring.lines import OPENED, add, commit, load
 
 SEED, MULTIPLIER, WORD = 0x243F6A8885A308D3, 0x9E3779B97F4A7C15, 2**64 - 1
 END = b"\xff"
@@ -45,7 +46,7 @@ def after(writes, state=SEED):
 
 
 def alike(writes, count):
-    """So many texts of 32 bytes or some more that have one hash behind these writes. What they begin with is chosen so that the state is a text."""
+    """So many texts of 32 bytes or more with one hash after these writes. They begin so that the state is a text."""
     state = after(writes)
     for number in itertools.count():
         start = f"{number:016}".encode()

@@ -2,7 +2,9 @@
 import random
 
 INFO = '{"documentType":"https://xbrl.org/2021/xbrl-json","features":{"xbrl:allowedDuplicates":"consistent"},"namespaces":%s}'
-NAMES = '{"ex":"http://e.org/t","iso4217":"http://www.xbrl.org/2003/iso4217","lei":"http://standards.iso.org/iso/17442"}'
+NAMES = (
+    '{"ex":"http://e.org/t","iso4217":"http://www.xbrl.org/2003/iso4217","lei":"http://standards.iso.org/iso/17442"}'
+)
 OPEN = '["open","s","amend"]', '["opened"]'
 
 
@@ -10,10 +12,13 @@ def fact(number, value=0):
     """A fact of some 270 bytes, each in a cell of its own; every second one is numeric."""
     concept, year, part = number % 200, 2000 + number // 200 % 20, number // 4000
     period = f'"period":"{year}-01-01T00:00:00/{year + 1}-01-01T00:00:00"'
-    dims = f'"concept":"ex:Item{concept}","entity":"lei:529900T8BM49AURSDO55","ex:RegionAxis":"ex:Region{part % 50}","ex:SegmentAxis":"ex:Segment{part}"'
+    dims = f'"concept":"ex:Item{concept}","entity":"lei:529900T8BM49AURSDO55","ex:RegionAxis":"ex:Region{part % 50}",'
+    dims += f'"ex:SegmentAxis":"ex:Segment{part}"'
     if concept % 2:
-        return f'{{"dimensions":{{{dims},"language":"en",{period}}},"value":"Disclosure {value} of the reporting entity for the period"}}'
-    return f'{{"decimals":2,"dimensions":{{{dims},{period},"unit":"iso4217:EUR"}},"value":"{number * 7919 % 10**9}.{value % 100:02}"}}'
+        text = f"Disclosure {value} of the reporting entity for the period"
+        return f'{{"dimensions":{{{dims},"language":"en",{period}}},"value":"{text}"}}'
+    amount = f"{number * 7919 % 10**9}.{value % 100:02}"
+    return f'{{"decimals":2,"dimensions":{{{dims},{period},"unit":"iso4217:EUR"}},"value":"{amount}"}}'
 
 
 def load(count, number=1):

@@ -1,8 +1,8 @@
 """Numerals, intervals, pairs, classes, what a report allows, and names: each by what scripts are told of it."""
 import random
 
-from repository import FEATURE, MOST_DIGITS, MOST_PLACES, WORDS, compact, units
-from script import Script, expect, fact, load, written
+from model.repository import MOST_DIGITS, MOST_PLACES, WORDS, units
+from model.script import Script, expect, fact, load, written
 
 # Numerals with the number of each, and texts that are refused.
 NUMERALS = {

@@ -2,15 +2,21 @@
 import random
 import re
 
-from repository import DOCUMENT_TYPE, FEATURE, WORDS, Number, compact
+from model.repository import DOCUMENT_TYPE, FEATURE, WORDS, Number, compact
+
 
 def json_text(draw, value):
     """A value as JSON with spaces, members in any order, and escapes that need not be."""
-    space = lambda: draw.choice([""] * 21 + [" ", "  ", "\t"])
+
+    def space():
+        return draw.choice([""] * 21 + [" ", "  ", "\t"])
+
     if isinstance(value, dict):
         members = list(value.items())
         draw.shuffle(members)
-        inside = ",".join(space() + json_text(draw, name) + space() + ":" + json_text(draw, part) for name, part in members)
+        inside = ",".join(
+            space() + json_text(draw, name) + space() + ":" + json_text(draw, part) for name, part in members
+        )
         return space() + "{" + inside + space() + "}" + space()
     if isinstance(value, list):
         return space() + "[" + ",".join(json_text(draw, part) for part in value) + "]" + space()
@@ -105,7 +111,9 @@ class Lines:
         yield from (dict(text, dimensions=dict(dims, concept=name)) for name in ("zz:Name", "Name", ":Name", "ex:", ""))
         yield from (dict(text, dimensions=bad) for bad in [dict(dims, unit="iso4217:EUR"), *self.bad_dims(dims)])
         yield from (dict(text, value=value) for value in (Number("7"), [], True))
-        yield from ({name: part for name, part in text.items() if name != missing} for missing in ("value", "dimensions"))
+        yield from (
+            {name: part for name, part in text.items() if name != missing} for missing in ("value", "dimensions")
+        )
         yield from (dict(text, links=links) for links in (None, [], "l", Number("0")))
         yield from (dict(text, links={"l": links}) for links in (Number("1.5"), [{"g": Number("1e40")}]))
         yield dict(text, value="Acme", decimals=Number("0"))

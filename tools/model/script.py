@@ -1,5 +1,5 @@
 """Scripts with their replies, and the reports and facts that they have."""
-from repository import DOCUMENT_TYPE, FEATURE, MOST_PLACES, Number, Repository, compact, reply_text
+from model.repository import DOCUMENT_TYPE, FEATURE, MOST_PLACES, Number, Repository, compact, reply_text
 
 NUMERIC = {("http://e.org/t", "Assets")}
 SCRIPT_NUMERIC = NUMERIC | {("http://example.com/taxonomy", "Assets"), ("http://example.com/taxonomy", "Margin")}

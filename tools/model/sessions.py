@@ -1,14 +1,15 @@
 """Drawn scripts of several sessions at once."""
 import random
 
-from repository import WORDS, Number, Refused, compact, fit, least_disallowed, read_fact
-from script import INFO, SCRIPT_NUMERIC, Script, load
+from model.repository import WORDS, Number, Refused, compact, fit, least_disallowed, read_fact
+from model.script import INFO, SCRIPT_NUMERIC, Script, load
 
 CONCEPTS = ["ex:Assets", "ex:Name", "ex:Other", "ex:Wide"]
 DRAWN_VALUES = ["10", "10.0", "6", "14", "12.5", "100", "-3", "0"]
 BAD = [
     '["get","s0","r1"]', '["page","s0","r1","ex:Name",false,null,1]', "[", '["page","s0","r1","ex:Name",true,null,1001]',
-    '["declare","s0","r1","some"]', '["add","s0","r1","f1",[]]', '["open","s0","Amend"]', '["load","r1",7]', '["cell","s0","r1",{"concept":1}]',
+    '["declare","s0","r1","some"]', '["add","s0","r1","f1",[]]', '["open","s0","Amend"]', '["load","r1",7]',
+    '["cell","s0","r1",{"concept":1}]',
 ]  # fmt: skip
 REFUSED = [
     {"value": "1", "dimensions": {"concept": "zz:Name"}},

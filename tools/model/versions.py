@@ -1,8 +1,9 @@
 """Versions that are made one after another, and questions of any of them, as scripts."""
-from repository import WORDS, Number, fact_text, fit, is_sought, read_fact, read_json
-from script import INFO, SCRIPT_NUMERIC, Script, load
-from sessions import CONCEPTS
 import random
+
+from model.repository import WORDS, Number, read_json
+from model.script import Script, load
+from model.sessions import CONCEPTS
 
 
 def facts_in(file):
@@ -62,7 +63,13 @@ class Versions:
         for _ in range(1 + self.random.randrange(most)):
             report, at = self.random.choice(sorted(self.repository.reports)), self.name()
             kind = self.random.choices(["put", "remove", "declare"], [7, 4, 1])[0]
-            edits.append((kind, report, {"put": (at, self.fact()), "remove": (at,), "declare": (self.random.choice(WORDS),)}[kind]))
+            edits.append(
+                (
+                    kind,
+                    report,
+                    {"put": (at, self.fact()), "remove": (at,), "declare": (self.random.choice(WORDS),)}[kind],
+                )
+            )
         return edits
 
     def stage(self, kind, report, rest):
@@ -72,7 +79,7 @@ class Versions:
         self.script.say(["add" if kind == "put" else kind, "s", report, *rest])
 
     def change(self, edits):
-        """A session makes edits, is asked for what waits, and is committed. The report of a cell that is not allowed, if there is one."""
+        """A session makes edits, is asked for what waits, and commits. The report of a cell that is not allowed, if any."""
         self.script.say(["open", "s", "amend"])
         for edit in edits:
             self.stage(*edit)
@@ -101,7 +108,9 @@ class Versions:
         self.readers.append(name)
         report = self.report()
         kind = self.one_of("get", "get", "cell", "cell", "page", "page", "page", "declared")
-        rest = {"get": lambda: [self.name()], "cell": lambda: [self.dims()], "declared": list, "page": self.page}[kind]()
+        rest = {"get": lambda: [self.name()], "cell": lambda: [self.dims()], "declared": list, "page": self.page}[
+            kind
+        ]()
         self.script.say([kind, name, report, *rest])
 
     def page(self):
@@ -110,10 +119,16 @@ class Versions:
     def ask(self):
         if self.readers and self.random.random() < 0.4:
             return self.script.say(["commit", self.readers.pop(self.random.randrange(len(self.readers)))])
-        kind, name, report = self.one_of("get", "cell", "cell", "page", "page", "declared", "export"), self.random.choice(self.views), self.report()
+        kind, name, report = (
+            self.one_of("get", "cell", "cell", "page", "page", "declared", "export"),
+            self.random.choice(self.views),
+            self.report(),
+        )
         if kind == "export":
             return self.script.say([kind, report if self.ids < 100 else self.one_of("r2", "r3", "r4")])
-        rest = {"get": lambda: [self.name()], "cell": lambda: [self.dims()], "declared": list, "page": self.page}[kind]()
+        rest = {"get": lambda: [self.name()], "cell": lambda: [self.dims()], "declared": list, "page": self.page}[
+            kind
+        ]()
         return self.script.say([kind, name, report, *rest])
 
     def drawn(self, most, is_mended, questions):

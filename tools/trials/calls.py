@@ -1,4 +1,5 @@
-"""Cases by the calls of the system that the program makes, as `strace` notes them: kills and faults at each, and power cuts."""
+"""Cases by the calls of the system that the program makes, as `strace` notes them: kills and faults at each, and power
+cuts."""
 import os
 import random
 import re
@@ -7,9 +8,23 @@ import signal
 import subprocess
 from collections import Counter
 
-from lines import Clerk
-from starts import (
-    GATE, LINES, WRITE_FAULT, Differs, PassedOver, Run, Start, case, content, counted, expect, holds, is_due, judged, made,
+from trials.lines import Clerk
+from trials.starts import (
+    GATE,
+    LINES,
+    WRITE_FAULT,
+    Differs,
+    PassedOver,
+    Run,
+    Start,
+    case,
+    content,
+    counted,
+    expect,
+    holds,
+    is_due,
+    judged,
+    made,
     shortened,
 )
 
@@ -101,7 +116,9 @@ class Disk:
     def torn(self, data):
         kept = self.draw.randrange(len(data) + 1)
         rubbish = self.draw.choice([self.draw.randbytes(len(data)), bytes(len(data)), (LINES * len(data))[: len(data)]])
-        return self.draw.choice([data, b"", data[:kept], rubbish, rubbish[:kept] + data[kept:], data[:kept] + rubbish[kept:]])
+        return self.draw.choice(
+            [data, b"", data[:kept], rubbish, rubbish[:kept] + data[kept:], data[:kept] + rubbish[kept:]]
+        )
 
 
 def put(data, at, new):
@@ -147,9 +164,13 @@ def power_cuts(folder, number, every_reply):
             left, _ = counted(disk.after_power_cut())
             found, due = left.count(b"\n"), LINES.count(b"\n") + due_after(start, written)
             if not lines.startswith(left):
-                raise Differs(f"after {written} bytes of replies a power cut leaves {found} entries, not all of them its own")
+                raise Differs(
+                    f"after {written} bytes of replies a power cut leaves {found} entries, not all of them its own"
+                )
             if found < due:
-                raise Differs(f"after {written} bytes of replies a power cut leaves {found} entries, and {due} were told")
+                raise Differs(
+                    f"after {written} bytes of replies a power cut leaves {found} entries, and {due} were told"
+                )
             cuts += 1
     expect("the file by its calls", disk.seen, content(folder / "j"))
     expect("the replies by the calls", written, sum(len(line.told) + 1 for line in start.sent if line.told is not None))

@@ -9,11 +9,36 @@ import threading
 import time
 from collections import Counter
 
-from lines import Clerk, Line
-from starts import (
-    GATE, IN_USE, LINES, MORE, MORE_LINES, NO_MEMORY, PATIENCE, READ_FAULT, REPLIES, SCRIPT, WRITE_FAULT, Differs, Run,
-    Start, begins_anew, begun, cannot_be_written, case, content, counted, expect, goes_on, holds, judged, made,
-    on_small_disk, openings, words_of,
+from trials.lines import Clerk, Line
+from trials.starts import (
+    GATE,
+    IN_USE,
+    LINES,
+    MORE,
+    MORE_LINES,
+    NO_MEMORY,
+    PATIENCE,
+    READ_FAULT,
+    REPLIES,
+    SCRIPT,
+    WRITE_FAULT,
+    Differs,
+    Run,
+    Start,
+    begins_anew,
+    begun,
+    cannot_be_written,
+    case,
+    content,
+    counted,
+    expect,
+    goes_on,
+    holds,
+    judged,
+    made,
+    on_small_disk,
+    openings,
+    words_of,
 )
 
 
@@ -179,7 +204,9 @@ def _(folder):
             start.process.stdin.close()
         except BrokenPipeError:
             pass
-        expect("status and standard error", (start.process.wait(PATIENCE), start.process.stderr.read()), (1, WRITE_FAULT))
+        expect(
+            "status and standard error", (start.process.wait(PATIENCE), start.process.stderr.read()), (1, WRITE_FAULT)
+        )
         lines, _ = start.left(lines, content(folder / "j"))
         judged(lines, folder)
 
@@ -274,7 +301,15 @@ def _(folder):
         start.ends(-signal.SIGKILL)
         data = content(journal)
         found, kept = start.left(b"", data)
-        seen["no file" if not journal.exists() else "an empty file" if not data else "a gate" if data == GATE else "lines"] += 1
+        seen[
+            "no file"
+            if not journal.exists()
+            else "an empty file"
+            if not data
+            else "a gate"
+            if data == GATE
+            else "lines"
+        ] += 1
         after = Start(journal)
         after.ask([Line('["open","t","review"]', [openings(found) + 1, ["open", "review"]])])
         after.ends()

@@ -5,10 +5,36 @@ import stat
 import subprocess
 from pathlib import Path
 
-from starts import (
-    AS_NOBODY, FACT, GATE, IS_ROOT, LINES, MORE, MORE_LINES, PATIENCE, READ_FAULT, REPLIES, SCRIPT, TRIED, PassedOver, Run,
-    alone, at_line, begins_anew, begun, cannot_be_written, case, content, expect, goes_on, holds, judged, made,
-    on_small_disk, refused, words_of,
+from trials.starts import (
+    AS_NOBODY,
+    FACT,
+    GATE,
+    IS_ROOT,
+    LINES,
+    MORE,
+    MORE_LINES,
+    PATIENCE,
+    READ_FAULT,
+    REPLIES,
+    SCRIPT,
+    TRIED,
+    PassedOver,
+    Run,
+    alone,
+    at_line,
+    begins_anew,
+    begun,
+    cannot_be_written,
+    case,
+    content,
+    expect,
+    goes_on,
+    holds,
+    judged,
+    made,
+    on_small_disk,
+    refused,
+    words_of,
 )
 
 DATA = Path(__file__).resolve().parent.parent.parent / "crates/conformance/data"
@@ -58,7 +84,9 @@ def _(folder):
 @case("sessions that were open when it ended are abandoned, and their numbers are not used again")
 def _(folder):
     begun(folder / "j")
-    Run(folder / "j", f'["open","s","amend"]\n["add","s","r1","f2",{FACT}]\n'.encode()).ends(0, b'["opened"]\n["staged"]\n')
+    Run(folder / "j", f'["open","s","amend"]\n["add","s","r1","f2",{FACT}]\n'.encode()).ends(
+        0, b'["opened"]\n["staged"]\n'
+    )
     script = b'["commit","s"]\n["open","s","review"]\n["get","s","r1","f2"]\n'
     Run(folder / "j", script).ends(0, b'["no-session"]\n["opened"]\n["none"]\n')
     lines = f'[2,["open","amend"],["opened"]]\n[2,["add","r1","f2",{FACT}],["staged"]]\n'.encode()
@@ -135,7 +163,10 @@ for _name, _tail in TAILS.items():
         run = Run(made(folder / "j", LINES + tail))
         run.ends()
         line = LINES.count(b"\n") + 1
-        warning = b"filing: warning: journal, line %d: %d bytes that count for nothing were cut off\n" % (line, len(tail))
+        warning = b"filing: warning: journal, line %d: %d bytes that count for nothing were cut off\n" % (
+            line,
+            len(tail),
+        )
         expect("the warning", run.warned, warning if len(tail) > 1 else b"")
         holds(folder / "j", LINES + GATE)
         goes_on(made(folder / "other", LINES + tail))
@@ -164,6 +195,48 @@ def _(folder):
             judged(path.read_bytes(), folder)
 
 
+@case("the journal has the entries of all lines that are answered before a line that nests too deep")
+def _(folder):
+    links = '{"a":' * 124 + "1" + "}" * 124
+    info = '"documentType":"https://xbrl.org/2021/xbrl-json","namespaces":{"ex":"http://e.org/t"}'
+    load, deep = '["load","r1",{"documentInfo":{%s}}]\n' % info, '["load","r2",{"documentInfo":{%s,"ex:a":%s}}]\n' % (
+        info,
+        links,
+    )
+    opened = '["open","s","amend"]\n'
+    scripts = (
+        ("opened", opened, b'["opened"]\n'),
+        ("loaded", load + opened, b'["loaded",1]\n["opened"]\n'),
+        ("nothing", "", b""),
+    )
+    for name, script, replies in scripts:
+        for words in ([], ["--every-reply"]):
+            path, lines = folder / f"{name}-{len(words)}", script.count("\n")
+            told = b"filing: line %d nests too deep for the journal\n" % (lines + 1)
+            Run(path, (script + deep + opened).encode(), words).ends(1, replies, told)
+            expect("the entries and the gate", content(path).count(b"\n"), lines + 1)
+            judged(content(path), folder)
+            Run(path).ends()
+
+
+@case("in threads a script ends before a line that nests too deep for the journal, which gets all else")
+def _(folder):
+    links = '{"a":' * 125 + "1" + "}" * 125
+    info = '{"documentType":"https://xbrl.org/2021/xbrl-json","namespaces":{"ex":"http://e.org/t"}}'
+    deep = '["add","s","r1","f1",{"value":"x","dimensions":{"concept":"ex:A"},"links":%s}]' % links
+    loads = '["load","r1",{"documentInfo":%s}]' % info
+    first = made(folder / "first", f'{loads}\n\n["open","s","amend"]\n{deep}\n["commit","s"]\n'.encode())
+    second = made(folder / "second", b'["open","s","amend"]\n["close","s"]\n')
+    words = ["threads", "--numeric", TRIED.table, "--journal", str(folder / "j"), str(first), str(second)]
+    done = subprocess.run([TRIED.program, *words], capture_output=True, timeout=PATIENCE)
+    told = b"filing: in %s:\nfiling: line 4 nests too deep for the journal\n" % bytes(first)
+    replies = b'["loaded",1]\n["opened"]\n["opened"]\n["closed"]\n'
+    expect("how it ends", (done.returncode, done.stdout, done.stderr), (1, replies, told))
+    expect("the entries and the gate", content(folder / "j").count(b"\n"), 5)
+    judged(content(folder / "j"), folder)
+    Run(folder / "j").ends()
+
+
 @case("a batch that is staged and opened counts")
 def _(folder):
     made(folder / "j", LINES + MORE_LINES)
@@ -173,7 +246,9 @@ def _(folder):
 
 @case("an empty file, a file of one byte, many empty lines, lines behind an empty one: no line counts")
 def _(folder):
-    for number, data in enumerate([b"", b"\n", b"x", b"[", b"\0", GATE * 5_000, GATE + b"hello\n", GATE + LINES, b"[half", b"[" * 5_000]):
+    for number, data in enumerate(
+        [b"", b"\n", b"x", b"[", b"\0", GATE * 5_000, GATE + b"hello\n", GATE + LINES, b"[half", b"[" * 5_000]
+    ):
         begins_anew(made(folder / f"j{number}", data))
 
 
@@ -182,7 +257,9 @@ def _(folder):
 
 @case("a foreign file is refused at line 1")
 def _(folder):
-    for number, data in enumerate([b"hello\n", b"he", b"\xef\xbb\xbf" + LINES, b" " + LINES, b"\r\n", b"{}\n", b"\0\0", b"x" * 100_000]):
+    for number, data in enumerate(
+        [b"hello\n", b"he", b"\xef\xbb\xbf" + LINES, b" " + LINES, b"\r\n", b"{}\n", b"\0\0", b"x" * 100_000]
+    ):
         refused(made(folder / f"j{number}", data), 1)
 
 
@@ -232,7 +309,9 @@ def _(folder):
 def _(folder):
     decimals = LINES.replace(b'{"dimensions"', b'{"decimals":0,"dimensions"')
     made(folder / "j", decimals + GATE)
-    done = subprocess.run([TRIED.program, "run", "--journal", str(folder / "j")], input=b"", capture_output=True, timeout=PATIENCE)
+    done = subprocess.run(
+        [TRIED.program, "run", "--journal", str(folder / "j")], input=b"", capture_output=True, timeout=PATIENCE
+    )
     expect("what came", (done.returncode, done.stdout, done.stderr), (4, b"", at_line(3)))
     holds(folder / "j", decimals + GATE)
     Run(folder / "j").ends()

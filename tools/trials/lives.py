@@ -9,8 +9,8 @@ from collections import Counter
 from concurrent.futures import ThreadPoolExecutor
 from pathlib import Path
 
-from lines import Clerk
-from starts import GATE, PATIENCE, TRIED, Differs, Start, content, expect, judged, openings
+from trials.lines import Clerk
+from trials.starts import GATE, PATIENCE, TRIED, Differs, Start, content, expect, judged, openings
 
 # So many kills are of one journal, and so many journals go on at once.
 KILLS_OF_ONE = 100
@@ -119,7 +119,9 @@ class Life:
         (folder / "before").write_bytes(self.lines)
         (folder / "journal").write_bytes(content(self.journal))
         (folder / "sent").write_bytes(b"".join(line.text for line in self.start.sent))
-        (folder / "told").write_bytes(b"".join(line.told + b"\n" for line in self.start.sent if line.told) + self.start.rest)
+        (folder / "told").write_bytes(
+            b"".join(line.told + b"\n" for line in self.start.sent if line.told) + self.start.rest
+        )
         return folder
 
 
@@ -143,7 +145,11 @@ def parts_of(kills):
 
 def kill_all(kills, seed):
     """Tells each journal, and what all came to. Gives how many were otherwise."""
-    lives = [(count, every) for every, share in ((False, kills - kills // 2), (True, kills // 2)) for count in parts_of(share)]
+    lives = [
+        (count, every)
+        for every, share in ((False, kills - kills // 2), (True, kills // 2))
+        for count in parts_of(share)
+    ]
     failed, totals = 0, {False: Counter(), True: Counter()}
     with ThreadPoolExecutor(JOBS) as pool:
         came = pool.map(lambda it: lived(seed, it[0], *it[1]), enumerate(lives, 1))
@@ -157,7 +163,15 @@ def kill_all(kills, seed):
     return failed
 
 
-FIRST_COUNTS = ["kills", "kills before a reply", "replies told", "entries found", "torn batches", "without a gate", "tails spoiled"]
+FIRST_COUNTS = [
+    "kills",
+    "kills before a reply",
+    "replies told",
+    "entries found",
+    "torn batches",
+    "without a gate",
+    "tails spoiled",
+]
 
 
 def tell_counts(title, counts):

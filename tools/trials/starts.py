@@ -6,7 +6,8 @@ import subprocess
 import threading
 import time
 
-from lines import INFO
+from common import IS_ROOT, NOBODY, Differs, PassedOver, expect, shortened
+from trials.lines import INFO
 
 
 class TRIED:
@@ -17,8 +18,6 @@ class TRIED:
 
 # A run that takes longer than this, in seconds, hangs.
 PATIENCE = 120
-IS_ROOT = os.geteuid() == 0
-NOBODY = 65534
 AS_NOBODY = {"user": NOBODY, "group": NOBODY, "extra_groups": []}
 
 WRITE_FAULT = b"filing: write fault\n"
@@ -36,28 +35,12 @@ LINES = (
 ).encode()
 MORE = b'["open","s","review"]\n["get","s","r1","f1"]\n["close","s"]\n'
 MORE_REPLIES = f'["opened"]\n["fact",{FACT}]\n["closed"]\n'.encode()
-MORE_LINES = f'[2,["open","review"],["opened"]]\n[2,["get","r1","f1"],["fact",{FACT}]]\n[2,["close"],["closed"]]\n'.encode()
+MORE_LINES = (
+    f'[2,["open","review"],["opened"]]\n[2,["get","r1","f1"],["fact",{FACT}]]\n[2,["close"],["closed"]]\n'.encode()
+)
 # The same review where nothing was there before.
 NONE_REPLIES = b'["opened"]\n["no-report"]\n["closed"]\n'
 NONE_LINES = b'[1,["open","review"],["opened"]]\n[1,["get","r1","f1"],["no-report"]]\n[1,["close"],["closed"]]\n'
-
-
-class Differs(Exception):
-    """A case is not as it should be."""
-
-
-class PassedOver(Exception):
-    """A case cannot be made here."""
-
-
-def shortened(value):
-    told = repr(value)
-    return told if len(told) < 400 else told[:200] + " .. " + told[-200:]
-
-
-def expect(what, found, wanted):
-    if found != wanted:
-        raise Differs(f"{what}: {shortened(found)}, and not {shortened(wanted)}")
 
 
 def at_line(number):
@@ -83,7 +66,15 @@ def made(path, data, mode=0o644):
 
 
 def words_of(journal, every_reply=False, table=None):
-    return [TRIED.program, "run", "--numeric", str(table or TRIED.table), "--journal", str(journal), *["--every-reply"] * every_reply]
+    return [
+        TRIED.program,
+        "run",
+        "--numeric",
+        str(table or TRIED.table),
+        "--journal",
+        str(journal),
+        *["--every-reply"] * every_reply,
+    ]
 
 
 WARNING = re.compile(rb"\Afiling: warning: journal, line \d+: \d+ bytes that count for nothing were cut off\n")
@@ -199,7 +190,9 @@ class Start:
 def judged(data, folder):
     """These lines are a lawful history."""
     path = made(folder / "judged", data)
-    done = subprocess.run([TRIED.program, "check", "--numeric", TRIED.table, str(path)], capture_output=True, timeout=PATIENCE)
+    done = subprocess.run(
+        [TRIED.program, "check", "--numeric", TRIED.table, str(path)], capture_output=True, timeout=PATIENCE
+    )
     path.unlink()
     expect("the verdict", (done.returncode, done.stdout, done.stderr), (0, b'["lawful"]\n', b""))
 
