@@ -10,7 +10,7 @@ use filing_session::{Session, period_of};
 use filing_step::{PageQuery, Thing};
 use filing_version::RepoVersion;
 
-/// The number of the last commit that touched a range where it is greater than `since`, or else a number that is not greater either.
+/// The number of the last commit that touched a range if it is greater than `since`; otherwise any number up to `since`.
 fn stamp_of_range(
     version: &RepoVersion,
     report: &str,
@@ -26,7 +26,7 @@ fn stamp_of_range(
     version.stamp_range_since(report, &query.concept, period, after, upto, since)
 }
 
-/// The same of the last load or commit that touched a thing.
+/// The number of the last load or commit that touched a thing if it is greater than `since`; otherwise any number up to `since`.
 fn stamp_of(version: &RepoVersion, thing: &Thing, since: u64) -> u64
     ensures { max since result ≡ max since ((version_in version.now).stamp (thing_of thing.now)) }
 {

@@ -1,4 +1,5 @@
-//! The core of the repository: many sessions at once, each validated at its commit (serial validation: Kung and Robinson 1981), and the history of every step with its reply.
+//! The core of the repository: many sessions at once, each validated at its commit, and the history of every step with its reply.
+//! The method is serial validation (Kung and Robinson 1981).
 //!
 //! - `engine`: what takes a step and keeps none.
 //! - `engine_fault`: why an engine did not take a step.
@@ -13,7 +14,8 @@
 //! - `compared_replies`: whether two replies are the same.
 //! - `verdict`: whether entries are a lawful history.
 //!
-//! The words in which steps and replies are said are those of `filing_step`, versions and changes those of `filing_version`, and a session by itself is that of `filing_session`.
+//! Steps and replies are said in the words of `filing_step`, versions and changes in those of `filing_version`.
+//! A session by itself is that of `filing_session`.
 //!
 //! It knows nothing of JSON, of devices, of locks or of threads.
 #![tactic(auto)]

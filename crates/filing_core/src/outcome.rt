@@ -43,7 +43,7 @@ fn reply_alone(reply: Reply) -> Outcome
     Outcome { reply, next: None }
 }
 
-/// Of a load. A name that is taken comes first. A version that it makes shares the report's facts.
+/// The outcome of a load. A name that is taken comes first. A version that it makes shares the report's facts.
 pub(crate) fn load_outcome(
     alloc: Global,
     current: &RepoVersion,
@@ -71,7 +71,7 @@ pub(crate) fn load_outcome(
     }
 }
 
-/// Of a change that no conflict refuses.
+/// The outcome of a change that no conflict refuses.
 fn change_outcome(
     alloc: Global,
     current: &RepoVersion,
@@ -98,7 +98,8 @@ fn change_outcome(
     }
 }
 
-/// Of a session's commit: a review is closed; an amendment gets its first conflict as the reply, or what its change makes disallowed, or passes.
+/// The outcome of a session's commit. A review is closed.
+/// An amendment gets its first conflict as the reply, or what its change makes disallowed, or passes.
 pub(crate) fn commit_outcome(
     alloc: Global,
     current: &RepoVersion,

@@ -30,7 +30,7 @@ unfoldable pub fed_value : Option Text → HashWrites
 fed_value (Some text) = fed_text text
 fed_value None = replicate 8 254 ∷ []
 
--- names with their values, one behind the other
+-- names with their values, one after the other
 unfoldable pub fed_dims : Dims → HashWrites
 fed_dims dims = flat_map (λ d. fed_text d.0 ++ fed_value d.1) dims
 

@@ -13,7 +13,7 @@ use std::marker::Model;
 use std::sync::Arc;
 use text_map::PagedValue;
 
-/// A shared fact, beside what it is compared by, so that most comparisons do not follow it. Contracts see the fact.
+/// A shared fact, with what it is compared by next to the pointer, so that most comparisons do not follow it. Contracts see the fact.
 #[derive(Drop)]
 pub struct IndexedFact {
     fact: Arc<Fact>,
@@ -109,7 +109,7 @@ impl IndexedFact {
         self.keys.of_concept()
     }
 
-    /// Its concept and its period, by another fact's where that has the same.
+    /// Its concept and its period, shared with another fact where that has the same.
     #[tactic(auto, using(crate::proofs::KeptTexts::same_keys))]
     fn keys_beside(&self, other: &IndexedFact) -> Result<Arc<ConceptPeriod>, AllocError>
         ensures { IfOk result (λ keys. IsConceptPeriodOf self.now.dims (arc_value keys)) }
@@ -121,7 +121,7 @@ impl IndexedFact {
         Arc::try_clone(&self.keys)
     }
 
-    /// The same fact for one more map. It shares its concept and its period with another fact where that has the same.
+    /// Another owner of the fact, for one more map. It shares its concept and its period with another fact where that has the same.
     pub fn share_beside(&self, other: &IndexedFact) -> Result<IndexedFact, AllocError>
         ensures { IfOk result (λ h. h ≡ self.now) }
     {
@@ -134,7 +134,7 @@ impl IndexedFact {
         })
     }
 
-    /// The same fact for one more map.
+    /// Another owner of the fact, for one more map.
     pub fn share(&self) -> Result<IndexedFact, AllocError>
         ensures { IfOk result (λ h. h ≡ self.now) }
     {

@@ -1,6 +1,6 @@
 //! The facts of a report as maps and indexes hold them, and the hashes by which look-ups find them.
 //!
-//! - `indexed_fact`: a fact that several maps hold, beside what it is compared by.
+//! - `indexed_fact`: a fact that several maps hold, with what it is compared by.
 //! - `concept_period`: a concept with a period, which many facts share.
 //! - `hashes`: the hashes by which look-ups find facts.
 //! - `fact_change`: a fact before a change and after it.

@@ -12,7 +12,7 @@ use Rattle.filing_index.specs.Index.{IndexEntry}
 
 -- ---- the facts that may not be alone in their cell
 
--- whether an entry, where there is one, has the hash of another
+-- whether an entry, if any, has the hash of another
 abbrev pub shares_hash : Option IndexEntry → IndexEntry → Bool
 shares_hash None e = false
 shares_hash (Some other) e = other.0.0 == e.0.0
@@ -26,14 +26,14 @@ abbrev pub crowded : List IndexEntry → List (Text × Fact)
 crowded [] = []
 crowded (e ∷ es) = cond (shares_hash (first_of es) e) ((e.0.1, e.1) ∷ crowded es) (crowded es)
 
--- the same of an entry, where there is one, and those ahead of it
+-- those facts among an entry, if any, and the entries ahead of it
 abbrev pub crowded_from : Option IndexEntry → List IndexEntry → List (Text × Fact)
 crowded_from None ahead = []
 crowded_from (Some e) ahead = crowded (e ∷ ahead)
 
 -- ---- the least cell
 
--- whether these are the dimensions, where there are any
+-- whether other dimensions, if any, are these
 abbrev pub are_these : Option Dims → Dims → Bool
 are_these None dims = false
 are_these (Some others) dims = dims_eq others dims

@@ -20,7 +20,7 @@ AreFactChanges facts fact_changes = (changes : TextMap (Option Fact))
 
 -- ---- in the order of identifiers
 
--- the new fact is put, in place of the old one where there is one; where there is none, the old one goes
+-- the new fact is put, in place of the old one, if any; where there is no new one, the old one goes
 abbrev pub id_change : Text → Option Fact → Option Fact → List (Edit (Text × Fact))
 id_change id old (Some new) = Put (id, new) ∷ []
 id_change id (Some old) None = Remove (id, old) ∷ []

@@ -67,7 +67,7 @@ fn kept_tally(alloc: Global, tally: FactTally) -> KeptSum
 }
 
 impl CellSum {
-    /// With one more fact at the end.
+    /// The sum with one more fact at the end.
     pub(crate) fn with(self, fact: &Arc<Fact>) -> CellSum
         ensures { (facts : List PlainFact) → Tells self facts → Tells result (facts ++ arc_value fact.now ∷ []) }
     {
@@ -78,7 +78,7 @@ impl CellSum {
         }
     }
 
-    /// With the facts of a page at the end.
+    /// The sum with the facts of a page at the end.
     pub(crate) fn with_kept(self, kept: &KeptSum) -> CellSum
         ensures { (facts more : List PlainFact) → Tells self facts → Keeps kept.now more
             → Tells result (facts ++ more) }
@@ -89,7 +89,7 @@ impl CellSum {
         }
     }
 
-    /// With the facts of a tally at the end.
+    /// The sum with the facts of a tally at the end.
     fn with_tally(self, more: &FactTally) -> CellSum
         ensures { (facts others : List PlainFact) → Tells self facts → IsTallyOf more.now others
             → Tells result (facts ++ others) }
@@ -101,7 +101,7 @@ impl CellSum {
         }
     }
 
-    /// What a page keeps of it. It is nothing where memory is refused.
+    /// What a page keeps of the sum. It is nothing where memory is refused.
     pub(crate) fn kept(self, alloc: Global) -> KeptSum
         ensures { (facts : List PlainFact) → Tells self facts → Keeps result facts }
     {

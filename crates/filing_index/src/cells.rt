@@ -37,7 +37,7 @@ pub(crate) fn class_in(index: &Paged<IndexEntry>, hash: u64, dims: &DimSet) -> C
     class_over(cell.map(|held| held.value().fact()))
 }
 
-/// Whether an entry, where there is one, has the hash of another.
+/// Whether an entry, if any, has the hash of another.
 fn shares_hash(other: Option<&IndexEntry>, entry: &IndexEntry) -> bool
     ensures { result ≡ shares_hash (option_map (λ e. e.now) other.entry) entry.now }
 {
@@ -49,7 +49,8 @@ fn shares_hash(other: Option<&IndexEntry>, entry: &IndexEntry) -> bool
 
 /// A walk over an index that stops at each fact right before another one of its hash.
 ///
-/// A fact that is alone under its hash is alone in its cell, and costs no look-up. Of each cell of two facts or more it meets all but the last. Contracts see the list of the facts still to come.
+/// A fact that is alone under its hash is alone in its cell, and costs no look-up. Of each cell of two facts or more it meets all but the last.
+/// Contracts see the list of the facts still to come.
 #[derive(Drop)]
 struct Crowded<'a> {
     here: Option<&'a IndexEntry>,
@@ -97,7 +98,7 @@ impl<'a> Iterator for Crowded<'a> {
     }
 }
 
-/// Whether these are the dimensions, where there are any.
+/// Whether other dimensions, if any, are these.
 pub(crate) fn are_these(others: Option<&DimSet>, dims: &DimSet) -> bool
     ensures { result ≡ are_these (option_map (λ d. d.now) others.entry) dims.now }
 {

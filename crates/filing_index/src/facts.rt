@@ -46,7 +46,7 @@ impl Model for Facts {
     ghost invariant = { λ f. AreIndexes f.by_id f.by_cell f.by_period f.by_concept };
 }
 
-/// The same fact once more, which shares what another one has the same, where there is another one.
+/// Another owner of a fact, which shares its concept and its period with another fact, if any, that has the same.
 fn shared_beside(held: &IndexedFact, other: Option<&IndexedFact>) -> Result<IndexedFact, AllocError>
     ensures { IfOk result (λ h. h ≡ held.now) }
 {
@@ -57,18 +57,6 @@ fn shared_beside(held: &IndexedFact, other: Option<&IndexedFact>) -> Result<Inde
 }
 
 impl Facts {
-    /// No facts. It takes no memory.
-    pub fn new(alloc: Global) -> Facts
-        ensures { result ≡ empty }
-    {
-        Facts {
-            by_id: TextPages::new(alloc),
-            by_cell: Paged::new(alloc),
-            by_period: Paged::new(alloc),
-            by_concept: Paged::new(alloc),
-        }
-    }
-
     /// Facts whose identifiers rise. It takes time n log n in the facts.
     pub fn of_sorted(
         alloc: Global,
@@ -211,7 +199,7 @@ impl Facts {
         })
     }
 
-    /// The same, in place where no others hold what changes.
+    /// The facts after these fact changes, in place where no others hold what changes.
     pub fn into_after(self, alloc: Global, fact_changes: &[FactChange]) -> Result<Facts, AllocError>
         requires { AreFactChanges self fact_changes.now }
         ensures { IfOk result (λ after. (changes : TextMap (Option PlainFact))

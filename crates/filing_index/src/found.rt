@@ -73,7 +73,7 @@ impl Span<IndexEntry> for All {
     }
 }
 
-/// Where an identifier stands beside those that are greater than one, where one is given.
+/// `Equal` where an identifier is greater than `after`, or none is given; else `Less`.
 fn side_after(after: Option<&str>, id: &str) -> Ordering
     ensures { result ≡ side_after (option_map (λ t. t.now) after.entry) id.now }
 {
@@ -129,7 +129,7 @@ fn next_wanted<'a>(
 }
 
 impl<'a> Found<'a> {
-    /// Those in the index by whose hash they are looked for, with identifiers greater than one where one is given.
+    /// The facts that are wanted, out of the index by whose hash they are looked for; only those with identifiers greater than `after`, if that is given.
     pub(crate) fn of(
         index: &'a Paged<IndexEntry>,
         wanted: Wanted<'a>,
@@ -141,7 +141,7 @@ impl<'a> Found<'a> {
         Found::under(index, wanted.hash(), wanted, after)
     }
 
-    /// The same under the hash of what is looked for, where that is known. To make it again costs a hash.
+    /// The facts that are wanted, as `of` finds them, where their hash is known: to make it again costs a hash.
     pub(crate) fn under(
         index: &'a Paged<IndexEntry>,
         hash: u64,

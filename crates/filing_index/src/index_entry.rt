@@ -11,7 +11,7 @@ use std::cmp::Ordering;
 use std::marker::Model;
 use text_map::NamedValue;
 
-/// A fact with its identifier, under its hash in some index. The hash stands beside the pointer, so that most comparisons follow none.
+/// A fact with its identifier, under its hash in some index. The hash stands next to the pointer, so that most comparisons follow none.
 ///
 /// Contracts see the hash with the identifier, and the fact.
 #[derive(Drop)]
@@ -29,7 +29,7 @@ impl Model for IndexEntry {
 }
 
 impl IndexEntry {
-    /// The same fact, which it shares, under its hash in an index of this kind.
+    /// An entry that shares this fact, under its hash in an index of this kind.
     pub fn of(order: IndexKind, held: &NamedValue<IndexedFact>) -> Result<IndexEntry, AllocError>
         ensures { IfOk result (λ c. c ≡ ((hash_in order held.now.1, held.now.0), held.now.1)) }
     {
@@ -51,7 +51,8 @@ impl IndexEntry {
     }
 }
 
-/// Pages of the index by dimensions keep what their facts are to one another, where all are of one cell. Other pages keep nothing, for the cost of two comparisons.
+/// A page of the index by dimensions keeps a tally of its facts if all are of one cell.
+/// Any other page keeps nothing, for the cost of two comparisons.
 impl Summed for IndexEntry {
     ghost use Rattle.filing_index.specs.CellSums.{Tells, Keeps, facts_in};
 
@@ -104,7 +105,8 @@ impl PageEntry for IndexEntry {
 
     ghost key_rises = { hashes_rise };
 
-    /// Fewer than of facts by identifier: a changed fact changes a page of each of three indexes, and the entries of a page that is copied are counted up where they lie.
+    /// Fewer than in a page of facts by identifier: a changed fact changes a page of each of three indexes,
+    /// and the owners of the entries of a copied page are counted up where the entries lie.
     fn most_in_page() -> usize {
         16
     }

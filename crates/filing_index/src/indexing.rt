@@ -18,7 +18,7 @@ use sorted_pages::{Edit, PageEntry, Paged};
 use std::alloc::{AllocError, Global};
 use text_map::{NamedValue, TextPages};
 
-/// What was made beside another thing. Where memory was refused, that is dropped.
+/// A thing that was made, with another. Where memory was refused for the thing, the other is dropped.
 pub(crate) fn beside<A: Drop, B: Drop>(
     made: Result<A, AllocError>,
     other: B,
@@ -59,7 +59,7 @@ pub(crate) fn index_of(
     Paged::of_sorted(alloc, entries)
 }
 
-/// A record under its hash, where there is one.
+/// A record, if any, under its hash.
 fn hashed_held(
     order: IndexKind,
     held: Option<&NamedValue<IndexedFact>>,
@@ -148,7 +148,7 @@ pub(crate) fn index_after(
     next
 }
 
-/// The same, in place where no other index holds what changes.
+/// The index of the facts after these fact changes, in place where no other index holds what changes.
 pub(crate) fn index_into_after(
     alloc: Global,
     order: IndexKind,
@@ -209,7 +209,7 @@ pub(crate) fn ids_after(
     next
 }
 
-/// The same, in place where no other map holds what changes.
+/// Facts by their identifiers after these fact changes, in place where no other map holds what changes.
 pub(crate) fn ids_into_after(
     alloc: Global,
     by_id: TextPages<IndexedFact>,

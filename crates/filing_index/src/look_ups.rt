@@ -40,8 +40,8 @@ impl Facts {
         Ids::of_query(self.index(index_kind_for(period)), concept, period, after)
     }
 
-    /// The lesser of the least so far, where there is one, and the dimensions of a fact, where their cell is not
-    /// allowed. Dimensions that were looked at right before are not looked at again.
+    /// The lesser of the least so far, if any, and the dimensions of a fact, if their cell is not allowed.
+    /// Dimensions that were looked at right before are not looked at again.
     pub fn lesser_disallowed<'a>(
         &self,
         allowed: Allowed,

@@ -13,7 +13,8 @@
 //! - `updates`: the repository is the empty one with each accepted load and each committed net change laid over it.
 //! - `reading_order`: a history may be read from its first entry on, and the entry at which it departs is determined.
 //!
-//! Each public function has no parameters and an empty body, and carries one law as its contract. The lemmas in `proofs/` are what the proofs of other crates cite.
+//! Each public function has no parameters and an empty body, and carries one law as its contract.
+//! The lemmas in `proofs/` are what the proofs of other crates cite.
 //!
 //! It knows nothing of code: nothing here is stored, shared, locked or read.
 #![tactic(auto)]

@@ -7,7 +7,7 @@ pub fn numbers_rise_by_one()
     ensures { NumbersRiseByOne }
 {}
 
-/// Each has the count of the repository that it leaves.
+/// The number of an accepted load or commit is the count of the repository that it leaves.
 pub fn each_number_is_the_count()
     ensures { EachNumberIsTheCount }
 {}
@@ -22,7 +22,8 @@ pub fn each_touch_is_the_greatest()
     ensures { EachTouchIsTheGreatest }
 {}
 
-/// A thing was touched since a session's opening exactly where its stamp is greater than the number of the repository at the opening; the stamp is then the number of its last touch.
+/// A thing was touched since a session's opening exactly where its stamp is greater than the number of the repository at the opening.
+/// The stamp is then the number of its last touch.
 pub fn stamps_tell_the_last_touch()
     ensures { StampsTellTheLastTouch }
 {}

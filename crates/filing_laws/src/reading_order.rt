@@ -14,13 +14,15 @@ pub fn lawful_in_order_is_lawful()
     ensures { LawfulInOrderIsLawful }
 {}
 
-/// It can be decided whether two replies are equal, and whether an entry may follow a lawful history: it may where it stands under the number of its step and has the one next reply.
+/// It can be decided whether two replies are equal, and whether an entry may follow a lawful history.
+/// It may where it stands under the number of its step and has the one next reply.
 pub fn each_next_entry_is_decided()
     ensures replies { EqualRepliesAreDecided }
     ensures entries { EachNextEntryIsDecided }
 {}
 
-/// A list of entries departs at the first that may not follow those before it. It departs at one place at most, and at none exactly where it is a lawful history; what the entries give decides.
+/// A list of entries departs at the first that may not follow those before it; what the entries give decides.
+/// It departs at one place at most, and at none exactly where it is a lawful history.
 pub fn each_departure_is_determined()
     ensures first { EachDepartureIsTheFirstThatDoesNotFollow }
     ensures determined { EachDepartureIsDetermined }

@@ -2,7 +2,8 @@
 
 ghost use Rattle.filing_laws.specs.Stamping.StampedVersions.{EachConflictIsStamped, EachStagedChangeMakesTheCopy, EachLoadMakesItsVersion, EachCommitMakesItsVersion, EachOtherEntryLeavesTheVersion};
 
-/// The conflict of a session is the first thing that it has read whose stamp in the version of the history is greater than the number of its base, with that stamp.
+/// The conflict of a session is the first thing that it has read whose stamp is greater than the number of its base, with that stamp.
+/// The stamps are those of the version of the history.
 #[tactic(auto, using(crate::proofs::Stamping::StampedVersions::each_conflict_is_stamped))]
 pub fn each_conflict_is_stamped()
     ensures { EachConflictIsStamped }
@@ -14,7 +15,8 @@ pub fn each_staged_change_makes_the_copy()
     ensures { EachStagedChangeMakesTheCopy }
 {}
 
-/// An accepted load turns the version of a history into that of the history with its entry. So does a commit that passes, by what its session has staged. Every other entry leaves it.
+/// An accepted load turns the version of a history into that of the history with its entry.
+/// So does a commit that passes, by what its session has staged. Every other entry leaves it.
 #[tactic(auto, using(crate::proofs::Stamping::StampedVersions::each_load_makes_its_version, crate::proofs::Stamping::StampedVersions::each_commit_makes_its_version, crate::proofs::Stamping::StampedVersions::each_other_entry_leaves_the_version))]
 pub fn each_entry_makes_its_version()
     ensures loads { EachLoadMakesItsVersion }

@@ -8,13 +8,13 @@ pub fn each_session_replies_as_at_its_opening()
     ensures { EachSessionRepliesAsAtItsOpening }
 {}
 
-/// Where nothing that it has read was touched since, they are also those of its solo run at the repository of the history.
+/// Where nothing that a session has read was touched since, its replies are also those of its solo run at the repository of the history.
 #[tactic(auto, using(crate::proofs::Histories::UntouchedIsSerial::serial))]
 pub fn each_untouched_session_replies_as_now()
     ensures { EachUntouchedSessionRepliesAsNow }
 {}
 
-/// And the things that it has read are those that it would read there.
+/// Where nothing that a session has read was touched since, it would read just those things at the repository of the history.
 #[tactic(auto, using(crate::proofs::Histories::UntouchedIsSerial::reads_as_now))]
 pub fn each_untouched_session_reads_as_now()
     ensures { EachUntouchedSessionReadsAsNow }

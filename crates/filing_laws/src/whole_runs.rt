@@ -13,7 +13,7 @@ pub fn each_lawful_history_is_serial()
     ensures { EachLawfulHistoryIsSerial }
 {}
 
-/// This holds for every order of the steps of any sessions, each answered by its one next reply.
+/// The law of whole runs holds for every order of the steps of any sessions, each answered by its one next reply.
 pub fn each_order_of_steps_is_serial()
     ensures { EachOrderOfStepsIsSerial }
 {}

@@ -30,7 +30,7 @@ pub trait PairedFact {
 enum Bond {
     Complete,
     Consistent,
-    /// The same dimensions.
+    /// Both have the same dimensions.
     Together,
 }
 
@@ -177,7 +177,7 @@ fn every_pair_is<'a, F: PairedFact>(bond: Bond, one: Option<&'a F>, facts: &'a [
     true
 }
 
-/// Whether a fact is so bound with each of the cell's facts behind it, or is not of the cell itself.
+/// Whether a fact is so bound with each later fact of the cell, or is not of the cell itself.
 fn is_bound<F: PairedFact>(bond: Bond, one: Option<&F>, fact: &F, behind: &[F]) -> bool
     ensures { result ≡ (not (is_of (option_map (λ f. F.fact f.now) one.entry) (F.fact fact.now))
         || list_all (λ g. not (is_of (option_map (λ f. F.fact f.now) one.entry) (F.fact g))

@@ -11,7 +11,11 @@
 //! - `info_laws`: laws of a report's info, and of JSON texts.
 //! - `thing_laws`: laws of things as keys, and of limits.
 //!
-//! `specs/` has the definitions on which every contract above rests. This crate's Rust is the vocabulary that definitions and code share (enums without texts, with derives alone), the slow programs, and laws of the definitions.
+//! `specs/` has the definitions on which every contract above rests. This crate's Rust has:
+//!
+//! - the vocabulary that definitions and code share: enums without texts, with derives alone;
+//! - the slow programs;
+//! - laws of the definitions.
 //!
 //! It knows nothing of how anything is stored, shared, locked or read from a device.
 #![tactic(auto)]

@@ -18,7 +18,7 @@ pub fn only_spellings_are_numbers()
     ensures { OnlySpellingsAreNumbers }
 {}
 
-/// A number has at most 20 digits before the point and 15 behind it.
+/// A number has at most 20 digits before the point and 15 after it.
 pub fn numbers_are_bounded()
     ensures { NumbersAreBounded }
 {}

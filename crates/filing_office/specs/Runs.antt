@@ -47,7 +47,7 @@ pub record IsReviewed {J : Type 0} (a : Answer J) (told : Reply) : Type 0 where
   pub session : a.session ≡ None
   pub receipt : a.receipt ≡ None
 
--- the list of versions of the receipt, where there is one
+-- the list of versions of the receipt, if any
 abbrev pub receipt_in : {J : Type 0} → Outcome J → Option (List Repository)
 receipt_in (Answered a) = a.receipt
 receipt_in _ = None
@@ -164,7 +164,7 @@ Runs s t told (x ∷ xs) (o ∷ os) =
     × Goes s mid told (string_bytes x.name) (step_of x.step) o
     × cond (is_no_memory o) ((os ≡ []) × (t ≡ mid)) (Runs mid t (told ++ o ∷ []) xs os)
 
--- so after earlier outcomes, behind which those of these steps are put
+-- so after earlier outcomes, to which those of these steps are appended
 abbrev pub RanAfter : {J : Type 0} → RunState → RunState → List (Outcome J) → List DeskStep → List (Outcome J) → Type 0
 RanAfter s t told steps all = (os : List (Outcome _)) × Runs s t told steps os × (all ≡ told ++ os)
 
@@ -190,7 +190,7 @@ IsReviewedFrom s t told (Err _) =
     (seen : List Repository) → s.state.seen ≡ Some seen
     → (now_seen : List Repository) × IsPrefix seen now_seen × (t.state ≡ record s.state { seen = Some now_seen })
 
--- the reviewer, where there is one, learns the receipts of these outcomes; where memory is wanted it may learn some
+-- the reviewer, if any, learns the receipts of these outcomes; where memory is wanted it may learn some
 abbrev pub Learns : {J A E : Type 0} → RunState → RunState → List (Outcome J) → Option (List Repository) → Result A E
     → Type 0
 Learns s t told None result = t ≡ s

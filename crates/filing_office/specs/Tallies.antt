@@ -14,7 +14,7 @@ pub record Tally : Type 0 where
 abbrev pub nothing_taken : Tally
 nothing_taken = record { steps = 0; receipts = 0 }
 
--- a receipt is there exactly where the reply tells a number, and it has that many versions beside the first
+-- a receipt is there exactly where the reply tells a number, and it has that many versions after the first
 pub record IsReceipted {J : Type 0} (a : Answer J) : Type 0 where
   pub there : is_some a.receipt ≡ counts (reply_of a.reply)
   pub number : option_map length a.receipt

@@ -78,7 +78,7 @@ fn unlock<L: Ledger + Naming, M: Ledger>(held: Option<MutexGuard<'_, Locked<L, M
 }
 
 impl<'a, L: Ledger + Naming, M: Ledger, R: Wait> LockedBatch<'a, L, M, R> {
-    /// Before the first step. The lock is not taken yet.
+    /// A batch before its first step. The lock is not taken yet.
     pub fn new(rt: &'a R, alloc: Global, office: &'a Office<L, M>) -> LockedBatch<'a, L, M, R> {
         LockedBatch {
             rt,

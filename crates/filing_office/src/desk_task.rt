@@ -130,7 +130,9 @@ fn run_task<L: Ledger + Naming, M: Ledger, T, E: DeskTask<L, M, T> + Drop, G: Ga
     (desk, reviewer, left)
 }
 
-/// Has each desk do its task in a thread of its own, and gives back what is left in their places. Where no more threads can be made, tasks are done one after the other. Where memory for a thread is refused, the desks are gone: end the office by `Office::give_up`.
+/// Has each desk do its task in a thread of its own, and gives back what is left in their places.
+/// Where no more threads can be made, tasks are done one after the other.
+/// Where memory for a thread is refused, the desks are gone: end the office by `Office::give_up`.
 pub fn run_tasks<
     L: Ledger + Naming + Send + Sync,
     M: Ledger + Send + Sync,

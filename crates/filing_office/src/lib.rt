@@ -1,7 +1,7 @@
 //! The office: desks that take steps under one lock, and reviewers that take none.
 //!
 //! - `shared`: what the lock lends to a step, the core with what publishes its versions; and `apply_in`, the step.
-//! - `locked`: that beside the books of two ledgers, so that the desks' counts add up to the history.
+//! - `locked`: that with the books of two ledgers, so that the desks' counts add up to the history.
 //! - `office`: opens and ends an office.
 //! - `blanks`: what an office is named by.
 //! - `law`: an office begins with nothing.

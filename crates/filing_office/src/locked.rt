@@ -1,4 +1,4 @@
-//! `Locked`: the value behind the lock.
+//! `Locked`: the value under the lock.
 
 ghost use Rattle.std.specs.Prelude.{◌≡◌, ◌+◌, [], cond, length, vec_len, sum, map};
 ghost use Rattle.filing_model.specs.Histories.History.{repository};
@@ -32,7 +32,8 @@ fn count<L: Ledger, M: Ledger>(
     }
 }
 
-/// The value behind the lock: what a step is taken on, beside the books of two ledgers. The one counts the entries of the history, the other the versions that they made. Each desk has a share of both.
+/// The value under the lock: what a step is taken on, with the books of two ledgers.
+/// The one counts the entries of the history, the other the versions that they made. Each desk has a share of both.
 pub(crate) struct Locked<L: Ledger + Naming, M: Ledger> {
     shared: Shared<L>,
     steps: Book<L>,

@@ -78,7 +78,7 @@ fn of_review<J: Naming>(reply: Reply) -> Outcome<J>
     })
 }
 
-/// Takes in the receipt of an outcome, where there is one.
+/// Takes in the receipt, if any, of an outcome.
 fn learn_one<J: Naming>(reviewer: &mut Reviewer<J>, outcome: &Outcome<J>) -> Result<(), AllocError>
     ensures goes_on { IsPrefix reviewer.old reviewer.new }
     ensures learnt { OnOk result (IsWithin (length reviewer.new) outcome.now) }
@@ -104,7 +104,7 @@ fn learn_all<J: Naming>(
 }
 
 impl<L: Ledger + Naming, M: Ledger> NamedDesk<L, M> {
-    /// Before the first step.
+    /// A desk under names before its first step.
     pub fn new(alloc: Global, desk: Desk<L, M>, reviewer: Option<Reviewer<L>>) -> NamedDesk<L, M>
         ensures state { result.state ≡ record { tally = desk; seen = reviewer; names = empty } }
         ensures learnt { (told : List (Told L)) → IsLearnt result told }
@@ -310,7 +310,8 @@ impl<L: Ledger + Naming, M: Ledger> NamedDesk<L, M> {
         }
     }
 
-    /// Takes a step of the session of a name. The lock is given back for what a review reads, and kept over its end, which takes less than to come by the lock again.
+    /// Takes a step of the session of a name. The lock is given back for what a review reads.
+    /// It is kept over the end of a review, which takes less than to come by the lock again.
     fn go_on<A: Access<L, M>>(
         &mut self,
         access: &mut A,

@@ -17,7 +17,8 @@ use std::alloc::{AllocError, Global};
 use std::sync::ledger::{Ledger, Share};
 use std::sync::{Mutex, Wait};
 
-/// A repository that many threads use: desks take steps under its lock, and reviewers read what is published under none. It is not `Drop`: end it by `finish` or `give_up`.
+/// A repository that many threads use: desks take steps under its lock, and reviewers read what is published under none.
+/// It is not `Drop`: end it by `finish` or `give_up`.
 pub struct Office<L: Ledger + Naming, M: Ledger> {
     pub(crate) locked: Mutex<Locked<L, M>>,
     steps: Roster<L>,
@@ -96,7 +97,7 @@ impl<L: Ledger + Naming, M: Ledger> Office<L, M> {
     }
 }
 
-/// So many desks, each with one part of both ledgers.
+/// This many desks, each with one part of both ledgers.
 fn hand_out<L: Ledger, M: Ledger>(
     alloc: Global,
     desks: usize,

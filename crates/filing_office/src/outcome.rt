@@ -20,7 +20,7 @@ pub enum Outcome<J: Naming> {
 }
 
 impl<J: Naming> Outcome<J> {
-    /// The receipt, where there is one.
+    /// The receipt, if any.
     pub(crate) fn receipt(&self) -> Option<&Receipt<J>>
         ensures { option_map (λ r. r.now) result ≡ receipt_in self.now }
     {

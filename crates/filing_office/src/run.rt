@@ -18,7 +18,7 @@ use std::sync::Wait;
 use std::sync::ledger::Ledger;
 use std::thread::Threads;
 
-/// A list of steps, with room for an outcome of each.
+/// A list of steps, with capacity for an outcome of each.
 #[derive(Drop)]
 struct StepList<L: Naming> {
     steps: Vec<DeskStep>,
@@ -91,7 +91,9 @@ fn tasks_of<L: Ledger + Naming, M: Ledger>(
     Ok(at_desks)
 }
 
-/// Has each desk take its steps in a thread of its own, and gives the works back in their places. Where no more threads can be made, desks take their steps one after the other. Where memory for a thread or for the outcomes is refused, the desks are gone: end the office by `Office::give_up`.
+/// Has each desk take its steps in a thread of its own, and gives the works back in their places.
+/// Where no more threads can be made, desks take their steps one after the other.
+/// Where memory for a thread or for the outcomes is refused, the desks are gone: end the office by `Office::give_up`.
 pub fn run_desks<
     L: Ledger + Naming + Send + Sync,
     M: Ledger + Send + Sync,

@@ -21,7 +21,8 @@ use std::alloc::{AllocError, Global};
 use std::marker::Model;
 use std::sync::Wait;
 
-/// What the lock lends to a step: the core, and what publishes its versions. The list that is published is that of the versions of the history. Contracts see the history, newest entry first. It is not `Drop`, as what publishes is not: end it by `close`.
+/// What the lock lends to a step: the core, and what publishes its versions. The list that is published is that of the versions of the history.
+/// Contracts see the history, newest entry first. It is not `Drop`, as what publishes is not: end it by `close`.
 pub struct Shared<J: Naming> {
     pub(crate) core: Core,
     pub(crate) publisher: Publisher<J>,
@@ -99,7 +100,8 @@ fn publish_and_settle<J: Naming, R: Wait>(
     })
 }
 
-/// Takes one step under the lock. A version that it makes is published before the answer. All growths are made before the first change, and publishing cannot fail.
+/// Takes one step under the lock. A version that it makes is published before the answer.
+/// All growths are made before the first change, and publishing cannot fail.
 pub fn apply_in<J: Naming, R: Wait>(
     rt: &R,
     alloc: Global,
@@ -115,7 +117,7 @@ pub fn apply_in<J: Naming, R: Wait>(
     }
 }
 
-/// The same of a step that was made ready.
+/// Takes a step that was made ready, under the lock. A version that it makes is published before the answer.
 pub(crate) fn apply_ready<J: Naming, R: Wait>(
     rt: &R,
     alloc: Global,
@@ -134,7 +136,8 @@ pub(crate) fn apply_ready<J: Naming, R: Wait>(
 impl<J: Naming> Shared<J> {
     ghost use Rattle.filing_core.specs.Prepared.{is_load_or_commit};
 
-    /// An empty history and what publishes its versions, with so many reviewers, of which each has seen the empty repository alone. An office lends one under its lock; whoever keeps one, under a lock of their own or none, takes steps on it by `apply_in`.
+    /// An empty history and what publishes its versions, with this many reviewers, of which each has seen the empty repository alone.
+    /// An office lends one under its lock; whoever keeps one, under a lock of their own or none, takes steps on it by `apply_in`.
     pub fn open<R: Wait>(
         rt: &R,
         alloc: Global,

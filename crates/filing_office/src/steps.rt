@@ -12,7 +12,7 @@ use crate::work::{DeskStep, Gate};
 use filing_publish::Naming;
 use std::sync::ledger::Ledger;
 
-/// Takes one step between the calls of the gate, and keeps its outcome. Whether the desk goes on.
+/// Takes one step between the calls of the gate, and keeps its outcome. Returns whether the desk goes on.
 fn take_one<L: Ledger + Naming, M: Ledger, A: Access<L, M>, G: Gate>(
     access: &mut A,
     gate: &G,
@@ -40,7 +40,9 @@ fn take_one<L: Ledger + Naming, M: Ledger, A: Access<L, M>, G: Gate>(
     goes_on
 }
 
-/// Takes steps of the desk at this place one after the other, up to the first that runs out of memory. The outcome of each is put behind those of earlier steps, and there is room for it; the gate is called for each with its place among these steps.
+/// Takes steps of the desk at this place one after the other, up to the first that runs out of memory.
+/// The outcome of each is appended to those of earlier steps, which have capacity for it.
+/// The gate is called for each step with its place among these steps.
 pub fn take_steps<L: Ledger + Naming, M: Ledger, A: Access<L, M>, G: Gate>(
     access: &mut A,
     gate: &G,

@@ -24,7 +24,8 @@ pub struct Work<L: Ledger + Naming, M: Ledger> {
 /// What comes back of a work: its desk and reviewer, and an outcome for each step up to the first that ran out of memory.
 pub type Ran<L, M> = (Desk<L, M>, Option<Reviewer<L>>, Vec<Outcome<L>>);
 
-/// What is called around each step of a desk, in the desk's thread: `before` and `after` it, with the desk's place among the works and the step's among its own, both from 0.
+/// What is called around each step of a desk, in the desk's thread: `before` and `after` it.
+/// Both are given the desk's place among the works and the step's among its own, each from 0.
 pub trait Gate {
     fn before(&self, desk: usize, step: usize);
 

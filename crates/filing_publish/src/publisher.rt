@@ -70,7 +70,8 @@ fn show<J: Naming, R: Wait>(
     writer
 }
 
-/// What adds versions to the list of its book, and shows each to the readers. It is not `Drop`: end it by `give_up`. Contracts see the list, whose last version is the one that is published.
+/// What adds versions to the list of its book, and shows each to the readers. It is not `Drop`: end it by `give_up`.
+/// Contracts see the list, whose last version is the one that is published.
 pub struct Publisher<J: Naming> {
     head: Word<Version, u64, Law>,
     writer: EditionWriter<J>,
@@ -94,7 +95,7 @@ impl<J: Naming> Publisher<J> {
     ghost use Rattle.filing_publish.specs.Lists.{IsEdition};
     ghost use Rattle.filing_model.specs.Histories.Versions.{IsChain};
 
-    /// Begins to publish the book of an unopened log, with places for so many reviewers, of which each has seen the empty repository alone.
+    /// Begins to publish the book of an unopened log, with places for this many reviewers, of which each has seen the empty repository alone.
     pub fn open<R: Wait>(
         rt: &R,
         alloc: Global,
@@ -121,7 +122,7 @@ impl<J: Naming> Publisher<J> {
         }
     }
 
-    /// So many reviewers that have seen this edition.
+    /// This many reviewers, each of which has seen this edition.
     fn places(
         &self,
         alloc: Global,
@@ -213,7 +214,8 @@ impl<J: Naming> Publisher<J> {
         receipt
     }
 
-    /// Takes the writer back and drops what it gives. It waits for the readers. A reviewer that opens from now on answers at the last version that it has seen or learnt.
+    /// Takes the writer back and drops what it gives. It waits for the readers.
+    /// A reviewer that opens from now on answers at the last version that it has seen or learnt.
     pub fn give_up<R: Wait>(self, rt: &R) {
         let Publisher {
             head: _head,

@@ -67,7 +67,8 @@ impl Review {
         self.call(alloc, Call::Cell(report, dims))
     }
 
-    /// The first identifiers, as many as the limit, of the facts with a concept and a period that is asked for; those that are greater than one, where one is given.
+    /// The first identifiers, as many as the limit, of the facts with a concept and a period that passes the filter.
+    /// If `after` is given, they are all greater than it.
     pub fn page(
         &self,
         alloc: Global,

@@ -55,7 +55,8 @@ impl<J: Naming> Model for Reviewer<J> {
 impl<J: Naming> Reviewer<J> {
     ghost use Rattle.filing_model.specs.Histories.Versions.{IsChain};
 
-    /// A review of the version that was published last, or of the last version seen or learnt where nothing is published any more. Where memory is refused nothing is changed.
+    /// A review of the version that was published last, or of the last version seen or learnt where nothing is published any more.
+    /// Where memory is refused nothing is changed.
     pub fn open(&mut self) -> Result<Review, AllocError>
         ensures newest { IfOk result (λ r. EndsWith self.new r) }
         ensures chain { OnOk result (IsChain self.new) }
@@ -83,7 +84,8 @@ impl<J: Naming> Reviewer<J> {
         Ok(())
     }
 
-    /// The number of the last version seen or learnt: the count of the last of the list, which is a chain. It is one less than how many versions the list has. It takes no memory.
+    /// The number of the last version seen or learnt: the count of the last of the list, which is a chain.
+    /// It is one less than how many versions the list has. It takes no memory.
     pub fn seen(&self) -> u64
         ensures count { IsLastCount self.now result }
         ensures chain { IsChain self.now }

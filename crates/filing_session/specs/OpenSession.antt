@@ -7,7 +7,7 @@ use Rattle.filing_step.specs.declared.reply.Reply.{Reply}
 use Rattle.filing_step.specs.Steps.{reply_of}
 use Rattle.filing_session.specs.States.{SessionState, called}
 
--- its state, and whether there is room for one more thing read
+-- its state, and whether it has capacity for one more thing read
 pub record OpenSession : Type 0 where
   pub state : SessionState
   pub has_room : Bool

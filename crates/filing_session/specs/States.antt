@@ -23,7 +23,7 @@ pub record SessionState : Type 0 where
 abbrev pub opened : Kind → Repository → SessionState
 opened kind base = record { kind = kind; base = base; copy = base; change = empty; reads = [] }
 
--- the things with one more behind them, unless it is among them
+-- the things with one more after them, unless it is among them
 abbrev pub with_thing : List Thing → Option Thing → List Thing
 with_thing things None = things
 with_thing things (Some t) = cond (has_thing things t) things (things ++ t ∷ [])

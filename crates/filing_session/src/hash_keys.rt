@@ -7,7 +7,8 @@ use std::hash::{BuildHasher, DefaultHasher, RandomState};
 use std::io;
 use std::random::RandomSource;
 
-/// The keys of the hashes by which a session finds what it has read. Whoever knows them can name many things of one hash, and each is then compared with all before it.
+/// The keys of the hashes by which a session finds what it has read.
+/// Whoever knows them can name many things of one hash, and each is then compared with all before it.
 #[derive(Clone, Copy)]
 pub enum HashKeys {
     /// Both keys are 0, as everybody knows.

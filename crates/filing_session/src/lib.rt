@@ -10,7 +10,8 @@
 //! - `reviewed`: the reply to a review for which no session is kept.
 //! - `runs`: the laws of what a session is after any calls.
 //!
-//! A session has a copy of its version of its own, which shares with the version all that is not staged. What is staged is applied to it when a cell or a page is read; what stands at an identifier is read from both.
+//! A session has a copy of its version of its own, which shares with the version all that is not staged.
+//! What is staged is applied to it when a cell or a page is read; what stands at an identifier is read from both.
 //!
 //! It knows nothing of histories, of other sessions, or of how a commit is decided.
 #![tactic(auto)]

@@ -38,7 +38,7 @@ struct Work {
     reads: IndexSet<Thing, HashKeys>,
 }
 
-/// An open session. Contracts see its state as its calls leave it, and whether there is room for one more thing read.
+/// An open session. Contracts see its state as its calls leave it, and whether it has capacity for one more thing read.
 #[derive(Drop)]
 pub struct Session {
     alloc: Global,
@@ -133,7 +133,7 @@ pub(crate) fn effect(
     }
 }
 
-/// Enters a thing that was read behind the others, unless it is among them. There is room for it.
+/// Enters a thing that was read after the others, unless it is among them. They have capacity for it.
 fn enter(reads: &mut IndexSet<Thing, HashKeys>, thing: Option<Thing>)
     requires { 0 < spare reads.old }
     ensures { map thing_of reads.new.keys ≡ with_thing (map thing_of reads.old.keys) (option_map thing_of thing) }
@@ -271,7 +271,8 @@ impl Session {
         self.call(Call::Cell(report, dims))
     }
 
-    /// The first identifiers, as many as the limit, of the facts with a concept and a period that passes the filter; only those greater than `after`, where it is given.
+    /// The first identifiers, as many as the limit, of the facts with a concept and a period that passes the filter.
+    /// If `after` is given, they are all greater than it.
     pub fn page(
         &mut self,
         report: String,

@@ -15,7 +15,7 @@ use std::marker::Model;
 use std::mem;
 use std::sync::Arc;
 
-/// What is pending, behind a pointer, since few sessions have it and all have room for it. Contracts see the plain change.
+/// What is pending, in a box: few sessions have it, and all would pay for its size. Contracts see the plain change.
 #[derive(Drop)]
 struct Pending {
     alloc: Global,
@@ -59,7 +59,8 @@ impl Pending {
     }
 }
 
-/// What is staged, and a version that has some of it. What it does not have yet is applied to it all at once, when a cell or a page is read; what stands at an identifier is read from both. Contracts see the copy with all that is staged, and the change.
+/// What is staged, and a version that has some of it. Contracts see the copy with all that is staged, and the change.
+/// What the version does not have yet is applied to it all at once, when a cell or a page is read; what stands at an identifier is read from both.
 #[derive(Drop)]
 pub(crate) struct Staging {
     /// The version of the opening, where the other one has some of what is staged.
@@ -148,7 +149,7 @@ fn laid(
     Ok(Arc::new(alloc, changed)?)
 }
 
-/// The same of a version that is given up for it, in place where nobody else holds what changes.
+/// A version with a change laid over it, in place where nobody else holds what changes. The version is given up for it.
 fn laid_in(
     alloc: Global,
     version: Arc<RepoVersion>,
@@ -164,7 +165,7 @@ fn laid_in(
     Ok(Arc::new(alloc, changed)?)
 }
 
-/// Another owner of a version, where there is one.
+/// Another owner of a version, if any.
 fn shared(version: &Option<Arc<RepoVersion>>) -> Result<Option<Arc<RepoVersion>>, AllocError>
     ensures { IfOk result (λ o. option_map arc_value o ≡ option_map arc_value version.now) }
 {
@@ -249,7 +250,7 @@ impl Staging {
         Ok(())
     }
 
-    /// The same with a fact put, or removed, at an identifier.
+    /// What is staged with a fact put, or removed, at an identifier.
     pub(crate) fn with_fact(&self, report: &str, put: PutRecord) -> Result<Staging, AllocError>
         ensures { IfOk result (λ s. s ≡ (
           with_fact_at self.now.0 report.now put.0 put.1,
@@ -271,7 +272,7 @@ impl Staging {
         })
     }
 
-    /// The same with a value declared.
+    /// What is staged with a value declared.
     pub(crate) fn declaring(&self, report: &str, allowed: Allowed) -> Result<Staging, AllocError>
         ensures { IfOk result (λ s. s
             ≡ (declaring_at self.now.0 report.now allowed, with_declared self.now.1 report.now allowed)) }

@@ -13,7 +13,7 @@ use std::alloc::{AllocError, Global};
 pub(crate) trait KeptStamps: Drop {
     ghost stamps: { Self → List PlainStamp };
 
-    /// The greatest number in a range where it is greater than `since`, or else a number that is not greater either.
+    /// The greatest number in a range if it is greater than `since`; otherwise any number up to `since`.
     fn greatest_since(&self, among: &Among<'_>, since: u64) -> u64
         ensures { max since result
             ≡ max since (greatest (λ s. s.number) (within (among_side among.now) (stamps self.now))) };
@@ -26,7 +26,7 @@ pub(crate) trait KeptStamps: Drop {
         ensures { IfOk result (λ same. same ≡ self.now) };
 }
 
-/// The greatest number in a range of all parts where it is greater than `since`, or else a number that is not greater either.
+/// The greatest number in a range of all parts if it is greater than `since`; otherwise any number up to `since`.
 pub(crate) fn greatest_since<T: KeptStamps>(parts: &[T], among: &Among<'_>, since: u64) -> u64
     ensures { max since result ≡ max since (greatest (λ s. s.number)
         (within (among_side among.now) (flat_map T.stamps parts.now))) }
@@ -48,7 +48,7 @@ pub(crate) fn append_all<T: KeptStamps>(parts: &[T], all: &mut Vec<Stamp>) -> Re
     Ok(())
 }
 
-/// The same parts, shared, with room for one more.
+/// A list of these parts, which are shared, with capacity for one more.
 pub(crate) fn shared<T: KeptStamps>(alloc: Global, parts: &[T]) -> Result<Vec<T>, AllocError>
     ensures { IfOk result (λ same. same.items ≡ parts.now) }
 {

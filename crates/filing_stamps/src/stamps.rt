@@ -31,11 +31,11 @@ use text_map::SoughtName;
 /// Contracts see the stamps that touched facts left, and `stamp_in` says which number a part has by them.
 #[derive(Drop)]
 pub struct Stamps {
-    /// Of the last commits, oldest first.
+    /// What the last commits left, oldest first.
     recent: Vec<Left>,
-    /// How many those are. That decides cost alone.
+    /// How many stamps the last commits left. That decides cost alone.
     recent_count: usize,
-    /// Of those before, oldest first.
+    /// What the commits before those left, oldest first.
     layers: Vec<Layer>,
 }
 
@@ -49,7 +49,8 @@ impl Model for Stamps {
     ghost view = { λ s. all_stamps s.recent.items ++ all_stamps s.layers.items };
 }
 
-/// The layers that stay where so many stamps are gathered, and those that are gathered with them. A layer stays that is more than one and a half times as long as all gathered so far.
+/// The layers that stay where this many stamps are gathered, and those that are merged with them.
+/// A layer stays that is more than one and a half times as long as all gathered so far.
 fn split_longer(layers: &[Layer], gathered: usize) -> (&[Layer], &[Layer])
     ensures { layers.now ≡ result.0.now ++ result.1.now }
 {
@@ -86,7 +87,7 @@ impl Stamps {
         }
     }
 
-    /// The greatest number of some stamps where it is greater than `since`, or else a number that is not greater either.
+    /// The greatest number of some stamps if it is greater than `since`; otherwise any number up to `since`.
     fn greatest_since(&self, among: &Among<'_>, since: u64) -> u64
         ensures { max since result ≡ max since (greatest (λ s. s.number) (within (among_side among.now) self.now)) }
     {
@@ -94,28 +95,14 @@ impl Stamps {
         number.max(greatest_since(&self.layers, among, since))
     }
 
-    /// The number of the last touch of an identifier, or 0.
-    pub fn of_id(&self, id: &str) -> u64
-        ensures { result ≡ stamp_in self.now (Id id.now) }
-    {
-        self.of_id_since(id, 0)
-    }
-
-    /// The same where it is greater than `since`, or else a number that is not greater either.
+    /// The number of an identifier's last touch if it is greater than `since`; otherwise any number up to `since`.
     pub fn of_id_since(&self, id: &str, since: u64) -> u64
         ensures { max since result ≡ max since (stamp_in self.now (Id id.now)) }
     {
         self.greatest_since(&Among::of_id(SoughtName::of(id)), since)
     }
 
-    /// The number of the last touch of a cell, or 0.
-    pub fn of_cell(&self, dims: &DimSet) -> u64
-        ensures { result ≡ stamp_in self.now (Cell dims.now) }
-    {
-        self.of_cell_since(dims, 0)
-    }
-
-    /// The same where it is greater than `since`, or else a number that is not greater either.
+    /// The number of a cell's last touch if it is greater than `since`; otherwise any number up to `since`.
     pub fn of_cell_since(&self, dims: &DimSet, since: u64) -> u64
         ensures { max since result ≡ max since (stamp_in self.now (Cell dims.now)) }
     {
@@ -125,26 +112,8 @@ impl Stamps {
     }
 
     /// The number of the last touch among the facts of a concept and a period, of identifiers greater than `after`,
-    /// where it is given, and not greater than `upto`, where that is given; or 0.
-    pub fn of_range(
-        &self,
-        concept: &str,
-        period: PeriodFilterRef<'_>,
-        after: Option<&str>,
-        upto: Option<&str>,
-    ) -> u64
-        ensures { result ≡ stamp_in self.now (Range
-            (record {
-              concept = concept.now;
-              period = period_filter_of period.entry;
-              after = option_map (λ t. t.now) after.entry;
-            })
-            (option_map (λ t. t.now) upto.entry)) }
-    {
-        self.of_range_since(concept, period, after, upto, 0)
-    }
-
-    /// The same where it is greater than `since`, or else a number that is not greater either.
+    /// where it is given, and not greater than `upto`, where that is given, if it is greater than `since`;
+    /// otherwise any number up to `since`.
     pub fn of_range_since(
         &self,
         concept: &str,
@@ -178,7 +147,7 @@ impl Stamps {
         self.recent.len() < 64 && self.recent_count.saturating_add(left.len()) <= 1024
     }
 
-    /// With what one commit more left.
+    /// The stamps with what one commit more left, which stands as the commit left it.
     fn with_left(&self, alloc: Global, left: Vec<Stamp>, number: u64) -> Result<Stamps, AllocError>
         requires { AllByRecursion (λ s. s.number ≡ number) left.items }
         ensures { IfOk result (λ s. AreWith left.items self.now s) }
@@ -194,7 +163,7 @@ impl Stamps {
         })
     }
 
-    /// The same, where no commit stands by itself.
+    /// The stamps with what one commit more left, all in layers.
     fn with_layer(&self, alloc: Global, left: Vec<Stamp>) -> Result<Stamps, AllocError>
         ensures { IfOk result (λ s. AreWith left.items self.now s) }
     {

@@ -23,7 +23,7 @@ fn order_names(name: &str, key: u64, other: &str, other_key: u64) -> Ordering
     }
 }
 
-/// A name, beside the number of its first 8 bytes, so that most comparisons follow no pointer. Contracts see the text.
+/// A name, with the number of its first 8 bytes next to the pointer, so that most comparisons do not follow it. Contracts see the text.
 #[derive(Drop)]
 pub(crate) struct KeyedName {
     key: u64,

@@ -13,7 +13,7 @@ pub enum Thing {
     Id(String, String),
     /// A cell.
     Cell(String, DimSet),
-    /// A page query, up to an identifier where one is given. The query is boxed, so that other things and replies take half as much room.
+    /// A page query, up to an identifier where one is given. The query is boxed, so that other things and replies have half as many bytes.
     Range(String, Box<PageQuery>, Option<String>),
     /// The allowed duplicates that the report declares.
     Policy(String),

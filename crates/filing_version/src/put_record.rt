@@ -49,7 +49,7 @@ impl PutRecord {
         Ok(PutRecord { entry })
     }
 
-    /// The same put for one more change.
+    /// Another owner of the put, for one more change.
     pub fn share(&self) -> Result<PutRecord, AllocError>
         ensures { IfOk result (λ p. p ≡ self.now) }
     {

@@ -22,7 +22,8 @@ use std::marker::Model;
 use std::sync::Arc;
 use text_map::{PagedValue, TextPages};
 
-/// A report whose facts stand in indexes, with the number of its load, that of the last commit that declared its value, and those of its parts. Contracts see these.
+/// A report whose facts stand in indexes, with its stamps: the number of its load, that of the last commit that declared its value,
+/// and those of its parts. Contracts see these.
 #[derive(Drop)]
 pub(crate) struct StampedReport {
     /// A copy of the report without its facts, which are those of the indexes: a fact that no version has any more is freed.
@@ -162,7 +163,7 @@ impl StampedReport {
         self.facts.after(alloc, &fact_changes)
     }
 
-    /// The same stamps once more, which share all that they hold.
+    /// A copy of the stamps, which shares all that they hold.
     fn stamps_again(&self, alloc: Global, number: u64) -> Result<Stamps, AllocError>
         requires { (part : Part) → stamp_in self.now.stamps part ≤ number }
         ensures { IfOk result (λ stamps. stamp_in stamps ≡ stamp_in self.now.stamps) }
@@ -193,7 +194,7 @@ impl StampedReport {
         })
     }
 
-    /// The same, in place where no other version holds what changes.
+    /// The report with a change laid over it, in place where no other version holds what changes. All stamps stay.
     pub(crate) fn into_with_change(
         self,
         alloc: Global,
@@ -278,7 +279,8 @@ impl StampedReport {
         self.header.allowed()
     }
 
-    /// The least dimensions whose cell a changed report does not allow: of all its cells where the change declares a value, else of those of the facts that it puts.
+    /// The least dimensions whose cell a changed report does not allow.
+    /// All its cells are looked at where the change declares a value, else those of the facts that it puts.
     pub(crate) fn least_changed<'a>(&'a self, change: &'a ChangedReport) -> Option<&'a DimSet>
         ensures { option_map (λ d. d.now) result ≡ least_changed change.now self.now.report }
     {
@@ -288,7 +290,8 @@ impl StampedReport {
         }
     }
 
-    /// The least dimensions of facts that are put whose cell is not allowed. A fact that is put stands in the report. A cell is looked at once for all facts of it that are put one after another.
+    /// The least dimensions of facts that are put whose cell is not allowed. A fact that is put stands in the report.
+    /// A cell is looked at once for all facts of it that are put one after another.
     fn least_among<'a>(&self, puts: &'a TextPages<Option<IndexedFact>>) -> Option<&'a DimSet>
         ensures { option_map (λ d. d.now) result
             ≡ least_among (filter_map (λ e. e.1) puts.now.entries) self.now.report }

@@ -33,7 +33,8 @@ use std::marker::Model;
 use std::sync::Arc;
 use text_map::{NamedValue, TextPages};
 
-/// One state of the repository, which never changes: its reports, and the stamp of each thing, the number of the last load or commit that touched it. Reports and facts are shared with other versions. Contracts see the plain repository with its stamps, by `version_in`.
+/// One state of the repository, which never changes: its reports, and the stamp of each thing, the number of the last load or commit that touched it.
+/// Reports and facts are shared with other versions. Contracts see the plain repository with its stamps, by `version_in`.
 #[derive(Drop)]
 pub struct RepoVersion {
     number: u64,
@@ -126,7 +127,7 @@ fn with_stamped_part(
     Ok(Some(reports))
 }
 
-/// The same in the place of these reports, which stay where it is not there.
+/// The reports with the change of one of them laid over it, stamped with this number; as they are where it is not there.
 fn into_stamped_part(
     alloc: Global,
     reports: TextPages<StampedReport>,
@@ -199,7 +200,8 @@ impl RepoVersion {
         Some(facts.cell(dims))
     }
 
-    /// The identifiers, in byte order, of the facts with a concept and a period that passes the filter; only those greater than `after`, where it is given. None where the report is not there.
+    /// The identifiers, in byte order, of the facts with a concept and a period that passes the filter. None where the report is not there.
+    /// If `after` is given, they are all greater than it.
     pub fn query<'a>(
         &'a self,
         report: &str,
@@ -272,7 +274,7 @@ impl RepoVersion {
         Ok(RepoVersion { number, reports })
     }
 
-    /// The same with a report that is not indexed yet.
+    /// The version with one report more, which is not indexed yet. It counts one more and stamps the report's name.
     pub fn with_report(
         &self,
         alloc: Global,
@@ -335,7 +337,8 @@ impl RepoVersion {
         self.with_filed(alloc, name, changed)
     }
 
-    /// The version with a change laid over it, but for reports that are not there. Its number and its stamps stay: it is what a session makes of the version of its opening, and no version that was accepted.
+    /// The version with a change laid over it, but for reports that are not there. Its number and its stamps stay.
+    /// It is what a session makes of the version of its opening, and no version that was accepted.
     pub fn with_change(&self, alloc: Global, change: &Change) -> Result<RepoVersion, AllocError>
         ensures { IfOk result (λ v. version_in v
             ≡ record (version_in self.now) { repository = laid_over change.now (repository_in self.now) }) }
@@ -411,7 +414,8 @@ impl RepoVersion {
         Some(self.reports.get(report)?.allowed())
     }
 
-    /// In the version that a change made: the least report with a disallowed cell, and the least dimensions of such a cell in it. It looks at the cells of the facts that are put, and at all cells of a report for which a value is declared.
+    /// In the version that a change made: the least report with a disallowed cell, and the least dimensions of such a cell in it.
+    /// It looks at the cells of the facts that are put, and at all cells of a report for which a value is declared.
     ///
     /// Where the version before obeyed, this decides the commit: it is the least of all.
     pub fn first_disallowed<'a>(&'a self, change: &'a Change) -> Option<(&'a str, &'a DimSet)>
@@ -458,7 +462,7 @@ impl RepoVersion {
         self.stamp_id_since(report, id, 0)
     }
 
-    /// The same where it is greater than `since`, or else a number that is not greater either. Nothing is looked for where no version came since.
+    /// The identifier's stamp if it is greater than `since`; otherwise any number up to `since`. Nothing is looked for where no version came since.
     pub fn stamp_id_since(&self, report: &str, id: &str, since: u64) -> u64
         ensures { max since result ≡ max since ((version_in self.now).stamp (thing.Id report.now id.now)) }
     {
@@ -478,7 +482,7 @@ impl RepoVersion {
         self.stamp_cell_since(report, dims, 0)
     }
 
-    /// The same where it is greater than `since`, or else a number that is not greater either. Nothing is looked for where no version came since.
+    /// The cell's stamp if it is greater than `since`; otherwise any number up to `since`. Nothing is looked for where no version came since.
     pub fn stamp_cell_since(&self, report: &str, dims: &DimSet, since: u64) -> u64
         ensures { max since result ≡ max since ((version_in self.now).stamp (thing.Cell report.now dims.now)) }
     {
@@ -491,7 +495,7 @@ impl RepoVersion {
         }
     }
 
-    /// The number of the last commit that touched what a query finds, up to an identifier where one is given, or 0.
+    /// The number of the last commit that touched what a query finds, up to an identifier if one is given, or 0.
     pub fn stamp_range(
         &self,
         report: &str,
@@ -509,7 +513,8 @@ impl RepoVersion {
         self.stamp_range_since(report, concept, period, after, upto, 0)
     }
 
-    /// The same where it is greater than `since`, or else a number that is not greater either. Nothing is looked for where no version came since.
+    /// The stamp of what a query finds, up to an identifier if one is given, if it is greater than `since`; otherwise any number up to `since`.
+    /// Nothing is looked for where no version came since.
     pub fn stamp_range_since(
         &self,
         report: &str,

@@ -56,7 +56,7 @@ module _ {M : Type 0} (C : Conduct M) (machine machine' : M) (sink sink' : SinkS
   abbrev pub Untold : Type 0
   Untold = TellsPart ⊎ KeepsNot C machine machine' sink sink'
 
--- a text waits behind what waited; or both are written
+-- a text waits after what waited; or both are written
 abbrev pub HoldsOrTells : {M : Type 0} → Conduct M → M → M → SinkState → SinkState → Text → Text → Text → Type 0
 HoldsOrTells C machine machine' sink sink' waiting waiting' text =
     ((machine' ≡ machine) × ((sink' ≡ sink) × (waiting' ≡ waiting ++ text)))

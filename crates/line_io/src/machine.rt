@@ -10,7 +10,8 @@ pub trait Machine {
     /// The machine before, a line that is not blank, its reply without a line feed, and the machine after.
     ghost replies: { Self → List ℕ → List ℕ → Self → Type 0 };
 
-    /// Answers a line, which has this number among all lines of the source, from 1. Where memory is refused, nothing is said of the machine, which is asked nothing more: it may have taken a step for whose reply there is no memory.
+    /// Answers a line, which has this number among all lines of the source, from 1. Where memory is refused, the machine is asked nothing more.
+    /// Then nothing is said of it: it may have taken a step for whose reply there is no memory.
     fn answer(&mut self, alloc: Global, number: u128, line: &[u8]) -> Result<String, AllocError>
         ensures { IfOk result (λ reply. replies self.old line.now (string_bytes reply) self.new) };
 }
@@ -20,7 +21,8 @@ pub trait DurableMachine {
     /// The machine before, a line that is not blank, its reply without a line feed, and the machine after.
     ghost replies: { Self → List ℕ → List ℕ → Self → Type 0 };
 
-    /// The machine before, a line for which memory was refused, and what that may leave of the machine. It may have taken a step for whose reply there is no memory. By default nothing is said.
+    /// The machine before, a line for which memory was refused, and what that may leave of the machine.
+    /// It may have taken a step for whose reply there is no memory. By default nothing is said.
     ghost starves: { Self → List ℕ → Self → Type 0 } = { λ _ _ _. Unit {0} };
 
     /// What keeping may change of the machine, whether it succeeds or not.
@@ -32,12 +34,14 @@ pub trait DurableMachine {
     /// Keeping has failed.
     ghost has_failed: { Self → Type 0 };
 
-    /// Answers a line, which has this number among all lines of the source, from 1. Where memory is refused, the machine is asked nothing more, but to keep what it did.
+    /// Answers a line, which has this number among all lines of the source, from 1.
+    /// Where memory is refused, the machine is asked nothing more, but to keep what it did.
     fn answer(&mut self, alloc: Global, number: u128, line: &[u8]) -> Result<String, AllocError>
         ensures replies { IfOk result (λ reply. replies self.old line.now (string_bytes reply) self.new) }
         ensures starves { OnErr result (starves self.old line.now self.new) };
 
-    /// Makes durable what the machine did. It is called right before replies are written, and at the end of a run in any case, also where there is nothing new. It takes no memory. After a failure the machine is asked nothing more.
+    /// Makes durable what the machine did. It takes no memory. After a failure the machine is asked nothing more.
+    /// It is called right before replies are written, and at the end of a run in any case, also where there is nothing new.
     fn keep(&mut self) -> Result<(), Failed>
         ensures keeps { keeps self.old self.new }
         ensures tells { OnOk result (may_tell self.new) }

@@ -99,7 +99,7 @@ pub struct MemoryOut<L: Ledger> {
 }
 
 impl<L: Ledger> MemoryOut<L> {
-    /// A sink with room for so many bytes, which are written without a growth. It counts its writes that failed in a new ledger.
+    /// A sink with capacity for `room` bytes, which are written without a growth. It counts its writes that failed in a new ledger.
     pub fn new(
         alloc: Global,
         room: usize,

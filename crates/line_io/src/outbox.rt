@@ -10,7 +10,7 @@ use crate::mode::Mode;
 use crate::sink::{Sink, write_all};
 use std::alloc::Global;
 
-// So many bytes of replies wait at most.
+// Bytes of replies that wait at most.
 const ROOM: usize = 32768;
 
 /// Replies that wait to be written, so that many short ones go out in one write.
@@ -46,7 +46,7 @@ impl Outbox {
         self.waiting.is_empty()
     }
 
-    // Lets a reply wait, where there are room and memory for it.
+    // Lets a reply wait, where it fits and there is memory for it.
     fn hold(&mut self, reply: &[u8]) -> bool
         ensures { MatchBool result
             (self.new.waiting.items ≡ self.old.waiting.items ++ (reply.now ++ 10 ∷ []))

@@ -14,17 +14,17 @@ use crate::sink::Sink;
 use crate::source::Source;
 use std::alloc::{AllocError, Global};
 
-// So many bytes are read at once.
+// Bytes read at once.
 const PIECE: usize = 262144;
 
-// Room for a piece.
+// A buffer for a piece.
 fn new_buffer(alloc: Global) -> Result<Vec<u8>, AllocError>
     ensures { IfOk result (λ buffer. vec_len buffer ≡ PIECE) }
 {
     vec![in alloc; 0u8; PIECE]
 }
 
-// The run, with room for a piece.
+// The run, with a buffer for a piece.
 fn run_with<M, D: Mode<M>, R: Source, W: Sink>(
     alloc: Global,
     machine: &mut M,
@@ -73,7 +73,8 @@ fn run_as<M, D: Mode<M>, R: Source, W: Sink>(
     run_with::<M, D, R, W>(alloc, machine, source, sink, reads, buffer.as_mut_slice())
 }
 
-/// Reads a source to its end, has a machine answer each line that is not blank, and writes the replies, each ended by a line feed. The replies to the lines of one read are written before the next. At most `reads` reads are made.
+/// Reads a source to its end, has a machine answer each line that is not blank, and writes the replies, each ended by a line feed.
+/// The replies to the lines of one read are written before the next. At most `reads` reads are made.
 pub fn run<M: Machine, R: Source, W: Sink>(
     alloc: Global,
     machine: &mut M,
@@ -88,7 +89,8 @@ pub fn run<M: Machine, R: Source, W: Sink>(
     run_as::<M, Plain, R, W>(alloc, machine, source, sink, reads)
 }
 
-/// As `run`, of a machine that has something to keep: it keeps what it did right before replies are written, and at the end of the run in any case. Where that fails, the run ends with `Write`, and the replies that wait are dropped.
+/// Runs a machine that has something to keep over a source, as `run` runs one that has not: it keeps what it did right before replies are written,
+/// and at the end of the run in any case. Where that fails, the run ends with `Write`, and the replies that wait are dropped.
 pub fn run_kept<M: DurableMachine, R: Source, W: Sink>(
     alloc: Global,
     machine: &mut M,

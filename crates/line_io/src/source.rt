@@ -10,7 +10,8 @@ use crate::fault::Failed;
 pub trait Source {
     ghost state: { Self → SourceState };
 
-    /// Gives the first bytes of what is still to come, at most as many as the buffer holds: 0 is the end, for a buffer that is not empty. A failed read takes nothing away.
+    /// Gives the first bytes of what is still to come, at most as many as the buffer holds. A failed read takes nothing away.
+    /// It returns 0 at the end, for a buffer that is not empty.
     fn read(&mut self, buffer: &mut [u8]) -> Result<usize, Failed>
         ensures within { IfOk result (λ count. count ≤ length buffer.new) }
         ensures bytes { ReadConsumes (state self.old).rest (state self.new).rest result buffer.new }

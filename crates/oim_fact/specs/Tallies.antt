@@ -11,7 +11,7 @@ abbrev pub interval_in : FactValue → Option Interval
 interval_in (Number text n decimals) = Some (interval_of n decimals)
 interval_in value = None
 
--- a number in an interval, where there is one
+-- a number in an interval, if any
 abbrev pub IsIn : Option Interval → ℤ → Type 0
 IsIn interval x = IsSomeAnd interval (λ i. IsWithin i x)
 

@@ -11,7 +11,8 @@ use crate::tally::Tally;
 use filing_model::Class;
 use std::sync::Arc;
 
-/// The class of some facts by all pairs of them (Open Information Model 1.0, `xbrl:allowedDuplicates`); `Mixed` where some two differ in their dimensions. Takes time linear in the facts, and no memory.
+/// The class of some facts by all pairs of them (Open Information Model 1.0, `xbrl:allowedDuplicates`).
+/// `Mixed` where some two differ in their dimensions. Takes time linear in the facts, and no memory.
 pub fn class_of(facts: &[Arc<Fact>]) -> Class
     ensures { result ≡ class_of (map arc_value facts.now) }
 {

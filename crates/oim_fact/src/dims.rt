@@ -75,7 +75,7 @@ impl Pairs {
         }
     }
 
-    /// The same pairs, from now on shared.
+    /// The pairs, from now on shared.
     fn shared(self, alloc: Global) -> Result<Pairs, AllocError>
         ensures { IfOk result (λ pairs. pairs_in pairs ≡ pairs_in self) }
     {
@@ -202,7 +202,7 @@ impl DimSet {
         }
     }
 
-    /// The same set, whose clones share its texts from now on.
+    /// The set, whose clones share its texts from now on.
     pub fn shared(self, alloc: Global) -> Result<DimSet, AllocError>
         ensures { IfOk result (λ dims. dims ≡ self) }
     {

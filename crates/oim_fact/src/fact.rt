@@ -50,7 +50,7 @@ impl Clone for RawFact {
 }
 
 impl RawFact {
-    /// The same fact, whose clones share its dimensions from now on.
+    /// The fact, whose clones share its dimensions from now on.
     pub fn shared(self, alloc: Global) -> Result<RawFact, AllocError>
         ensures { IfOk result (λ raw. raw ≡ self) }
     {
@@ -68,7 +68,7 @@ impl RawFact {
         })
     }
 
-    /// Whether it has a unit, or decimals beside a value, as no text may.
+    /// Whether it has a unit, or decimals with a value, as no text may.
     pub(crate) fn is_misplaced(&self) -> bool
         ensures { result ≡ is_misplaced self.now }
     {

@@ -35,7 +35,7 @@ impl Model for FactTally {
 }
 
 impl FactTally {
-    /// Of one fact.
+    /// The tally of one fact.
     pub fn of(fact: &Arc<Fact>) -> Result<FactTally, AllocError>
         ensures { IfOk result (λ t. IsTallyOf t (arc_value fact.now ∷ [])) }
     {
@@ -44,7 +44,7 @@ impl FactTally {
         Ok(FactTally { first, tally })
     }
 
-    /// The same once more, which shares the first fact. It takes no memory.
+    /// Another tally of the facts, which shares the first fact. It takes no memory.
     pub fn share(&self) -> Result<FactTally, AllocError>
         ensures { IfOk result (λ t. t ≡ self.now) }
     {

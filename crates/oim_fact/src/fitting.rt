@@ -11,7 +11,8 @@ use crate::names::Names;
 use filing_model::FactFault;
 use oim_value::{Accuracy, Decimal, NumberFault};
 
-/// The fact that a raw fact is by the names of its report, or the first fault: a prefix that is not bound; a unit or decimals out of place; no number, one too large, or decimals out of range. It moves the texts and takes no memory.
+/// The fact that a raw fact is by the names of its report, or the first fault. It moves the texts and takes no memory.
+/// Faults are: a prefix that is not bound; a unit or decimals out of place; no number, one too large, or decimals out of range.
 pub fn fit(names: &Names, raw: RawFact) -> Result<Fact, FactFault>
     ensures { result ≡ fit_of names.now raw }
 {
@@ -51,7 +52,7 @@ fn are_bound(names: &Names, dims: &DimSet) -> bool
     true
 }
 
-/// The value of a numeric concept. Beside null, decimals are dropped and not looked at.
+/// The value of a numeric concept. Where it is null, decimals are dropped and not looked at.
 fn numeric_value(value: Option<String>, decimals: Option<i64>) -> Result<FactValue, FactFault>
     ensures { value_given result ≡ numeric_value (text_view value) decimals }
 {

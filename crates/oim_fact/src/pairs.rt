@@ -11,7 +11,8 @@ use filing_model::{Pair, PairedFact, is_same_text};
 use oim_value::{Accuracy, Decimal};
 use std::cmp::Ordering;
 
-/// How two facts stand to one another by `xbrl:allowedDuplicates` (Open Information Model 1.0): apart where their dimensions differ, else by their values. The text of a number does not count. Takes no memory.
+/// How two facts stand to one another by `xbrl:allowedDuplicates` (Open Information Model 1.0). Takes no memory.
+/// They are apart where their dimensions differ; else their values decide. The text of a number does not count.
 pub fn compare(one: &Fact, other: &Fact) -> Pair
     ensures { result ≡ pair_of one.now other.now }
 {

@@ -1,4 +1,5 @@
-//! The class of a cell in one pass: each fact is compared with the first one and narrows one interval. What some facts are is joined to what others are in the same way.
+//! The class of a cell in one pass: each fact is compared with the first one and narrows one interval.
+//! What some facts are is joined to what others are in the same way.
 
 ghost use Rattle.std.specs.Prelude.{◌≡◌, ◌&&◌, IfSome, List, [], ◌∷◌, ◌++◌};
 ghost use Rattle.filing_model.specs.Oim.Facts.{Fact as PlainFact};
@@ -25,7 +26,7 @@ pub(crate) struct Tally {
 }
 
 impl Tally {
-    /// Of one fact.
+    /// The tally of one fact.
     pub(crate) fn of(first: &Fact) -> Tally
         ensures { Describes result first.now [] }
     {
@@ -37,7 +38,7 @@ impl Tally {
         }
     }
 
-    /// Counts one more fact in, beside the same first one.
+    /// Counts one more fact in, compared with the same first one.
     pub(crate) fn add(&mut self, first: &Fact, fact: &Fact)
         ensures { (others : List PlainFact) → Describes self.old first.now others
             → Describes self.new first.now (others ++ fact.now ∷ []) }

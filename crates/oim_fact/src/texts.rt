@@ -8,7 +8,7 @@ ghost use Rattle.oim_fact.specs.Texts.{text_view};
 use filing_model::is_same_text;
 use std::alloc::{AllocError, Global};
 
-/// A copy of a text, where there is one.
+/// A copy of a text, if any.
 pub fn clone_text(text: &Option<String>) -> Result<Option<String>, AllocError>
     ensures { IfOk result (λ t. text_view t ≡ text_view text.now) }
 {
@@ -18,7 +18,7 @@ pub fn clone_text(text: &Option<String>) -> Result<Option<String>, AllocError>
     }
 }
 
-/// A text of its own, where there is one.
+/// A text of its own, if any.
 pub fn own_text(alloc: Global, text: Option<&str>) -> Result<Option<String>, AllocError>
     ensures { IfOk result (λ own. text_view own ≡ option_map (λ t. t.now) text.entry) }
 {

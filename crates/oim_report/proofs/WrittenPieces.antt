@@ -1,8 +1,6 @@
 -- Lemmas on the pieces of a text.
-use Rattle.std.proofs.Common.{◌≡◌, OnOk, Result, Ok, Err, is_ok, List, ℕ, [], ◌∷◌, ◌++◌, codes, Option, append_assoc, append-nil, ◌∙◌, sym, ap, subst, ℤ}
+use Rattle.std.proofs.Common.{◌≡◌, OnOk, Result, Ok, Err, is_ok, List, ℕ, [], ◌∷◌, ◌++◌, codes, Option, append_assoc, ◌∙◌, sym, ap, subst, ℤ}
 use Rattle.std.specs.Bool.{if◌then◌else◌}
-use Rattle.json.specs.Token.{string}
-use Rattle.json.specs.Print.{print, print_from, quoted}
 use Rattle.filing_model.specs.Common.Text.{Text}
 use Rattle.filing_model.specs.Oim.Dimensions.{Dims}
 use Rattle.filing_model.specs.Reading.Writing.{decimals_in, decimals_text, dims_text, links_text, nullable_text, text_of, raw_fact_text, fact_text}
@@ -11,11 +9,6 @@ use Rattle.oim_fact.specs.Facts.{value_view}
 use Rattle.oim_report.specs.Appended.{IsFrontAppended}
 use Rattle.oim_report.specs.Pieces.{before_value}
 use Rattle.oim_report.proofs.Fronts.{front_before, front_behind}
-
--- one text alone is printed as itself
-pub print_string : (text : List ℕ) → print (string text ∷ []) ≡ quoted text
-unfolding print_from
-print_string text = append-nil (quoted text)
 
 -- what holds after the last piece was appended, from what the text then is
 pub once_appended : {A E Q : Type 0} (r : Result A E) (new old piece : Text)

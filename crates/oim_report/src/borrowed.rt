@@ -81,7 +81,7 @@ fn is_in_range(value: &json::Value<'_>) -> bool
     }
 }
 
-/// As `is_in_range`, of each item.
+/// Whether each number in these items is in range.
 #[cycle(range)]
 fn are_items_in_range(items: &Vec<json::Value<'_>>) -> bool
     ensures { result ≡ is_some (of_items (read_items items.now.items)) }
@@ -94,7 +94,7 @@ fn are_items_in_range(items: &Vec<json::Value<'_>>) -> bool
     true
 }
 
-/// As `is_in_range`, of each member's value.
+/// Whether each number in the values of these members is in range.
 #[cycle(range)]
 fn are_members_in_range(members: &Vec<(&str, json::Value<'_>)>) -> bool
     ensures { result ≡ is_some (of_members (read_members members.now.items) no_members) }
@@ -107,7 +107,7 @@ fn are_members_in_range(members: &Vec<(&str, json::Value<'_>)>) -> bool
     true
 }
 
-/// The value of these bytes, where they are a JSON text. Its texts are those of the bytes, or stand in `room` where an escape is written out.
+/// The value of these bytes, where they are a JSON text. Its texts are those of the bytes; one with an escape is written out into `room`.
 pub fn text_value<'a>(
     alloc: Global,
     bytes: &'a [u8],
@@ -157,7 +157,7 @@ pub fn copied(alloc: Global, value: &json::Value<'_>) -> Result<Option<Value>, A
     }
 }
 
-/// As `copied`, of each item.
+/// Owned copies of these items, where each number in them is in range.
 #[cycle(copied)]
 fn copied_items(
     alloc: Global,
@@ -176,7 +176,7 @@ fn copied_items(
     Ok(Some(copies))
 }
 
-/// As `copied`, of each member, of which the last of a name stays.
+/// Owned copies of these members, where each number in them is in range. Of a name the last stays.
 #[cycle(copied)]
 fn copied_members(
     alloc: Global,
@@ -197,7 +197,7 @@ fn copied_members(
 }
 
 /// An owned copy of a value, which is given back.
-pub fn owned(alloc: Global, value: json::Value<'_>) -> Result<Value, AllocError>
+pub(crate) fn owned(alloc: Global, value: json::Value<'_>) -> Result<Value, AllocError>
     requires { IsInRange value }
     ensures { IfOk result (λ v. view v ≡ data_of value.entry) }
 {
@@ -209,7 +209,7 @@ pub fn owned(alloc: Global, value: json::Value<'_>) -> Result<Value, AllocError>
     }
 }
 
-/// An owned copy of the member of this name, where there is one.
+/// An owned copy of the member of this name, if any.
 pub fn owned_at(
     alloc: Global,
     value: &json::Value<'_>,
@@ -254,7 +254,7 @@ fn names_rise(members: &[(&str, json::Value<'_>)]) -> bool
     members.is_sorted_by(|one, next| one.0 < next.0)
 }
 
-/// As `in_order`, each put in its place.
+/// The members in byte order of their names, each put in its place. Of a name the last stays.
 fn put_in_order<'a>(
     alloc: Global,
     members: Vec<(&'a str, json::Value<'a>)>,

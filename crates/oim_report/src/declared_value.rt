@@ -83,7 +83,10 @@ fn declaring(
     Ok(members)
 }
 
-/// The info with this declared value, whatever it declared before: the feature `xbrl:allowedDuplicates` (Open Information Model 1.0) has the value's word. The other features and the other members stay, all in byte order of their names. A text that is no object with whole numbers alone is no report's info, and stays as it is.
+/// The info with this declared value, whatever it declared before.
+/// Its feature `xbrl:allowedDuplicates` (Open Information Model 1.0) has the value's word.
+/// The other features and the other members stay, all in byte order of their names.
+/// A text that is no object with whole numbers alone is no report's info, and stays as it is.
 pub fn with_allowed(alloc: Global, info: &str, allowed: Allowed) -> Result<String, AllocError>
     ensures { IfOk result (λ text. string_bytes text ≡ with_allowed info.now allowed) }
 {

@@ -28,7 +28,7 @@ struct FactMembers {
     stated: Stated,
 }
 
-/// Those that are read beside the dimensions.
+/// The members that are read, apart from the dimensions.
 #[derive(Drop)]
 struct Stated {
     value: Option<Value>,
@@ -196,7 +196,7 @@ fn fact_of_members(alloc: Global, members: FactMembers) -> Result<RawFact, Troub
     fact_with(alloc, named, members.stated)
 }
 
-/// As `raw_fact`, of a value that is given up: the texts of the fact move out of it.
+/// The raw fact that a JSON value is, or the first fault, as `raw_fact` has it. The value is given up: the texts of the fact move out of it.
 pub fn raw_fact_from(alloc: Global, value: Value) -> Result<RawFact, Trouble>
     ensures fact { Gives fact_trouble same result (raw_fact_of (view value)) }
     ensures links { IfOk result (λ raw. AreLinks raw.links) }
@@ -204,7 +204,9 @@ pub fn raw_fact_from(alloc: Global, value: Value) -> Result<RawFact, Trouble>
     fact_of_members(alloc, fact_members(value))
 }
 
-/// The raw fact that a JSON value is (xBRL-JSON 1.0), or the first fault: not its shape; decimals or a number in links that is not whole; no dimension set. Members other than `dimensions`, `value`, `decimals` and `links` are passed over.
+/// The raw fact that a JSON value is (xBRL-JSON 1.0), or the first fault.
+/// Faults are: not its shape; decimals or a number in links that is not whole; no dimension set.
+/// Members other than `dimensions`, `value`, `decimals` and `links` are passed over.
 pub fn raw_fact(alloc: Global, value: &Value) -> Result<RawFact, Trouble>
     ensures fact { Gives fact_trouble same result (raw_fact_of (view value.now)) }
     ensures links { IfOk result (λ raw. AreLinks raw.links) }
@@ -215,7 +217,7 @@ pub fn raw_fact(alloc: Global, value: &Value) -> Result<RawFact, Trouble>
     }
 }
 
-/// As `dimensions`, of a value that is given up: the texts of the set move out of it.
+/// The dimension set that a JSON value is, or the first fault, as `dimensions` has it. The value is given up: the texts of the set move out of it.
 pub fn dimensions_from(alloc: Global, value: Value) -> Result<DimSet, Trouble>
     ensures { Gives fact_trouble same result (dims_read (view value)) }
 {

@@ -49,7 +49,7 @@ pub fn push_dims(out: &mut String, dims: &DimSet) -> Result<(), AllocError>
     push_pairs(out, dims.pairs())
 }
 
-/// Appends the member `links` with the comma before it, where there is one.
+/// Appends the member `links`, if any, with the comma before it.
 fn push_links(out: &mut String, links: &Option<String>) -> Result<(), AllocError>
     ensures text { OnOk result (string_bytes out.new
         ≡ string_bytes out.old ++ links_text (text_view links.now)) }

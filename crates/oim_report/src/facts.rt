@@ -142,7 +142,7 @@ pub(crate) fn facts(
     }
 }
 
-/// As `entry`, of a member whose texts are those that were read.
+/// An identifier with its fact, of a member whose texts are those that were read.
 fn entry_in_text(
     alloc: Global,
     names: &Names,

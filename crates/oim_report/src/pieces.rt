@@ -8,20 +8,14 @@ ghost use Rattle.oim_fact.specs.Texts.{text_view};
 ghost use Rattle.oim_report.specs.Appended.{IsFrontPushed};
 
 use crate::plain_text::is_plain;
-use json::Writer;
+use serde_json::Value;
 use std::alloc::{AllocError, Global};
 
 /// A text as a JSON text.
-#[tactic(auto, using(crate::proofs::WrittenPieces::print_string))]
 fn quoted_text(alloc: Global, text: &str) -> Result<String, AllocError>
     ensures { IfOk result (λ t. string_bytes t ≡ quoted text.now) }
 {
-    let mut writer = Writer::new(Vec::with_capacity(alloc, text.len().saturating_add(2))?);
-    writer.string(text)?;
-    match String::from_utf8(writer.into_inner()) {
-        Ok(quoted) => Ok(quoted),
-        Err(_) => unreachable!(),
-    }
+    Value::String(String::from_str(alloc, text)?).to_string(alloc)
 }
 
 /// Appends a text without escapes as a JSON text.
@@ -35,7 +29,7 @@ fn push_plain(out: &mut String, text: &str) -> Result<(), AllocError>
     out.push('"')
 }
 
-/// As `push_quoted`, of any text.
+/// Appends any text as a JSON text, through a copy with its escapes.
 fn push_escaped(out: &mut String, text: &str) -> Result<(), AllocError>
     ensures text { OnOk result (string_bytes out.new ≡ string_bytes out.old ++ quoted text.now) }
     ensures front { OnErr result (IsFrontPushed out.old out.new (quoted text.now)) }
@@ -92,7 +86,7 @@ fn push_decimals_member(out: &mut String, decimals: &i64) -> Result<(), AllocErr
     out.push_str(&member)
 }
 
-/// Appends the member `decimals` with the comma after it, where there is one.
+/// Appends the member `decimals`, if any, with the comma after it.
 pub(crate) fn push_decimals(out: &mut String, decimals: &Option<i64>) -> Result<(), AllocError>
     ensures text { OnOk result (string_bytes out.new ≡ string_bytes out.old ++ decimals_text decimals.now) }
     ensures front { OnErr result (IsFrontPushed out.old out.new (decimals_text decimals.now)) }

@@ -164,7 +164,7 @@ fn report_of_members(
     }
 }
 
-/// As `report_of`, of a value that is given up: the texts of the report move out of it.
+/// The report that a JSON value is, or the first fault, as `report_of` has it. The value is given up: the texts of the report move out of it.
 #[tactic(auto, using(crate::proofs::ReportsByParts::report_by_members))]
 pub fn report_from(
     alloc: Global,
@@ -177,7 +177,11 @@ pub fn report_from(
     report_of_members(alloc, top_members(value), table)
 }
 
-/// The report that a JSON value is (xBRL-JSON 1.0) by this numeric table, or the first fault, in this order: not the shape of a report, the document type, the features, the namespaces, `documentInfo` that nests deeper than a JSON text may, a number in it that is not whole, the shape of `facts`, and the first refused fact in byte order of the identifiers.
+/// The report that a JSON value is (xBRL-JSON 1.0) by this numeric table, or the first fault. Faults are found in this order:
+///
+/// - not the shape of a report, the document type, the features, the namespaces;
+/// - `documentInfo` that nests deeper than a JSON text may, a number in it that is not whole;
+/// - the shape of `facts`, and the first refused fact in byte order of the identifiers.
 pub fn report_of(
     alloc: Global,
     value: &Value,
@@ -205,7 +209,8 @@ fn declaration_in_text(
     declaration(alloc, document_info, table)
 }
 
-/// As `report_from`, of a value whose texts are those that were read: each that the report keeps is copied once.
+/// The report that a JSON value is, or the first fault, as `report_of` has it.
+/// The texts of the value are those that were read: each that the report keeps is copied once.
 #[tactic(auto, using(crate::proofs::ReportsByParts::report_by_members))]
 pub fn report_in_text(
     alloc: Global,

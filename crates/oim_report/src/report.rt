@@ -12,7 +12,8 @@ use std::alloc::{AllocError, Global};
 use std::marker::Model;
 use std::sync::Arc;
 
-/// The parts of a report: the compact text of `documentInfo`, the prefixes with the numeric table, the allowed duplicates that it declares, and facts under their identifiers.
+/// The parts of a report: the compact text of `documentInfo`, the prefixes with the numeric table,
+/// the allowed duplicates that it declares, and facts under their identifiers.
 #[derive(Debug, Drop)]
 pub struct ReportParts {
     pub info: String,
@@ -66,7 +67,7 @@ impl Model for Report {
     }) };
 }
 
-/// The same facts, which are shared, under the same identifiers.
+/// Clones of the identifiers, each with its fact, which is shared.
 fn clone_facts(facts: &Vec<(String, Arc<Fact>)>) -> Result<Vec<(String, Arc<Fact>)>, AllocError>
     ensures { IfOk result (λ v. facts_view v.items ≡ facts_view facts.now.items) }
 {
@@ -92,7 +93,8 @@ impl Clone for Report {
 }
 
 impl Report {
-    /// The report of these parts. Its facts stand in byte order of their identifiers, none twice, and its info is that of a report with these prefixes and this declared value.
+    /// The report of these parts. Its facts stand in byte order of their identifiers, none twice.
+    /// Its info is that of a report with these prefixes and this declared value.
     pub fn of(parts: ReportParts) -> Report
         requires { AreParts parts }
         ensures { result ≡ whole parts }
@@ -178,7 +180,7 @@ impl Report {
         &self.facts
     }
 
-    /// The same one by one.
+    /// The facts one by one, in byte order of their identifiers.
     pub fn entries(&self) -> Entries<'_>
         ensures { result ≡ self.now.facts.entries }
     {

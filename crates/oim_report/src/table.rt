@@ -87,7 +87,8 @@ fn rows(alloc: Global, text: &str) -> Result<Vec<(String, String)>, TableFault>
     Ok(rows)
 }
 
-/// The numeric table of a text, or its first bad line: each line is a URI, one space and a local name. Empty lines are passed over, and a carriage return at the end of a line is dropped. Lines are counted from 1.
+/// The numeric table of a text, or its first bad line, counted from 1: each line is a URI, one space and a local name.
+/// Empty lines are passed over, and a carriage return at the end of a line is dropped.
 pub fn read_table(alloc: Global, text: &str) -> Result<NumericTable, TableFault>
     ensures { Gives table_fault same result (read_table_of text.now) }
 {

@@ -65,10 +65,10 @@ fn is_whole_number(number: &Number) -> bool
     number.as_u64().is_some() || number.as_i64().is_some()
 }
 
-/// How deep the arrays and objects of a JSON text may nest.
+/// Levels of arrays and objects that a JSON text may have at most.
 pub(crate) const MAX_DEPTH: usize = 127;
 
-/// Whether the arrays and objects of a value nest so deep at most.
+/// Whether the arrays and objects of a value nest at most this deep.
 #[cycle(nests)]
 pub(crate) fn nests_within(value: &Value, most: usize) -> bool
     ensures { result ≡ nat_le (depth (view value.now)) most }
@@ -80,7 +80,7 @@ pub(crate) fn nests_within(value: &Value, most: usize) -> bool
     }
 }
 
-/// As `nests_within`, of each item.
+/// Whether the arrays and objects of these items nest at most this deep.
 #[cycle(nests)]
 fn items_nest_within(items: &Vec<Value>, most: usize) -> bool
     ensures { result ≡ nat_le (items_depth (items_view items.now.items)) most }
@@ -93,7 +93,7 @@ fn items_nest_within(items: &Vec<Value>, most: usize) -> bool
     true
 }
 
-/// As `nests_within`, of each member's value.
+/// Whether the arrays and objects of the values of these members nest at most this deep.
 #[cycle(nests)]
 fn members_nest_within(members: &Map<String, Value>, most: usize) -> bool
     ensures { result ≡ nat_le (members_depth (members_view members.now.entries)) most }
@@ -132,7 +132,7 @@ pub(crate) fn is_whole(value: &Value) -> bool
     }
 }
 
-/// As `is_whole`, of each item.
+/// Whether each number in these items is whole.
 #[cycle(whole)]
 fn are_whole(items: &Vec<Value>) -> bool
     ensures whole { result ≡ not (items_have_float (items_view items.now.items)) }
@@ -146,7 +146,7 @@ fn are_whole(items: &Vec<Value>) -> bool
     true
 }
 
-/// As `is_whole`, of each member's value.
+/// Whether each number in the values of these members is whole.
 #[cycle(whole)]
 fn are_members_whole(members: &Map<String, Value>) -> bool
     ensures whole { result ≡ not (members_have_float (members_view members.now.entries)) }

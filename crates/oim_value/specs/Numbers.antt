@@ -1,6 +1,6 @@
 -- Bounds of numbers and intervals, by which no sum leaves 128 bits.
 --
--- A unit is 10^-15: the last place that a numeral may have behind its point (`most_fraction_digits`). Numbers are
+-- A unit is 10^-15: the last place that a numeral may have after its point (`most_fraction_digits`). Numbers are
 -- counted
 -- in units, so they are whole, and the ends of intervals in half units.
 use Rattle.std.specs.Prelude.{ℕ, ◌+◌, ◌*◌, ◌^◌, ◌<◌, ◌≤◌, ℤ, ◌≤ℤ◌, nat_abs}

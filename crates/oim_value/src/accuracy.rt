@@ -9,7 +9,8 @@ use crate::decimal::{MOST_FRACTION_DIGITS, MOST_WHOLE_DIGITS};
 use filing_model::NumberFault;
 use std::marker::Model;
 
-/// The place of the last digit that counts: 2 for hundredths, 0 for ones, -3 for thousands. It is a place that a numeral may have: from -20 (`MOST_WHOLE_DIGITS`) to 15 (`MOST_FRACTION_DIGITS`).
+/// The place of the last digit that counts: 2 for hundredths, 0 for ones, -3 for thousands.
+/// It is a place that a numeral may have: from -20 (`MOST_WHOLE_DIGITS`) to 15 (`MOST_FRACTION_DIGITS`).
 #[derive(Clone, Copy, Debug, PartialEq, Eq)]
 pub struct Decimals {
     place: i8,

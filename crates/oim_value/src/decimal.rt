@@ -13,13 +13,14 @@ ghost use Rattle.oim_value.specs.Padding.{is_padding};
 use filing_model::NumberFault;
 use std::marker::Model;
 
-/// The most digits behind the point of a numeral, trailing zeros dropped. The last of these places is a unit.
+/// The most digits after the point of a numeral, trailing zeros dropped. The last of these places is a unit.
 pub(crate) const MOST_FRACTION_DIGITS: usize = 15;
 
 /// The most digits before the point of a numeral, leading zeros dropped.
 pub(crate) const MOST_WHOLE_DIGITS: usize = 20;
 
-/// An exact decimal number, of at most `MOST_WHOLE_DIGITS` (20) digits before the point and `MOST_FRACTION_DIGITS` (15) behind it. Contracts see it as a whole number of units, so numbers that are spelled in other ways are equal: `-0.0` is `0`, and `1.50` is `1.5`.
+/// An exact decimal number, of at most `MOST_WHOLE_DIGITS` (20) digits before the point and `MOST_FRACTION_DIGITS` (15) after it.
+/// Contracts see it as a whole number of units, so numbers that are spelled in other ways are equal: `-0.0` is `0`, and `1.50` is `1.5`.
 #[derive(Clone, Copy, Debug, PartialEq, Eq)]
 pub struct Decimal {
     units: i128,
@@ -39,7 +40,9 @@ impl Model for Decimal {
 }
 
 impl Decimal {
-    /// The number that a text spells: white space, a sign or none, digits with at most one point among, before or behind them, white space. `NotANumber` where the text is no numeral; else `TooLarge` where, leading zeros and trailing zeros of the fraction left out, it has more digits before the point or behind it than a numeral may have.
+    /// The number that a text spells: white space, a sign or none, digits with at most one point before, among or after them, white space.
+    /// `NotANumber` where the text is no numeral; else `TooLarge` where it has more digits before or after the point than a numeral may have.
+    /// Leading zeros and trailing zeros of the fraction do not count.
     pub fn read(text: &str) -> Result<Decimal, NumberFault>
         ensures number { result ≡ number_of text.now }
         ensures spelled { IsReadAsSpelled text.now result }
@@ -105,7 +108,7 @@ fn size_of_few(whole: &[u8], fraction: &[u8]) -> Result<u128, NumberFault>
     Ok(number * 10u128.pow(places as u32))
 }
 
-/// The running number with further digits behind it.
+/// The running number with further digits after it.
 fn with_digits(mut number: u128, digits: &[u8]) -> u128
     requires few { (number + 1) * 10 ^ length digits.now ≤ number_limit }
     requires digits { IsTrue (list_all is_ascii_digit digits.now) }
@@ -185,7 +188,7 @@ fn point(digits: &[u8]) -> Option<usize>
     digits.iter().position(|digit| *digit == b'.')
 }
 
-/// What stands before and behind the first point; nothing stands behind one that is missing.
+/// What stands before and after the first point; nothing stands after one that is missing.
 fn around_point(digits: &[u8]) -> (&[u8], &[u8])
     ensures whole { result.0.now ≡ before_first is_point digits.now }
     ensures fraction { result.1.now ≡ after_first is_point digits.now }

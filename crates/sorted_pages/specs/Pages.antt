@@ -1,4 +1,4 @@
--- What pages hold, and the numbers that stand beside them.
+-- What pages hold, and the numbers that stand next to it.
 use Rattle.std.specs.Prelude.{◌≡◌, ℕ, ◌&&◌, T, nat_lt, nat_le, sum, List, [], ◌∷◌, ◌++◌, max, Option, Some, None}
 use Rattle.std.specs.List.{flat_map, list_all}
 use Rattle.std.specs.Arc.{arc_value}

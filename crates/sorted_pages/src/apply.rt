@@ -181,7 +181,7 @@ pub(crate) fn split_first_block<T: Edged>(blocks: &[Arc<Block<T>>]) -> (&[T], &[
     }
 }
 
-/// Appends a block of the items with changes applied, or more than one where they have no room in it.
+/// Appends a block of the items with changes applied, or more than one where they do not fit in it.
 fn apply_to_block<E: PageEntry, T: Changing<E>, U: Grow<E, Arc<Block<T>>>>(
     alloc: Global,
     items: &[T],

@@ -83,7 +83,7 @@ fn cut_off<T: Edged + Drop>(rest: &mut Vec<T>, piece: usize) -> Result<Arc<Block
 }
 
 impl<T: Edged + Drop> BlockSplitter<T> {
-    /// One that has no items, for blocks of so many at most. It takes no memory.
+    /// A splitter of no items, for blocks of at most `most`. It takes no memory.
     pub(crate) fn new(alloc: Global, layout: Layout, most: usize) -> BlockSplitter<T>
         requires some { 2 ≤ most }
         requires few { most ≤ 64 }
@@ -97,14 +97,14 @@ impl<T: Edged + Drop> BlockSplitter<T> {
         }
     }
 
-    /// Takes room for this many items, or for a block of them.
+    /// Reserves capacity for this many items, or for a block of them.
     pub(crate) fn reserve(&mut self, room: usize) -> Result<(), AllocError>
         ensures { self.new ≡ self.old }
     {
         self.rest.reserve(room.min(self.most))
     }
 
-    /// Pushes an item, and hands out the block that there was no more room in.
+    /// Pushes an item. Where the rest is full, a block is cut off before, and handed out.
     pub(crate) fn push(&mut self, item: T) -> Result<Option<Arc<Block<T>>>, AllocError>
         ensures { IfOk result (λ block. items_of block ++ self.new ≡ self.old ++ item ∷ []) }
     {

@@ -62,7 +62,7 @@ impl<E: PageEntry, T: Level<E>, U: Grow<E, Arc<Block<T>>>> Grow<E, T> for LevelB
     }
 }
 
-/// No item yet, over a list that takes blocks, with room for this many items in the first block.
+/// No item yet, over a list that takes blocks, with capacity for this many items in the first block.
 pub(crate) fn begin<E: PageEntry, T: Level<E>, U: Grow<E, Arc<Block<T>>>>(
     alloc: Global,
     layout: Layout,

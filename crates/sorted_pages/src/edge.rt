@@ -22,7 +22,8 @@ pub(crate) trait Test<E, T>: Drop {
         ensures { Holds (answer_of result (passes self.now item.now) (fails self.now item.now)) };
 }
 
-/// A place between two others where the test stops to hold, found one after another: what the next item holds is fetched before it is known whether this one passes, and where halving goes on is not.
+/// A place between two others where the test stops to hold, found one after another.
+/// What the next item holds is fetched before it is known whether this one passes; where halving goes on is not.
 fn edge_between<E, T, P: Test<E, T>>(items: &[T], test: &P, from: usize, until: usize) -> usize
     requires order { from ≤ until }
     requires there { until ≤ length items.now }
@@ -61,7 +62,7 @@ pub(crate) fn split_at_edge<'a, E, T, P: Test<E, T>>(items: &'a [T], test: &P) -
     items.split_at(edge_between(items, test, low, high))
 }
 
-/// The same, but the last item that passes stands with those from there on.
+/// The items before some place where the test stops to hold, but for the last of them; and that one with those from there on.
 pub(crate) fn split_before_edge<'a, E, T, P: Test<E, T>>(
     items: &'a [T],
     test: &P,

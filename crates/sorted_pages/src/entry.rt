@@ -14,7 +14,7 @@ pub trait Summed {
     /// What says something of a list.
     type Sum: Drop;
 
-    /// The same in the form in which pages keep it.
+    /// The form of a sum in which pages keep it.
     type Kept: Drop;
 
     ghost tells: { Self.Sum → List Self → Type 0 };
@@ -109,7 +109,8 @@ pub trait PageEntry: Summed + Drop {
 
     ghost key: { Self → ℕ };
 
-    /// A number that never falls where entries rise. Each block keeps those of its first and last entry, so that most places are found by numbers that lie near.
+    /// A number that never falls where entries rise.
+    /// Each block keeps those of its first and last entry, so that most places are found by numbers that lie near.
     fn key(&self) -> u64
         ensures { result ≡ key self.now };
 
@@ -117,10 +118,11 @@ pub trait PageEntry: Summed + Drop {
     fn order(&self, other: &Self) -> Ordering
         ensures { result ≡ order self.now other.now };
 
-    /// How many pages hold what it shares. The number decides nothing: it is read of many entries before they are shared, so that the processor fetches them side by side.
+    /// How many pages hold what it shares. The number decides nothing:
+    /// it is read of many entries before they are shared, so that the processor fetches them side by side.
     fn owners(&self) -> usize;
 
-    /// The same entry for one more page. It is to take no memory of its own, as an `Arc` does.
+    /// Another owner of the entry, for one more page. It is to take no memory of its own, as an `Arc` does.
     fn share(&self) -> Result<Self, AllocError>
         ensures { IfOk result (λ e. e ≡ self.now) };
 

@@ -1,4 +1,4 @@
-//! One change made in pages, runs, groups and sections that no other list holds. Where there is room it copies no page.
+//! One change made in pages, runs, groups and sections that no other list holds. Where it fits, no page is copied.
 ghost use Rattle.std.specs.Prelude.{◌≡◌, ◌++◌, ◌<◌, ◌≤◌, ◌+◌, take, drop, length, if◌then◌else◌, IfOk, OnErr, IsFalse, T as Holds};
 ghost use Rattle.std.specs.List.{flat_map};
 ghost use Rattle.std.specs.Ordering.{eq_by_cmp};

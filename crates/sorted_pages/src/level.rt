@@ -28,7 +28,7 @@ pub(crate) trait Level<E: PageEntry>: Edged + Drop {
     /// How many blocks hold what it shares.
     fn owners(&self) -> usize;
 
-    /// The same for one more block.
+    /// Another owner of the item, for one more block.
     fn share(&self) -> Result<Self, AllocError>
         ensures { IfOk result (λ item. entries item ≡ entries self.now) };
 

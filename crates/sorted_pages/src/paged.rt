@@ -209,7 +209,7 @@ impl<E: PageEntry> Paged<E> {
         }
     }
 
-    /// Makes a change in place where no other list holds what it changes and there is room, and says whether it did.
+    /// Makes a change in place where no other list holds what it changes and it fits, and says whether it did.
     fn change(&mut self, change: &Edit<E>) -> Result<bool, AllocError>
         ensures { IfOk result (λ is_made. self.new
             ≡ (if is_made then with_change E.order change.now self.old else self.old)) }
@@ -234,7 +234,8 @@ impl<E: PageEntry> Paged<E> {
         Ok(())
     }
 
-    /// The list after changes whose entries rise, in place where no other list holds what they change and there is room. Many changes take as long as so many single ones.
+    /// The list after changes whose entries rise, in place where no other list holds what they change and they fit.
+    /// Many changes take as long as so many single ones.
     pub fn into_after(self, alloc: Global, changes: &[Edit<E>]) -> Result<Paged<E>, AllocError>
         requires { IsRising E.order (map entry_of changes.now) }
         ensures { IfOk result (λ p. p ≡ with_changes E.order changes.now self) }

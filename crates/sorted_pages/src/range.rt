@@ -54,7 +54,7 @@ struct Back<'a, E: PageEntry> {
     entries: &'a [Leaf<E>],
 }
 
-/// The same items, with the first one, if there is one, among the first.
+/// The first items and the blocks after them. Where there is no first item, those of the first block, if any, become the first.
 fn refill<'a, T: Edged>(
     first: &'a [T],
     blocks: &'a [Arc<Block<T>>],
@@ -70,7 +70,7 @@ fn refill<'a, T: Edged>(
     }
 }
 
-/// The same entries, with a page, if there is one, among the pages.
+/// This front; where it has no pages, the next ones, if any, move up.
 pub(crate) fn with_pages<'a, E: PageEntry>(front: Front<'a, E>) -> Front<'a, E>
     ensures entries { result.entries.now ≡ front.entry.entries.now }
     ensures same { ahead [] result.pages.now result.runs.now result.groups.now result.sections.now
@@ -90,7 +90,7 @@ pub(crate) fn with_pages<'a, E: PageEntry>(front: Front<'a, E>) -> Front<'a, E>
     }
 }
 
-/// The same entries, with the first, if there is one, among those of the first page.
+/// This front; where it has no entries, those of the next page, if any, move up.
 pub(crate) fn with_entries<'a, E: PageEntry>(front: Front<'a, E>) -> Front<'a, E>
     ensures same { ahead result.entries.now result.pages.now result.runs.now result.groups.now result.sections.now
         ≡ ahead front.entry.entries.now front.entry.pages.now front.entry.runs.now front.entry.groups.now front.entry.sections.now }
@@ -106,7 +106,7 @@ pub(crate) fn with_entries<'a, E: PageEntry>(front: Front<'a, E>) -> Front<'a, E
     }
 }
 
-/// The entries of these pages, runs and groups, with the first, if there is one, among those of the first page.
+/// The entries of these pages, runs and groups; those of the first page, if any, stand in front.
 fn front_of<'a, E: PageEntry>(
     pages: &'a [Page<E>],
     runs: &'a [Run<E>],
@@ -126,7 +126,7 @@ fn front_of<'a, E: PageEntry>(
     })
 }
 
-/// The same entries, with the first, if there is one, in front: where nothing is left there, what is behind moves up.
+/// Both ends of a range; where the front has nothing, what is at the back moves up.
 fn advanced<'a, E: PageEntry>(front: Front<'a, E>, back: Back<'a, E>) -> (Front<'a, E>, Back<'a, E>)
     ensures same { ahead result.0.entries.now result.0.pages.now result.0.runs.now result.0.groups.now result.0.sections.now
         ++ behind result.1.groups.now result.1.runs.now result.1.pages.now result.1.entries.now
@@ -322,7 +322,7 @@ fn entries_until<'a, E: PageEntry, S: Span<E>>(entries: &'a [Leaf<E>], span: &S)
     front
 }
 
-/// The same over pages.
+/// The entries of these pages up to the first that stands past the range.
 fn pages_until<'a, E: PageEntry, S: Span<E>>(pages: &'a [Page<E>], span: &S) -> Back<'a, E>
     requires { IsRising E.order (flat_map of_page pages.now) }
     ensures entries { behind result.groups.now result.runs.now result.pages.now result.entries.now
@@ -338,7 +338,7 @@ fn pages_until<'a, E: PageEntry, S: Span<E>>(pages: &'a [Page<E>], span: &S) -> 
     }
 }
 
-/// The same over runs.
+/// The entries of these runs up to the first that stands past the range.
 fn runs_until<'a, E: PageEntry, S: Span<E>>(runs: &'a [Run<E>], span: &S) -> Back<'a, E>
     requires { IsRising E.order (flat_map of_run runs.now) }
     ensures entries { behind result.groups.now result.runs.now result.pages.now result.entries.now
@@ -350,7 +350,7 @@ fn runs_until<'a, E: PageEntry, S: Span<E>>(runs: &'a [Run<E>], span: &S) -> Bac
     Back { runs, ..back }
 }
 
-/// The same over groups.
+/// The entries of these groups up to the first that stands past the range.
 fn groups_until<'a, E: PageEntry, S: Span<E>>(groups: &'a [Group<E>], span: &S) -> Back<'a, E>
     requires { IsRising E.order (flat_map of_group groups.now) }
     ensures { behind result.groups.now result.runs.now result.pages.now result.entries.now

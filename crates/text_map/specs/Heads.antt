@@ -2,7 +2,7 @@
 use Rattle.std.specs.Prelude.{◌≡◌, ℕ, zero, suc, ◌+◌, ◌*◌, ◌<◌, min, cond, nat_lt, get_or, [], ◌∷◌}
 use Rattle.filing_model.specs.Common.Text.{Text}
 
--- the number of so many bytes from a place on, behind another number; 0 behind the last
+-- the number of so many bytes from a place on, after another number; 0 after the last
 abbrev pub number_from : ℕ → ℕ → ℕ → Text → ℕ
 number_from zero i n name = n
 number_from (suc k) i n name = number_from k (i + 1) (n * 256 + get_or name i 0) name
@@ -24,12 +24,12 @@ abbrev pub first_byte : Text → ℕ
 first_byte [] = 0
 first_byte (b ∷ bs) = min b 255
 
--- the items behind the first. None is behind one that is no byte, so that it stands for each byte from its place on
+-- the items after the first. None is after one that is no byte, so that it stands for each byte from its place on
 abbrev pub later_bytes : Text → Text
 later_bytes [] = []
 later_bytes (b ∷ bs) = cond (nat_lt b 256) bs (b ∷ bs)
 
--- the number of so many first bytes, behind another number
+-- the number of so many first bytes, after another number
 abbrev pub key_from : ℕ → ℕ → Text → ℕ
 key_from zero n name = n
 key_from (suc k) n name = key_from k (n * 256 + first_byte name) (later_bytes name)

@@ -24,7 +24,7 @@ greatest (suc k) n m a y ys h over =
     by true lt later = absurd (omega (arith, over, ltb-true y 256 lt))
     by false ge later = later
 
--- numbers that differ before the last bytes differ behind them
+-- numbers that differ before the last bytes differ after them
 apart : (k n m : ℕ) (a b : Text) → n < m → key_from k n a < key_from k m b
 apart zero n m a b l = l
 apart (suc k) n m a b l =
@@ -43,7 +43,7 @@ not_before_nothing : (xs : Text) → text_cmp xs [] ≡ Less → ⊥
 not_before_nothing [] e = true≢false (sym (ap is_lt e))
 not_before_nothing (x ∷ xs) e = true≢false (sym (ap is_lt e))
 
--- behind first bytes that are the same, the later ones decide
+-- after first bytes that are the same, the later ones decide
 lesser_later : (k n : ℕ) (a b : Text) → first_byte a ≡ first_byte b → text_cmp (later_bytes a) (later_bytes b) ≡ Less
     → key_from (suc k) n a < key_from (suc k) n b → text_cmp a b ≡ Less
 lesser_later k n [] [] same e l = e

@@ -11,7 +11,8 @@ use std::sync::Arc;
 
 /// What maps from texts hold, which says how long their pages are.
 pub trait PagedValue: Drop {
-    /// The most of these that a page holds. Entries of a copied page are counted up where they lie, so small pages cost less to change, and take less memory where many versions are kept.
+    /// The most of these that a page holds. Entries of a copied page are counted up where they lie,
+    /// so small pages cost less to change, and take less memory where many versions are kept.
     fn most_in_page() -> usize
         ensures some { 2 ≤ result }
         ensures few { result ≤ 64 }
@@ -22,14 +23,14 @@ pub trait PagedValue: Drop {
 
 impl<V: Drop> PagedValue for Option<V> {}
 
-/// The byte at a place, or 0 behind the last.
+/// The byte at a place, or 0 after the last.
 fn byte_at(bytes: &[u8], place: usize) -> u8
     ensures { result ≡ get_or bytes.now place 0 }
 {
     bytes.get(place).copied().unwrap_or(0)
 }
 
-/// The number of the first 16 bytes of a name, and of 0 behind the last. Two numbers are compared at once, where bytes are one by one.
+/// The number of the first 16 bytes of a name, and of 0 after the last. Two numbers are compared at once, where bytes are one by one.
 fn head_of(name: &str) -> u128
     ensures { IsHeadOf name.now result }
 {
@@ -192,7 +193,7 @@ impl<V: Drop> Pair<V> {
     }
 }
 
-/// A value under a name, shared by all lists that hold it. The key of the name stands beside the pointer, so that most comparisons follow none.
+/// A value under a name, shared by all lists that hold it. The key of the name stands next to the pointer, so that most comparisons follow none.
 ///
 /// Contracts see the pair of the name's bytes and the value.
 #[derive(Drop)]

@@ -123,7 +123,7 @@ impl<V: PagedValue> TextPages<V> {
         Ok(TextPages { pages })
     }
 
-    /// The map after changes whose names rise, in place where no other map holds what they change and there is room.
+    /// The map after changes whose names rise, in place where no other map holds what they change and they fit.
     pub fn into_after(
         self,
         alloc: Global,
@@ -151,14 +151,14 @@ impl<V: PagedValue> TextPages<V> {
         }
     }
 
-    /// The map with an entry, in place where no other map holds what that changes and there is room.
+    /// The map with an entry, in place where no other map holds what that changes and it fits.
     pub fn put_back(self, alloc: Global, entry: NamedValue<V>) -> Result<TextPages<V>, AllocError>
         ensures { IfOk result (λ m. m ≡ insert self entry.0 entry.1) }
     {
         self.into_after(alloc, &[Edit::Put(entry)])
     }
 
-    /// The same map once more, which shares all pages.
+    /// Another owner of the map, which shares all pages.
     pub fn share(&self, alloc: Global) -> Result<TextPages<V>, AllocError>
         ensures { IfOk result (λ m. m ≡ self.now) }
     {

@@ -1,4 +1,5 @@
--- Of whole runs of sessions: each that committed beside the sequential repository, which runs it whole at its commit, and every other beside the repository of its opening.
+-- Of whole runs of sessions. Each that committed is compared with the sequential repository, which runs it whole at its commit.
+-- Every other is compared with the repository of its opening.
 use Rattle.std.specs.Prelude.{◌≡◌, ℕ, Bool, true, false, cond, not, ◌&&◌, List, [], ◌∷◌, ◌++◌, All, Option, Some, None, MatchOption}
 use Rattle.std.specs.List.{filter, last_or}
 use Rattle.std.specs.Option.{option_map_or}

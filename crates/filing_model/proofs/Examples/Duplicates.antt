@@ -39,96 +39,23 @@ one_at text places = with assets (Number text (pos (10 ^ 15)) (Some (pos places)
 
 -- ---- pairs
 
-pub other_dimensions_are_apart : pair_of (with assets Nil) (with cash Nil) ≡ pair.Apart
-other_dimensions_are_apart = refl
-
-pub nil_and_nil : pair_of nil nil ≡ pair.Complete
-nil_and_nil = refl
-
-pub nil_and_zero : pair_of nil (exact (codes "0") 0) ≡ pair.Inconsistent
-nil_and_zero = refl
-
-pub nil_and_a_text : pair_of (written (codes "")) nil ≡ pair.Inconsistent
-nil_and_a_text = refl
-
-pub equal_texts : pair_of (written (codes "x")) (written (codes "x")) ≡ pair.Complete
-equal_texts = refl
-
-pub unequal_texts : pair_of (written (codes "x")) (written (codes "y")) ≡ pair.Inconsistent
-unequal_texts = refl
-
 pub a_text_and_a_number : pair_of (written (codes "1")) (exact (codes "1") 1) ≡ pair.Inconsistent
 a_text_and_a_number = refl
 
 pub one_number_in_two_spellings : pair_of (one_at (codes "1.0") 1) (one_at (codes "1.00") 1) ≡ pair.Complete
 one_number_in_two_spellings = refl
 
-pub one_number_at_other_decimals : pair_of (one_at (codes "1.0") 1) (one_at (codes "1.00") 2) ≡ pair.Consistent
-one_number_at_other_decimals = refl
-
-pub one_number_exact_and_rounded : pair_of (one_at (codes "1.0") 1) (exact (codes "1") 1) ≡ pair.Consistent
-one_number_exact_and_rounded = refl
-
 pub neighbours_share_their_end : pair_of (rounded (codes "1000") 1000 3) (rounded (codes "2000") 2000 3) ≡ pair.Consistent
 neighbours_share_their_end = refl
 
-pub an_exact_number_at_the_end : pair_of (rounded (codes "1000") 1000 3) (exact (codes "1500") 1500) ≡ pair.Consistent
-an_exact_number_at_the_end = refl
-
-pub an_exact_number_past_the_end : pair_of (rounded (codes "1000") 1000 3) (with assets (Number (codes "1500.000000000000001") (pos 1500000000000000001) None)) ≡ pair.Inconsistent
-an_exact_number_past_the_end = refl
-
-pub a_blank_at_the_end_counts : pair_of (written (codes "a")) (written (codes "a ")) ≡ pair.Inconsistent
-a_blank_at_the_end_counts = refl
-
-pub two_spellings_of_an_exact_number : pair_of (exact (codes "-0.0") 0) (exact (codes " 0") 0) ≡ pair.Complete
-two_spellings_of_an_exact_number = refl
-
-pub two_exact_numbers : pair_of (exact (codes "5") 5) (exact (codes "6") 6) ≡ pair.Inconsistent
-two_exact_numbers = refl
-
 -- ---- classes
-
-pub no_fact : class_of [] ≡ class.Empty
-no_fact = refl
-
-pub one_fact : class_of (nil ∷ []) ≡ class.Single
-one_fact = refl
-
-pub three_nils : class_of (nil ∷ nil ∷ nil ∷ []) ≡ class.Complete
-three_nils = refl
-
-pub neighbours : class_of (rounded (codes "1000") 1000 3 ∷ rounded (codes "2000") 2000 3 ∷ []) ≡ class.Consistent
-neighbours = refl
 
 -- the first is consistent with both others, and those two are not
 pub each_pair_counts : class_of (rounded (codes "10") 10 1 ∷ exact (codes "6") 6 ∷ exact (codes "14") 14 ∷ []) ≡ class.Inconsistent
 each_pair_counts = refl
 
-pub the_first_is_consistent_with_the_second : pair_of (rounded (codes "10") 10 1) (exact (codes "6") 6) ≡ pair.Consistent
-the_first_is_consistent_with_the_second = refl
-
-pub the_first_is_consistent_with_the_third : pair_of (rounded (codes "10") 10 1) (exact (codes "14") 14) ≡ pair.Consistent
-the_first_is_consistent_with_the_third = refl
-
-pub two_sets_of_dimensions : class_of (with assets Nil ∷ with cash Nil ∷ []) ≡ class.Mixed
-two_sets_of_dimensions = refl
-
 pub two_sets_of_dimensions_beside_inconsistent_facts : class_of (with assets Nil ∷ exact (codes "0") 0 ∷ with cash Nil ∷ []) ≡ class.Mixed
 two_sets_of_dimensions_beside_inconsistent_facts = refl
-
-pub nil_beside_a_text : class_of (nil ∷ written (codes "a") ∷ []) ≡ class.Inconsistent
-nil_beside_a_text = refl
-
-pub one_number_three_times : class_of (one_at (codes "1.0") 1 ∷ one_at (codes "1") 1 ∷ one_at (codes "1.0") 2 ∷ []) ≡ class.Consistent
-one_number_three_times = refl
-
--- the number six, again, beside a rounded ten, and beside two sets of dimensions
-pub more_of_one_number : map class_of (
-    (exact (codes "6") 6 ∷ []) ∷ (exact (codes "6") 6 ∷ exact (codes "6") 6 ∷ []) ∷ (exact (codes "6") 6 ∷ rounded (codes "10") 10 1 ∷ exact (codes "6") 6 ∷ [])
-    ∷ (exact (codes "6") 6 ∷ exact (codes "14") 14 ∷ with cash Nil ∷ []) ∷ [])
-    ≡ class.Single ∷ class.Complete ∷ class.Consistent ∷ class.Mixed ∷ []
-more_of_one_number = refl
 
 -- ---- allowed duplicates
 
@@ -144,21 +71,6 @@ pub classes_that_are_allowed : map allowed_by (allowed.Never ∷ allowed.Complet
     ∷ (true ∷ true ∷ true ∷ true ∷ false ∷ false ∷ []) ∷ (true ∷ true ∷ true ∷ true ∷ true ∷ false ∷ []) ∷ []
 classes_that_are_allowed = refl
 
-pub mixed_facts_are_never_allowed : allows allowed.All class.Mixed ≡ false
-mixed_facts_are_never_allowed = refl
-
-pub inconsistent_facts_are_allowed_by_all : allows allowed.All class.Inconsistent ≡ true
-inconsistent_facts_are_allowed_by_all = refl
-
-pub complete_duplicates_are_consistent_ones : allows allowed.Consistent class.Complete ≡ true
-complete_duplicates_are_consistent_ones = refl
-
-pub consistent_duplicates_are_not_complete : allows allowed.Complete class.Consistent ≡ false
-consistent_duplicates_are_not_complete = refl
-
-pub complete_duplicates_are_duplicates : allows allowed.Never class.Complete ≡ false
-complete_duplicates_are_duplicates = refl
-
 -- ---- reports
 
 -- two neighbours of one concept behind a fact of another
@@ -167,9 +79,6 @@ entries = (codes "a", rounded (codes "1000") 1000 3) ∷ (codes "b", with cash N
 
 pub the_cell_of_the_neighbours : cell_of assets entries ≡ (codes "a", rounded (codes "1000") 1000 3) ∷ (codes "c", rounded (codes "2000") 2000 3) ∷ []
 the_cell_of_the_neighbours = refl
-
-pub neighbours_disobey_complete : obeys allowed.Complete entries ≡ false
-neighbours_disobey_complete = refl
 
 pub neighbours_obey_consistent : obeys allowed.Consistent entries ≡ true
 neighbours_obey_consistent = refl
@@ -183,10 +92,3 @@ no_cell_is_disallowed = refl
 -- both concepts have duplicates
 pub the_least_of_two_disallowed_cells : least_disallowed allowed.Never ((codes "a", with cash Nil) ∷ (codes "b", with cash Nil) ∷ (codes "c", nil) ∷ (codes "d", nil) ∷ []) ≡ Some assets
 the_least_of_two_disallowed_cells = refl
-
--- a single fact of one concept, and two of another
-pub the_only_disallowed_cell : least_disallowed allowed.Never ((codes "a", nil) ∷ (codes "b", with cash Nil) ∷ (codes "c", with cash Nil) ∷ []) ≡ Some cash
-the_only_disallowed_cell = refl
-
-pub single_facts_are_allowed : least_disallowed allowed.Never ((codes "a", with cash Nil) ∷ (codes "b", nil) ∷ []) ≡ None
-single_facts_are_allowed = refl

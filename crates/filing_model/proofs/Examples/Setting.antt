@@ -71,21 +71,15 @@ looks s name concept = (Some s, Ask (Cell name (of_concept concept)))
 abbrev pub query : PeriodFilter → Option Text → PageQuery
 query period after = record { concept = codes "ex:Name"; period = period; after = after }
 
-abbrev pub one : Limit
-one = record { number = 1; within = tt }
-
 abbrev pub two : Limit
 two = record { number = 2; within = tt }
 
 abbrev pub ten : Limit
 ten = record { number = 10; within = tt }
 
--- a page of facts without a period, and one by a period filter
+-- a page of facts without a period
 abbrev pub pages : ℕ → Text → Option Text → Limit → Line
 pages s name after limit = (Some s, Ask (Page name (query Without after) limit))
-
-abbrev pub seeks : ℕ → Text → PeriodFilter → Limit → Line
-seeks s name period limit = (Some s, Ask (Page name (query period None) limit))
 
 abbrev pub adds : ℕ → Text → Text → RawFact → Line
 adds s name id fact = (Some s, Ask (Add name id fact))

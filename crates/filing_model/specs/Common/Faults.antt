@@ -1,4 +1,4 @@
--- The faults that code may answer, beside those of the definitions: want of memory comes in place of any, and says nothing of what was read.
+-- The faults that code may answer, apart from those of the definitions: want of memory comes in place of any, and says nothing of what was read.
 use Rattle.std.specs.Prelude.{Option, None, Some}
 use Rattle.filing_model.specs.declared.faults.DimFault.{DimFault}
 use Rattle.filing_model.specs.declared.faults.DimFault.TheVariants as dim

@@ -82,7 +82,7 @@ abbrev pub written_value : Option Text → FactValue
 written_value None = Nil
 written_value (Some text) = Written text
 
--- a unit, or decimals beside a value
+-- a unit, or decimals with a value
 abbrev pub is_misplaced : RawFact → Bool
 is_misplaced raw = is_some (unit_of raw.dims) || (is_some raw.decimals && is_some raw.value)
 

@@ -31,7 +31,7 @@ split_at_space line = (before_first is_space line, after_first is_space line)
 abbrev pub is_row : Text × Text → Bool
 is_row parts = nat_lt 0 (length parts.0) && nat_lt 0 (length parts.1) && list_all (λ c. not (is_space c)) parts.1
 
--- the row that a line is, which stands beside its number
+-- the row that a line is, which stands with its number
 abbrev pub row_at : ℕ × Text → Result (Text × Text) TableFault
 row_at line = if is_row (split_at_space line.1) then Ok (split_at_space line.1) else Err (BadLine line.0)
 

@@ -25,12 +25,12 @@ nullable_text (Some text) = quoted text
 abbrev pub dims_text : Dims → Text
 dims_text dims = codes "{" ++ (listed false (λ d. member_text d.0 (nullable_text d.1)) dims ++ codes "}")
 
--- the member `decimals` with the comma after it, where there is one
+-- the member `decimals`, if any, with the comma after it
 abbrev pub decimals_text : Option ℤ → Text
 decimals_text None = []
 decimals_text (Some d) = codes "\"decimals\":" ++ (signed_decimal d ++ codes ",")
 
--- the member `links` with the comma before it, where there is one
+-- the member `links`, if any, with the comma before it
 abbrev pub links_text : Option Text → Text
 links_text None = []
 links_text (Some links) = codes ",\"links\":" ++ links
