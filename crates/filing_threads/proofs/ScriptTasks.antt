@@ -1,5 +1,5 @@
 -- Scripts at their desks.
-use Rattle.std.proofs.Common.{◌≡◌, ◌∙◌, ap, sym, subst, refl, arith, ℕ, zero, suc, ◌+◌, ◌<◌, take, get_or, List, [], ◌∷◌, ◌++◌, length, map, Option, Some, None, option_map, Result, Ok, Err, IfOk}
+use Rattle.std.proofs.Common.{◌≡◌, ◌∙◌, ap, sym, subst, refl, arith, Bool, ℕ, zero, suc, ◌+◌, ◌<◌, take, get_or, List, [], ◌∷◌, ◌++◌, length, map, Option, Some, None, option_map, Result, Ok, Err, IfOk}
 use Rattle.std.proofs.lemmas.List.{length-map}
 use Rattle.std.proofs.Math.Seq.{take-suc}
 use Rattle.std.proofs.lemmas.Option.{none-some, same_Some, slice_get-map}
@@ -17,9 +17,8 @@ use Rattle.filing_office.specs.Rans.{IsResultOf, has_task}
 use Rattle.filing_office.specs.declared.desk_task.TaskAtDesk.{TaskAtDesk}
 use Rattle.filing_threads.specs.declared.script_task.ScriptTask.{ScriptTask}
 use Rattle.filing_threads.specs.declared.replies.Replies.{Replies}
-use Rattle.filing_threads.specs.ScriptRuns.{IsScriptRun, EachScriptRun, at_office}
 use Rattle.filing_threads.specs.FoundHistories.{AreRunOn, IsBegunOn, IsScriptRunTo, receipts_in, steps_in}
-use Rattle.filing_threads.specs.Tasks.{IsTaskOf, IsTaskOn, AreLeft, AreTasks, TaskResult, script_leaves}
+use Rattle.filing_threads.specs.Tasks.{IsTask, AreLeft, AreTasks, TaskResult, script_leaves}
 
 module _ {J M : Type 0} (Is : Vec ℕ Global → TaskAtDesk J M ScriptTask → Type 0) where
   -- one task at a desk more
@@ -69,22 +68,18 @@ both_if P Q R (Ok x) join p q = join x p q
 both_if P Q R (Err e) join p q = tt
 
 -- of a script whose replies there are
-run_to : (J : Type 0) (table table' : Table) (script script' : Text) (start start' : RunState) (counted counted' : Tally) (replies replies' : Result Replies AllocError)
-    → table ≡ table' → script ≡ script' → start ≡ start' → counted ≡ counted' → replies ≡ replies' → IfOk replies (IsScriptRunTo J table script start counted)
-    → IfOk replies' (IsScriptRunTo J table' script' start' counted')
-run_to J table table' script script' start start' counted counted' replies replies' t x s c r run =
-    subst (λ (q : Result Replies AllocError). IfOk q (IsScriptRunTo J table' script' start' counted')) r
-    (subst (λ (q : Tally). IfOk replies (IsScriptRunTo J table' script' start' q)) c
-    (subst (λ (q : RunState). IfOk replies (IsScriptRunTo J table' script' q counted)) s
-    (subst (λ (q : Text). IfOk replies (IsScriptRunTo J table' q start counted)) x
-    (subst (λ (q : Table). IfOk replies (IsScriptRunTo J q script start counted)) t run))))
+run_to : (J : Type 0) (journaled journaled' : Bool) (table table' : Table) (script script' : Text) (start start' : RunState) (counted counted' : Tally)
+    (replies replies' : Result Replies AllocError) → journaled ≡ journaled' → table ≡ table' → script ≡ script' → start ≡ start' → counted ≡ counted' → replies ≡ replies'
+    → IfOk replies (IsScriptRunTo J journaled table script start counted) → IfOk replies' (IsScriptRunTo J journaled' table' script' start' counted')
+run_to J journaled journaled' table table' script script' start start' counted counted' replies replies' j t x s c r run =
+    subst (λ (q : Result Replies AllocError). IfOk q (IsScriptRunTo J journaled' table' script' start' counted')) r
+    (subst (λ (q : Tally). IfOk replies (IsScriptRunTo J journaled' table' script' start' q)) c
+    (subst (λ (q : RunState). IfOk replies (IsScriptRunTo J journaled' table' script' q counted)) s
+    (subst (λ (q : Text). IfOk replies (IsScriptRunTo J journaled' table' q start counted)) x
+    (subst (λ (q : Table). IfOk replies (IsScriptRunTo J journaled' q script start counted)) t
+    (subst (λ (q : Bool). IfOk replies (IsScriptRunTo J q table script start counted)) j run)))))
 
-only_run : (J : Type 0) (table : Table) (script : Text) (start : RunState) (counted : Tally) (replies : Result Replies AllocError)
-    → IfOk replies (IsScriptRunTo J table script start counted) → IfOk replies (IsScriptRun J table script start)
-only_run J table script start counted (Ok replies) run = run.run
-only_run J table script start counted (Err e) run = run
-
-module _ {J M : Type 0} (table : Table) (scripts : List (Vec ℕ Global)) (at_desks : List (TaskAtDesk J M ScriptTask)) (counted : List Tally) (all : List (Result Replies AllocError))
+module _ {J M : Type 0} (journaled : Bool) (table : Table) (scripts : List (Vec ℕ Global)) (at_desks : List (TaskAtDesk J M ScriptTask)) (counted : List Tally) (all : List (Result Replies AllocError))
     (left : AreLeft at_desks counted all) where
   -- what the task at this place leaves
   record LeftAt (place : ℕ) (at_desk : TaskAtDesk J M ScriptTask) (replies : Result Replies AllocError) : Type 0 where
@@ -110,19 +105,8 @@ module _ {J M : Type 0} (table : Table) (scripts : List (Vec ℕ Global)) (at_de
   all_many : length all ≡ length at_desks
   all_many = ap length left.replies_are ∙ length-map left.lefts (λ (l : TaskResult). l.2) ∙ lefts_many
 
-  pub each_run : AreTasks (IsTaskOf table) scripts at_desks → EachScriptRun J table scripts all
-  each_run are = record {
-    all_run = all_many ∙ tasks_many (IsTaskOf table) scripts at_desks are;
-    each = λ place script replies at_script at_replies.
-        let (at_desk, at_seat, task) = task_at (IsTaskOf table) scripts at_desks place script are at_script in
-        let l = left_at place at_desk replies at_seat at_replies in
-        only_run J table script.items at_office l.is_left.left.tally replies
-        (run_to J (arc_value at_desk.task.table.now) table at_desk.task.script.now script.items (has_task at_desk) at_office
-        l.is_left.left.tally l.is_left.left.tally l.its.2 replies task.table_is task.script_is task.begins refl l.replies_are l.is_left.is_left);
-  }
-
   module _ (h : History) (many : ℕ) (known : many ≡ (repository h).count + 1) where
-    begun_on : (script : Vec ℕ Global) (at_desk : TaskAtDesk J M ScriptTask) → IsTaskOn many table script at_desk → IsBegunOn h (has_task at_desk)
+    begun_on : (script : Vec ℕ Global) (at_desk : TaskAtDesk J M ScriptTask) → IsTask many journaled table script at_desk → IsBegunOn h (has_task at_desk)
     begun_on script at_desk task = record {
       names = refl;
       seen = task.seen;
@@ -131,19 +115,19 @@ module _ {J M : Type 0} (table : Table) (scripts : List (Vec ℕ Global)) (at_de
       many = task.has_seen.1 ∙ known;
     }
 
-    pub each_run_on : AreTasks (IsTaskOn many table) scripts at_desks
+    pub each_run_on : AreTasks (IsTask many journaled table) scripts at_desks
         → steps_in (map (λ (x : TaskAtDesk J M ScriptTask). x.desk) at_desks) ≡ length h
         → receipts_in (map (λ (x : TaskAtDesk J M ScriptTask). x.desk) at_desks) ≡ (repository h).count
-        → AreRunOn J table scripts h counted all
+        → AreRunOn J journaled table scripts h counted all
     each_run_on are steps receipts =
         let starts = map has_task at_desks in
         let desks_are : map (λ (s : RunState). s.tally) starts ≡ map (λ (x : TaskAtDesk J M ScriptTask). x.desk) at_desks = tallies_of at_desks in record {
           starts = starts;
-          all_run = all_many ∙ tasks_many (IsTaskOn many table) scripts at_desks are;
-          all_started = length-map at_desks has_task ∙ tasks_many (IsTaskOn many table) scripts at_desks are;
-          all_counted = ap length left.desks_are ∙ length-map left.lefts (λ (l : TaskResult). l.0) ∙ lefts_many ∙ tasks_many (IsTaskOn many table) scripts at_desks are;
+          all_run = all_many ∙ tasks_many (IsTask many journaled table) scripts at_desks are;
+          all_started = length-map at_desks has_task ∙ tasks_many (IsTask many journaled table) scripts at_desks are;
+          all_counted = ap length left.desks_are ∙ length-map left.lefts (λ (l : TaskResult). l.0) ∙ lefts_many ∙ tasks_many (IsTask many journaled table) scripts at_desks are;
           each = λ place script replies start tally at_script at_replies at_start at_tally.
-              let (at_desk, at_seat, task) = task_at (IsTaskOn many table) scripts at_desks place script are at_script in
+              let (at_desk, at_seat, task) = task_at (IsTask many journaled table) scripts at_desks place script are at_script in
               let l = left_at place at_desk replies at_seat at_replies in
               let start_is : has_task at_desk ≡ start =
               same_Some (has_task at_desk) start (sym (ap (option_map has_task) at_seat) ∙ sym (slice_get-map has_task at_desks place) ∙ at_start) in
@@ -151,8 +135,8 @@ module _ {J M : Type 0} (table : Table) (scripts : List (Vec ℕ Global)) (at_de
               same_Some l.its.0 tally (sym (ap (option_map (λ (l : TaskResult). l.0)) l.at_place) ∙ sym (slice_get-map (λ (l : TaskResult). l.0) left.lefts place)
               ∙ ap (λ xs. slice_get xs place) (sym left.desks_are) ∙ at_tally) in (
                 subst (IsBegunOn h) start_is (begun_on script at_desk task),
-                run_to J (arc_value at_desk.task.table.now) table at_desk.task.script.now script.items (has_task at_desk) start
-                    l.is_left.left.tally tally l.its.2 replies task.table_is task.script_is start_is (sym l.is_left.desk ∙ tally_is) l.replies_are l.is_left.is_left,
+                run_to J at_desk.task.journaled journaled (arc_value at_desk.task.table.now) table at_desk.task.script.now script.items (has_task at_desk) start
+                    l.is_left.left.tally tally l.its.2 replies task.journaled_is task.table_is task.script_is start_is (sym l.is_left.desk ∙ tally_is) l.replies_are l.is_left.is_left,
               );
           steps_before = ap steps_in desks_are ∙ steps;
           receipts_before = ap receipts_in desks_are ∙ receipts;

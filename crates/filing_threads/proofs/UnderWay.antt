@@ -1,6 +1,6 @@
 -- A script, batch by batch.
 use Rattle.std.proofs.lemmas.List.{take_rest}
-use Rattle.std.proofs.Common.{ℕ, ◌-◌, length, take, drop, ◌≡◌, ◌∙◌, ap, sym, subst, refl, Bool, true, false, List, [], ◌∷◌, ◌++◌, append_assoc, append-nil, Result, Ok, Err, Option, string_bytes}
+use Rattle.std.proofs.Common.{ℕ, ◌+◌, ◌-◌, arith, length, length-append, take, drop, ◌≡◌, ◌∙◌, ap, sym, subst, refl, Bool, true, false, List, [], ◌∷◌, ◌++◌, append_assoc, append-nil, Result, Ok, Err, Option, string_bytes}
 use Rattle.std.specs.declared.alloc.AllocError.{AllocError}
 use Rattle.std.specs.Prelude.{OnOk, OnErr}
 use Rattle.filing_model.specs.Common.Text.{Text}
@@ -13,9 +13,10 @@ use Rattle.filing_office.specs.Runs.{NamedDeskState, RunState, Runs, IsLearnt, L
 use Rattle.filing_office.specs.declared.outcome.Outcome.{Outcome}
 use Rattle.filing_office.proofs.LearntBetween.{IsAhead, not_ahead, runs_behind, runs_further, learns_ahead, learns_some_ahead}
 use Rattle.filing_threads.specs.declared.batch.Batch.{Batch}
-use Rattle.filing_threads.specs.declared.replies.Ending.TheVariants.{Whole, StepStarved, LineStarved}
+use Rattle.filing_threads.specs.declared.replies.Ending.TheVariants.{Whole, StepStarved, LineStarved, TooDeep}
 use Rattle.filing_threads.specs.declared.replies.Replies.{Replies}
 use Rattle.filing_threads.specs.Batches.{AreBatch}
+use Rattle.filing_threads.specs.Lines.{BeginsDeep}
 use Rattle.filing_threads.specs.Telling.{replies_of}
 use Rattle.filing_threads.specs.ScriptRuns.{EndsSo}
 use Rattle.filing_threads.specs.FoundHistories.{IsScriptRunTo}
@@ -23,8 +24,8 @@ use Rattle.filing_threads.specs.UnderWay.{IsUnderWay, TakesBatch, KeptBy}
 use Rattle.filing_threads.proofs.JudgedScripts.{judged_further, all_used, none_starved, replies_further, told_further, used_told, used_further}
 use Rattle.filing_threads.proofs.ToldReplies.{lines_of_none}
 
-pub begins : (J : Type 0) (table : Table) (script : Text) (start : RunState) → IsUnderWay {J = J} table script script start start [] []
-begins J table script start = record {
+pub begins : (J : Type 0) (journaled : Bool) (table : Table) (script : Text) (start : RunState) → IsUnderWay {J = J} journaled table script script start start [] [] 0
+begins J journaled table script start = record {
   lines = [];
   parts = refl;
   told = [];
@@ -38,6 +39,8 @@ begins J table script start = record {
   runs = (refl, refl);
   ahead = not_ahead J start;
   text_is = sym lines_of_none;
+  many = refl;
+  fewer = omega arith;
 }
 
 drop_behind : {X : Type 0} (xs ys : List X) → drop (length xs) (xs ++ ys) ≡ ys
@@ -80,10 +83,10 @@ let_go end mid t gone all kept ahead (Err e) learns is = record {
   ahead = learns_some_ahead end mid t gone all mid.seen (Unit {0}) AllocError e ahead refl learns;
 }
 
-module _ {J : Type 0} (table : Table) (script rest : Text) (start now : RunState) (kept : List (Outcome J)) (text : Text)
-    (way : IsUnderWay table script rest start now kept text) where
+module _ {J : Type 0} (journaled : Bool) (table : Table) (script rest : Text) (start now : RunState) (kept : List (Outcome J)) (text : Text) (answered : ℕ)
+    (way : IsUnderWay journaled table script rest start now kept text answered) where
   module _ (rest' : Text) (batch : Batch) (t : RunState) (kept' : List (Outcome J)) (text' : Text)
-      (read : AreBatch table rest rest' batch) where
+      (read : AreBatch journaled table rest rest' batch) where
     abbrev Taken : Bool → Type 0
     Taken whole = TakesBatch batch.told.items batch.steps.items now t kept kept' text text' whole
 
@@ -110,7 +113,7 @@ module _ {J : Type 0} (table : Table) (script rest : Text) (start now : RunState
           ahead,
         )
 
-    pub goes_on : Taken true → IsUnderWay table script rest' start t kept' text'
+    pub goes_on : Taken true → IsUnderWay journaled table script rest' start t kept' text' (answered + length batch.told.items)
     goes_on takes =
         let (end, runs, ahead) = runs_on true takes in
         let (result, learns, is) = takes.lets_go in
@@ -119,21 +122,23 @@ module _ {J : Type 0} (table : Table) (script rest : Text) (start now : RunState
           parts = parts_further;
           told = way.told ++ batch.told.items;
           steps = way.steps ++ batch.steps.items;
-          judged = judged_further table way.lines read.lines way.told batch.told.items way.steps batch.steps.items way.judged read.judged;
+          judged = judged_further journaled table way.lines read.lines way.told batch.told.items way.steps batch.steps.items way.judged read.judged;
           outcomes = way.outcomes ++ takes.outcomes;
           gone = gone.more_gone;
           are = ap (λ os. os ++ takes.outcomes) way.are ∙ append_assoc way.gone kept takes.outcomes ∙ gone.are;
           used = used_further way.told batch.told.items way.outcomes takes.outcomes way.used
-              (all_used table read.lines batch.told.items batch.steps.items now takes.mid kept takes.outcomes read.judged takes.runs (sym takes.whole_is));
+              (all_used journaled table read.lines batch.told.items batch.steps.items now takes.mid kept takes.outcomes read.judged takes.runs (sym takes.whole_is));
           left = end;
           runs = runs;
           ahead = gone.ahead;
           text_is = text_further true takes;
+          many = ap (λ (n : ℕ). n + length batch.told.items) way.many ∙ sym (length-append way.told batch.told.items);
+          fewer = omega (arith, way.fewer, read.fewer);
         }
 
     -- a step for which memory was wanted is the last
     pub stops : Taken false → (replies : Replies) → string_bytes replies.text ≡ text' → replies.ending ≡ StepStarved
-        → (counted : Tally) → counted ≡ t.tally → IsScriptRunTo J table script start counted replies
+        → (counted : Tally) → counted ≡ t.tally → IsScriptRunTo J journaled table script start counted replies
     stops takes replies is starved counted same =
         let (end, runs, ahead) = runs_on false takes in
         let (result, learns, kept_is) = takes.lets_go in
@@ -144,19 +149,19 @@ module _ {J : Type 0} (table : Table) (script rest : Text) (start now : RunState
             parts = parts_further;
             told = way.told ++ batch.told.items;
             steps = way.steps ++ batch.steps.items;
-            judged = judged_further table way.lines read.lines way.told batch.told.items way.steps batch.steps.items way.judged read.judged;
+            judged = judged_further journaled table way.lines read.lines way.told batch.told.items way.steps batch.steps.items way.judged read.judged;
             outcomes = way.outcomes ++ takes.outcomes;
             left = end;
             runs = runs;
             text = is ∙ text_further false takes;
-            ends = subst (λ e. EndsSo e (spoken (lines_of rest')) (way.told ++ batch.told.items) (way.outcomes ++ takes.outcomes)) (sym starved)
+            ends = subst (λ e. EndsSo journaled table e (spoken (lines_of rest')) (way.told ++ batch.told.items) (way.outcomes ++ takes.outcomes)) (sym starved)
                 (told_further way.told batch.told.items way.outcomes takes.outcomes way.used ∙ sym takes.whole_is);
           };
           counts = sym (same ∙ gone.ahead.tally);
         }
 
-  run_of : (replies : Replies) → string_bytes replies.text ≡ text → EndsSo replies.ending (spoken (lines_of rest)) way.told way.outcomes
-      → (counted : Tally) → counted ≡ now.tally → IsScriptRunTo J table script start counted replies
+  run_of : (replies : Replies) → string_bytes replies.text ≡ text → EndsSo journaled table replies.ending (spoken (lines_of rest)) way.told way.outcomes
+      → (counted : Tally) → counted ≡ now.tally → IsScriptRunTo J journaled table script start counted replies
   run_of replies is ends counted same = record {
     run = record {
       lines = way.lines;
@@ -176,16 +181,25 @@ module _ {J : Type 0} (table : Table) (script rest : Text) (start now : RunState
 
   -- no line is left
   pub ends_whole : spoken (lines_of rest) ≡ [] → (replies : Replies) → string_bytes replies.text ≡ text → replies.ending ≡ Whole
-      → (counted : Tally) → counted ≡ now.tally → IsScriptRunTo J table script start counted replies
+      → (counted : Tally) → counted ≡ now.tally → IsScriptRunTo J journaled table script start counted replies
   ends_whole none replies is whole counted same =
       run_of replies is
-      (subst (λ e. EndsSo e (spoken (lines_of rest)) way.told way.outcomes) (sym whole) (none, used_told way.told way.outcomes way.used))
+      (subst (λ e. EndsSo journaled table e (spoken (lines_of rest)) way.told way.outcomes) (sym whole) (none, used_told way.told way.outcomes way.used))
       counted same
 
   -- memory was wanted while the next lines were classified
   pub ends_starved : (replies : Replies) → string_bytes replies.text ≡ text → replies.ending ≡ LineStarved
-      → (counted : Tally) → counted ≡ now.tally → IsScriptRunTo J table script start counted replies
+      → (counted : Tally) → counted ≡ now.tally → IsScriptRunTo J journaled table script start counted replies
   ends_starved replies is starved counted same =
       run_of replies is
-      (subst (λ e. EndsSo e (spoken (lines_of rest)) way.told way.outcomes) (sym starved) (used_told way.told way.outcomes way.used))
+      (subst (λ e. EndsSo journaled table e (spoken (lines_of rest)) way.told way.outcomes) (sym starved) (used_told way.told way.outcomes way.used))
+      counted same
+
+  -- the next line nests too deep for the journal
+  pub ends_deep : BeginsDeep journaled table (spoken (lines_of rest)) → (replies : Replies) → string_bytes replies.text ≡ text → replies.ending ≡ TooDeep (answered + 1)
+      → (counted : Tally) → counted ≡ now.tally → IsScriptRunTo J journaled table script start counted replies
+  ends_deep deep replies is ending counted same =
+      run_of replies is
+      (subst (λ e. EndsSo journaled table e (spoken (lines_of rest)) way.told way.outcomes) (sym ending)
+      (deep, used_told way.told way.outcomes way.used, ap (λ (n : ℕ). n + 1) way.many))
       counted same

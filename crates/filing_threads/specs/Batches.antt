@@ -1,5 +1,5 @@
 -- The lines of a script that are classified as one batch. The project's own.
-use Rattle.std.specs.Prelude.{◌≡◌, ◌<◌, List, [], ◌∷◌, ◌++◌, length}
+use Rattle.std.specs.Prelude.{◌≡◌, ◌+◌, ◌<◌, ◌≤◌, Bool, true, MatchBool, List, [], ◌∷◌, ◌++◌, length}
 use Rattle.std.specs.declared.alloc.Global.{Global}
 use Rattle.std.specs.declared.string.String.{String}
 use Rattle.std.specs.Prelude.{Option, Some, None, string_bytes}
@@ -11,9 +11,9 @@ use Rattle.filing_model.specs.Oim.Facts.{Table}
 use Rattle.line_io.specs.Lines.{lines_of, spoken}
 use Rattle.filing_office.specs.declared.work.DeskStep.{DeskStep}
 use Rattle.filing_threads.specs.declared.batch.Batch.{Batch}
-use Rattle.filing_threads.specs.Lines.{AreJudged}
+use Rattle.filing_threads.specs.Lines.{AreJudged, BeginsDeep, IsDeepLine}
 
--- a line that was classified so is put behind those of a batch
+-- a line that was classified so is appended to those of a batch
 abbrev pub Adds : LineOutcome → List (Option (String Global)) → List (Option (String Global))
     → List DeskStep → List DeskStep → Type 0
 Adds (ReplyNow text) told told' steps steps' = (told' ≡ told ++ Some text ∷ []) × (steps' ≡ steps)
@@ -24,18 +24,26 @@ Adds (StepDue name step) told told' steps steps' =
 
 abbrev pub AddsJudged : LineOutcome → Batch → Batch → Type 0
 AddsJudged j old new = Adds j old.told.items new.told.items old.steps.items new.steps.items
+    × (new.ends_deep ≡ old.ends_deep)
 
 -- one more line is classified behind those of a batch
-pub record AddsLine (table : Table) (line : Text) (old new : Batch) : Type 0 where
+pub record AddsLine (journaled : Bool) (table : Table) (line : Text) (old new : Batch) : Type 0 where
   pub told : List (Option (String Global))
   pub steps : List DeskStep
   pub told_are : new.told.items ≡ old.told.items ++ told
   pub steps_are : new.steps.items ≡ old.steps.items ++ steps
-  pub judged : AreJudged table (line ∷ []) told steps
+  pub judged : AreJudged journaled table (line ∷ []) told steps
+  pub same_end : new.ends_deep ≡ old.ends_deep
 
--- the first lines of a text that are not blank are classified, and the others are to come
-pub record AreBatch (table : Table) (text rest : Text) (batch : Batch) : Type 0 where
+-- it is added, or it nests too deep for the journal, and the batch ends before it
+abbrev pub Judges : Bool → Table → Text → Batch → Batch → Bool → Type 0
+Judges journaled table line old new added =
+    MatchBool added (AddsLine journaled table line old new) (IsDeepLine journaled table line × (new ≡ record old { ends_deep = true }))
+
+-- the first lines of a text that are not blank are classified, and the others are to come; a batch without a line ends before one that nests too deep
+pub record AreBatch (journaled : Bool) (table : Table) (text rest : Text) (batch : Batch) : Type 0 where
   pub lines : List Text
   pub parts : spoken (lines_of text) ≡ lines ++ spoken (lines_of rest)
-  pub judged : AreJudged table lines batch.told.items batch.steps.items
-  pub shorter : length rest < length text
+  pub judged : AreJudged journaled table lines batch.told.items batch.steps.items
+  pub fewer : length batch.told.items + length rest ≤ length text
+  pub ends : MatchBool batch.ends_deep (BeginsDeep journaled table (spoken (lines_of rest))) (length rest < length text)

@@ -13,4 +13,5 @@ pub mod Retaking
 pub mod Tasks
 -- ---- journals
 pub mod KeptEntries
+pub mod DeepLines
 pub mod KeptThreads

@@ -1,5 +1,5 @@
 -- Scripts with their desks and reviewers: private to the crate.
-use Rattle.std.specs.Prelude.{◌≡◌, ℕ, List, [], ◌∷◌, map, sum, Option, Some, Result, IfOk}
+use Rattle.std.specs.Prelude.{◌≡◌, ℕ, Bool, List, [], ◌∷◌, map, sum, Option, Some, Result, IfOk}
 use Rattle.std.specs.Arc.{arc_value}
 use Rattle.std.specs.declared.alloc.AllocError.{AllocError}
 use Rattle.std.specs.declared.alloc.Global.{Global}
@@ -8,29 +8,22 @@ use Rattle.filing_model.specs.Oim.Facts.{Table}
 use Rattle.filing_model.specs.Sessions.Repository.{Repository}
 use Rattle.filing_office.specs.Tallies.{Tally}
 use Rattle.filing_office.specs.Runs.{RunState}
-use Rattle.filing_office.specs.Rans.{has_task, EachResult}
+use Rattle.filing_office.specs.Rans.{EachResult}
 use Rattle.filing_office.specs.declared.desk_task.TaskAtDesk.{TaskAtDesk}
 use Rattle.filing_threads.specs.declared.replies.Replies.{Replies}
 use Rattle.filing_threads.specs.declared.script_task.ScriptTask.{ScriptTask}
-use Rattle.filing_threads.specs.ScriptRuns.{at_office}
 use Rattle.filing_threads.specs.FoundHistories.{IsScriptRunTo}
 use Rattle.filing_threads.specs.Retaking.{HasSeen}
 
 -- ---- before the tasks
 
--- the task at this desk is to run the script, at an office where nothing was done
-pub record IsTaskOf {J M : Type 0} (table : Table) (script : Vec ℕ Global) (at_desk : TaskAtDesk J M ScriptTask)
-    : Type 0 where
-  pub script_is : at_desk.task.script.now ≡ script.items
-  pub table_is : arc_value at_desk.task.table.now ≡ table
-  pub begins : has_task at_desk ≡ at_office
-
--- the same at an office whose reviewers have seen so many versions
-pub record IsTaskOn {J M : Type 0} (many : ℕ) (table : Table) (script : Vec ℕ Global)
+-- the task at this desk is to run the script, with a reviewer that has seen so many versions
+pub record IsTask {J M : Type 0} (many : ℕ) (journaled : Bool) (table : Table) (script : Vec ℕ Global)
     (at_desk : TaskAtDesk J M ScriptTask)
     : Type 0 where
   pub script_is : at_desk.task.script.now ≡ script.items
   pub table_is : arc_value at_desk.task.table.now ≡ table
+  pub journaled_is : at_desk.task.journaled ≡ journaled
   pub seen : List Repository
   pub seen_is : at_desk.reviewer ≡ Some seen
   pub has_seen : HasSeen many seen
@@ -52,7 +45,7 @@ AreAtDesks {J} {M} desks at_desks =
 -- what a script leaves
 abbrev pub script_leaves : (J : Type 0) → ScriptTask → RunState → RunState → Result Replies AllocError → Type 0
 script_leaves J task s t replies =
-    IfOk replies (IsScriptRunTo J (arc_value task.table.now) task.script.now s t.tally)
+    IfOk replies (IsScriptRunTo J task.journaled (arc_value task.table.now) task.script.now s t.tally)
 
 abbrev pub TaskResult : Type 0
 TaskResult = Tally × Option (List Repository) × Result Replies AllocError

@@ -1,5 +1,5 @@
 -- A script between two batches of its lines: private to the crate.
-use Rattle.std.specs.Prelude.{◌≡◌, Bool, List, [], ◌++◌, Option, Result, Ok, Err}
+use Rattle.std.specs.Prelude.{◌≡◌, ℕ, ◌+◌, ◌≤◌, Bool, List, [], ◌++◌, length, Option, Result, Ok, Err}
 use Rattle.std.specs.declared.alloc.AllocError.{AllocError}
 use Rattle.std.specs.declared.alloc.Global.{Global}
 use Rattle.std.specs.declared.string.String.{String}
@@ -32,13 +32,13 @@ pub record TakesBatch {J : Type 0} (told : List (Option (String Global))) (steps
   pub lets_go : LetsGo mid t (kept ++ outcomes) kept'
 
 -- the lines before the rest are classified and answered, by the outcomes that are kept and others that were let go
-pub record IsUnderWay {J : Type 0} (table : Table) (script rest : Text) (start now : RunState) (kept : List (Outcome J))
-    (text : Text) : Type 0 where
+pub record IsUnderWay {J : Type 0} (journaled : Bool) (table : Table) (script rest : Text) (start now : RunState) (kept : List (Outcome J))
+    (text : Text) (answered : ℕ) : Type 0 where
   pub lines : List Text
   pub parts : spoken (lines_of script) ≡ lines ++ spoken (lines_of rest)
   pub told : List (Option (String Global))
   pub steps : List DeskStep
-  pub judged : AreJudged table lines told steps
+  pub judged : AreJudged journaled table lines told steps
   pub outcomes : List (Outcome J)
   pub gone : List (Outcome J)
   pub are : outcomes ≡ gone ++ kept
@@ -47,3 +47,5 @@ pub record IsUnderWay {J : Type 0} (table : Table) (script rest : Text) (start n
   pub runs : Runs start left [] steps outcomes
   pub ahead : IsAhead left now gone
   pub text_is : text ≡ lines_text (replies_of told outcomes)
+  pub many : answered ≡ length told
+  pub fewer : answered + length rest ≤ length script

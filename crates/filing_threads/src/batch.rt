@@ -1,11 +1,16 @@
 //! The lines of a script, some at a time.
 
-ghost use Rattle.std.specs.Prelude.{◌≡◌, [], IfOk, MatchOption, OnOk};
+ghost use Rattle.std.specs.Prelude.{◌≡◌, [], false, not, None, IfOk, MatchOption, OnOk};
 ghost use Rattle.std.specs.Arc.{arc_value};
 ghost use Rattle.line_io.specs.Lines.{lines_of, spoken};
-ghost use Rattle.filing_threads.specs.Batches.{AddsJudged, AddsLine, AreBatch};
+ghost use Rattle.filing_threads.specs.Batches.{AddsJudged, AreBatch, Judges};
+ghost use Rattle.filing_step.specs.Steps.{step_of};
+ghost use Rattle.history_format.specs.Nesting.{begins_shallow};
+ghost use Rattle.filing_threads.specs.Lines.{is_left_out};
 
 use filing_office::DeskStep;
+use filing_step::Step;
+use history_format::{is_too_deep, push_entry_start};
 use json::Scratch;
 use line_io::next_line;
 use oim_fact::NumericTable;
@@ -13,11 +18,37 @@ use script_format::{LineOutcome, bad_line_reply, classify_line_in};
 use std::alloc::{AllocError, Global};
 use std::sync::Arc;
 
-/// So many lines are classified at most before their steps are taken. The steps of many lines, one after another, find what they work on where the ones before have left it, near their processor.
+/// Lines that are classified at most before their steps are taken.
+/// The steps of many lines, one after another, find what they work on where the ones before have left it, near their processor.
 const MOST_LINES: usize = 2048;
 
-/// So many bytes these lines have at most, unless it is one line, since what is read of them is held.
+/// Bytes of these lines at most, unless it is one line, since what is read of them is held.
 const MOST_BYTES: usize = 1_048_576;
+
+/// Bytes taken at first for the beginning of an entry. Most begin with no more.
+const LIKELY: usize = 512;
+
+/// Whether the entry of a step nests too deep for a journal. No entry nests deeper by its session or its reply.
+fn begins_deep(alloc: Global, step: &Step) -> Result<bool, AllocError>
+    ensures { IfOk result (λ deep. deep ≡ not (begins_shallow None (step_of step.now))) }
+{
+    let mut begun = String::with_capacity(alloc, LIKELY)?;
+    push_entry_start(&mut begun, None, step)?;
+    Ok(is_too_deep(begun.as_bytes()))
+}
+
+/// Whether a line is left out, since it takes a step whose entry nests too deep for the journal that is kept.
+fn is_left_out(alloc: Global, journaled: bool, outcome: &LineOutcome) -> Result<bool, AllocError>
+    ensures { IfOk result (λ left_out. left_out ≡ is_left_out journaled outcome.now) }
+{
+    if !journaled {
+        return Ok(false);
+    }
+    match outcome {
+        LineOutcome::StepDue { step, .. } => begins_deep(alloc, step),
+        LineOutcome::ReplyNow(_) | LineOutcome::Export(_) => Ok(false),
+    }
+}
 
 /// Lines of a script that are classified.
 #[derive(Drop)]
@@ -26,16 +57,20 @@ pub(crate) struct Batch {
     pub(crate) told: Vec<Option<String>>,
     /// The steps, in the order of their lines.
     pub(crate) steps: Vec<DeskStep>,
+    /// Whether the next line is left out since the entry of its step would nest too deep for the journal.
+    pub(crate) ends_deep: bool,
 }
 
 impl Batch {
     fn new(alloc: Global) -> Batch
         ensures told { result.told.items ≡ [] }
         ensures steps { result.steps.items ≡ [] }
+        ensures none_deep { result.ends_deep ≡ false }
     {
         Batch {
             told: Vec::new(alloc),
             steps: Vec::new(alloc),
+            ends_deep: false,
         }
     }
 
@@ -57,35 +92,47 @@ impl Batch {
         }
     }
 
-    /// Classifies one more line.
+    /// Classifies one more line and adds it, unless it nests too deep for a journal that is kept. Returns whether it is added.
     fn judge(
         &mut self,
         alloc: Global,
         line: &[u8],
         table: &Arc<NumericTable>,
+        journaled: bool,
         room: &mut Scratch,
-    ) -> Result<(), AllocError>
-        ensures { OnOk result (AddsLine (arc_value table.now) line.now self.old self.new) }
+    ) -> Result<bool, AllocError>
+        ensures { IfOk result (Judges journaled (arc_value table.now) line.now self.old self.new) }
     {
         let judged = classify_line_in(alloc, line, table, room)?;
-        self.push(alloc, judged)
+        if is_left_out(alloc, journaled, &judged)? {
+            drop(judged);
+            self.ends_deep = true;
+            return Ok(false);
+        }
+        self.push(alloc, judged)?;
+        Ok(true)
     }
 
-    /// Classifies the first lines of a text that are not blank, up to `MOST_LINES` lines and `MOST_BYTES` bytes, and gives what follows them; none where there is no such line.
+    /// Classifies the first lines of a text that are not blank, and gives what follows them; none where there is no such line.
+    ///
+    /// They are at most `MOST_LINES` with `MOST_BYTES`, and end before a line that nests too deep for a journal, where one is kept.
     pub(crate) fn read<'a>(
         alloc: Global,
         text: &'a [u8],
         table: &Arc<NumericTable>,
+        journaled: bool,
     ) -> Result<Option<(Batch, &'a [u8])>, AllocError>
         ensures { IfOk result (λ read. MatchOption read (spoken (lines_of text.now) ≡ [])
-            (λ b. AreBatch (arc_value table.now) text.now b.1.now b.0)) }
+            (λ b. AreBatch journaled (arc_value table.now) text.now b.1.now b.0)) }
     {
         let Some((line, others)) = next_line(text) else {
             return Ok(None);
         };
         let mut batch = Batch::new(alloc);
         let mut room = Scratch::new(alloc);
-        batch.judge(alloc, line, table, &mut room)?;
+        if !batch.judge(alloc, line, table, journaled, &mut room)? {
+            return Ok(Some((batch, text)));
+        }
         let mut rest = others;
         let mut bytes = line.len();
         for _ in 1..MOST_LINES {
@@ -96,7 +143,9 @@ impl Batch {
             if bytes > MOST_BYTES {
                 break;
             }
-            batch.judge(alloc, line, table, &mut room)?;
+            if !batch.judge(alloc, line, table, journaled, &mut room)? {
+                return Ok(Some((batch, rest)));
+            }
             rest = others;
         }
         Ok(Some((batch, rest)))

@@ -1,4 +1,4 @@
-//! `ThreadsFault`: why scripts did not run to their ends in threads.
+//! `ThreadsFault`: why scripts did not run to their ends in threads. `JournaledFault`: the same with a journal.
 
 use std::alloc::{AllocError, AllocFailed};
 use thiserror::Error;
@@ -12,6 +12,26 @@ pub enum ThreadsFault {
     NoMemory,
     #[error("a reviewer was refused a place")]
     NoPlace,
+}
+
+/// A line of a script before which its run ended, since the entry of its step would nest too deep for the journal.
+#[derive(Clone, Copy, Debug, PartialEq, Eq, Hash)]
+pub struct DeepLine {
+    /// The place of the script among the others, from 0.
+    pub script: usize,
+    /// The number of the line in its script, from 1, without blank lines.
+    pub line: usize,
+}
+
+/// Why scripts with a journal did not run to their ends.
+#[derive(Clone, Copy, Debug, PartialEq, Eq, Hash, Error)]
+pub enum JournaledFault {
+    /// `Write` is also reported where the journal took no more: it has stopped then, or is full.
+    #[error("scripts with a journal did not run to their ends")]
+    Threads(ThreadsFault),
+    /// The journal has what all scripts made before, and their replies are written. Of several such lines, that of the first script.
+    #[error("a line nests too deep for the journal")]
+    TooDeep(DeepLine),
 }
 
 impl From<AllocError> for ThreadsFault {

@@ -19,6 +19,8 @@ pub(crate) enum Ending {
     StepStarved,
     /// Out of memory while lines were classified. The lines before them have their replies.
     LineStarved,
+    /// The line of this number, from 1 without blank lines, nests too deep for the journal. The lines before it have their replies.
+    TooDeep(usize),
 }
 
 /// The replies to the lines of a script.
@@ -29,7 +31,7 @@ pub(crate) struct Replies {
     pub(crate) ending: Ending,
 }
 
-/// Appends the reply that an outcome is; nothing where it is out of memory. Whether there is one.
+/// Appends the reply that an outcome is. Returns false, and appends nothing, where it is out of memory.
 fn push_outcome<J: Naming>(text: &mut String, outcome: &Outcome<J>) -> Result<bool, AllocError>
     ensures { IfOk result (λ there. GrowsBy (outcome_text outcome.now) there (string_bytes text.old)
         (string_bytes text.new)) }
@@ -43,7 +45,8 @@ fn push_outcome<J: Naming>(text: &mut String, outcome: &Outcome<J>) -> Result<bo
     Ok(true)
 }
 
-/// Appends the reply to the next line: the one at once, or that of the next outcome. Whether it has one: it has none where that outcome is out of memory, or where no outcome is left.
+/// Appends the reply to the next line: the one at once, or that of the next outcome.
+/// Returns false where that outcome is out of memory, or no outcome is left.
 fn push_next<J: Naming>(
     text: &mut String,
     told: &Option<String>,
@@ -62,7 +65,8 @@ fn push_next<J: Naming>(
     }
 }
 
-/// Appends the replies of some lines, each ended by a line feed: those to lines that are replied to at once, and between them what became of the steps. It ends at the first step that ran out of memory. Whether each line has its reply.
+/// Appends the replies of some lines, each ended by a line feed: those at once, and between them what became of the steps.
+/// It ends at the first step that ran out of memory. Returns whether each line has its reply.
 pub(crate) fn push_replies<J: Naming>(
     text: &mut String,
     told: &[Option<String>],

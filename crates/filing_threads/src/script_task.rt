@@ -20,6 +20,8 @@ use std::sync::ledger::Ledger;
 pub(crate) struct ScriptTask<'a> {
     pub(crate) script: &'a [u8],
     pub(crate) table: &'a Arc<NumericTable>,
+    /// Whether a journal is to have the entries of its steps.
+    pub(crate) journaled: bool,
 }
 
 /// Drops the outcomes of steps, each of which may keep a version, if their receipts are learnt. If not, all are kept.
@@ -32,7 +34,9 @@ fn let_go<J: Naming>(learnt: Result<(), AllocError>, outcomes: &mut Vec<Outcome<
     }
 }
 
-/// Takes the steps of some lines, and appends the replies to them. Whether each line has its reply. The receipts are learnt before the lock is given back: the reviewer then drops a version with pages that other threads asked for, and would hold these up while they have the lock.
+/// Runs a batch and appends its replies. Returns false if a step ran out of memory.
+/// The receipts are learnt before the lock is given back: the reviewer then drops a version with pages that other threads asked for,
+/// and would hold these up while they have the lock.
 fn take_batch<L: Ledger + Naming, M: Ledger, A: Access<L, M>, G: Gate>(
     access: &mut A,
     gate: &G,
@@ -52,7 +56,7 @@ fn take_batch<L: Ledger + Naming, M: Ledger, A: Access<L, M>, G: Gate>(
         drop(batch);
         return Err(error);
     }
-    let Batch { told, steps } = batch;
+    let Batch { told, steps, .. } = batch;
     take_steps(access, gate, place, named_desk, steps, outcomes);
     let learnt = named_desk.learn(outcomes);
     access.leave();
@@ -63,10 +67,13 @@ fn take_batch<L: Ledger + Naming, M: Ledger, A: Access<L, M>, G: Gate>(
     Ok(whole)
 }
 
-/// Classifies the lines of a script and takes their steps, some at a time: while the steps of other scripts are taken, lines are classified and replies are put together.
+/// Classifies the lines of a script and takes their steps, some at a time.
+///
+/// While the steps of other scripts are taken, lines are classified and replies are put together.
 fn take_lines<L: Ledger + Naming, M: Ledger, A: Access<L, M>, G: Gate>(
     alloc: Global,
     table: &Arc<NumericTable>,
+    journaled: bool,
     script: &[u8],
     access: &mut A,
     gate: &G,
@@ -74,20 +81,23 @@ fn take_lines<L: Ledger + Naming, M: Ledger, A: Access<L, M>, G: Gate>(
     named_desk: &mut NamedDesk<L, M>,
 ) -> Result<Replies, AllocError>
     requires { (told : List (Told L)) → IsLearnt named_desk.old told }
-    ensures { IfOk result (IsScriptRunTo L (arc_value table.now) script.now named_desk.old.state
+    ensures { IfOk result (IsScriptRunTo L journaled (arc_value table.now) script.now named_desk.old.state
         named_desk.new.state.tally) }
 {
     let mut outcomes = Vec::new(alloc);
     let mut text = String::new(alloc);
     let mut rest = script;
+    let mut answered = 0usize;
     let ending = loop {
-        let Ok(read) = Batch::read(alloc, rest, table) else {
+        let Ok(read) = Batch::read(alloc, rest, table, journaled) else {
             break Ending::LineStarved;
         };
         let Some((batch, others)) = read else {
             break Ending::Whole;
         };
         rest = others;
+        answered += batch.told.len();
+        let ends_deep = batch.ends_deep;
         if !take_batch(
             access,
             gate,
@@ -98,6 +108,9 @@ fn take_lines<L: Ledger + Naming, M: Ledger, A: Access<L, M>, G: Gate>(
             &mut text,
         )? {
             break Ending::StepStarved;
+        }
+        if ends_deep {
+            break Ending::TooDeep(answered + 1);
         }
     };
     Ok(Replies { text, ending })
@@ -110,7 +123,7 @@ impl<'a, L: Ledger + Naming, M: Ledger> DeskTask<L, M, Result<Replies, AllocErro
     ghost use Rattle.filing_threads.specs.FoundHistories.{IsScriptRunTo};
 
     ghost leaves = { λ task s t replies.
-        IfOk replies (IsScriptRunTo L (arc_value task.table.now) task.script.now s t.tally) };
+        IfOk replies (IsScriptRunTo L task.journaled (arc_value task.table.now) task.script.now s t.tally) };
 
     fn run<A: Access<L, M>, G: Gate>(
         self,
@@ -123,6 +136,7 @@ impl<'a, L: Ledger + Naming, M: Ledger> DeskTask<L, M, Result<Replies, AllocErro
         take_lines(
             alloc,
             self.table,
+            self.journaled,
             self.script,
             access,
             gate,

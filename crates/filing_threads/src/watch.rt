@@ -7,7 +7,8 @@ pub trait Watch: Sync {
     /// Called once for each step that a desk has taken, in that desk's thread.
     fn step_taken(&self);
 
-    /// Called with the core, which nobody reads any more, once all steps are taken. Here its memory is freed; where the process ends soon, `std::mem::forget` leaves that to the system.
+    /// Called with the core, which nobody reads any more, once all steps are taken.
+    /// Here its memory is freed; where the process ends soon, `std::mem::forget` leaves that to the system.
     fn done_with<T: Drop>(&self, remains: T) {
         drop(remains);
     }

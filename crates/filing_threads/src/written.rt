@@ -7,7 +7,8 @@ use crate::replies::{Ending, Replies};
 use line_io::{Sink, write_all};
 use std::alloc::AllocError;
 
-/// Writes the replies of one script after the other. Behind those of a script that ran out of memory otherwise than for a step, nothing is written.
+/// Writes the replies of one script after the other.
+/// After those of a script that ran out of memory otherwise than for a step, nothing is written.
 pub(crate) fn write_replies<W: Sink>(
     all_replies: Vec<Result<Replies, AllocError>>,
     output: &mut W,
@@ -21,7 +22,7 @@ pub(crate) fn write_replies<W: Sink>(
             return Err(ThreadsFault::Write);
         };
         match ending {
-            Ending::Whole => {}
+            Ending::Whole | Ending::TooDeep(_) => {}
             Ending::StepStarved => whole = false,
             Ending::LineStarved => return Err(ThreadsFault::NoMemory),
         }

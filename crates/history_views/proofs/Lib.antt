@@ -1,5 +1,3 @@
--- ---- runs
-pub mod ViewedRuns
 -- ---- versions
 pub mod NumberedVersions
 pub mod NamesKept
@@ -7,6 +5,7 @@ pub mod Listings
 pub mod FoundVersions
 -- ---- sessions
 pub mod Logs
+pub mod StagedCalls
 pub mod FoundLogs
 -- ---- differences
 pub mod PlacesKept

@@ -1,7 +1,6 @@
 -- Which version of a history is meant.
 pub mod Versions
 -- What is carried from line to line of a history that is viewed.
-pub mod Viewed
 -- What is shown of a version.
 pub mod Shown
 pub mod Listing

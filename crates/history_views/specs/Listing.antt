@@ -20,7 +20,7 @@ report_rows (e ∷ es) = report_row e.0 e.1 ++ report_rows es
 abbrev pub head_of : Repository → Text
 head_of c = codes "[\"version\"," ++ (decimal c.count ++ codes "]\n")
 
--- and behind it those of its reports, in byte order of their names
+-- and after it those of its reports, in byte order of their names
 abbrev pub listing : Repository → Text
 listing c = head_of c ++ report_rows c.reports.entries
 

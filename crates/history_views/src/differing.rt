@@ -15,11 +15,11 @@ ghost use Rattle.history_views.specs.Versions.{version_at, version_kept};
 use crate::placed::PlacedVersions;
 use crate::shown::Shown;
 use crate::sought::SoughtVersion;
-use crate::viewed::{ViewedHistory, view_history};
 use filing_core::{Engine, HashKeys, Verdict};
 use filing_version::RepoVersion;
 use line_io::{ScriptFault, Sink, Source, write_all};
 use oim_fact::NumericTable;
+use script_runs::{ViewedHistory, view_history};
 use std::alloc::{AllocError, Global};
 use std::sync::Arc;
 use version_differences::{Places, difference_text};
@@ -28,11 +28,11 @@ use version_differences::{Places, difference_text};
 #[derive(Drop)]
 pub struct FoundDifference {
     pub verdict: Verdict,
-    /// As of a `FoundVersion`.
+    /// What followed the history's lines, up to the departure. Freeing it takes long.
     pub engine: Engine,
     /// The version from which the difference leads; none where the history has no version of that number.
     pub from: Option<Arc<RepoVersion>>,
-    /// The version to which it leads, as well.
+    /// The version to which it leads; none where the history has no version of that number.
     pub to: Option<Arc<RepoVersion>>,
     /// Its lines, where there are both versions; none of a report that neither has.
     pub text: Option<Option<String>>,
@@ -57,7 +57,8 @@ fn found_text(
     Ok(Some(difference_text(alloc, from, to, places, report)?))
 }
 
-/// Reads a history as `version_of_history` does, and gives the lines that turn its version of one number into that of another: for all reports, or for the one of a name.
+/// Reads a history as `version_of_history` does, and gives the lines that turn its version of one number into that of another.
+/// They are those of all reports, or of the one of a name.
 pub fn difference_of_history<R: Source>(
     alloc: Global,
     keys: HashKeys,

@@ -9,11 +9,11 @@ ghost use Rattle.script_runs.specs.ScriptRun.{most_reads};
 ghost use Rattle.history_views.specs.Versions.{version_asked, version_kept};
 
 use crate::sought::SoughtVersion;
-use crate::viewed::{ViewedHistory, view_history};
 use filing_core::{Engine, HashKeys, Verdict};
 use filing_version::RepoVersion;
 use line_io::{ScriptFault, Source};
 use oim_fact::NumericTable;
+use script_runs::{ViewedHistory, view_history};
 use std::alloc::Global;
 use std::sync::Arc;
 
@@ -27,7 +27,8 @@ pub struct FoundVersion {
     pub version: Option<Arc<RepoVersion>>,
 }
 
-/// Reads a history to its end, judges it as `judge_history` does, with keys that hash things read, and gives its version of a number, counted from 0, or the last one where no number is given. No entry is kept.
+/// Reads a history to its end, judges it as `judge_history` does, with keys that hash things read, and keeps no entry.
+/// It gives the history's version of a number, counted from 0, or the last one where no number is given.
 pub fn version_of_history<R: Source>(
     alloc: Global,
     keys: HashKeys,

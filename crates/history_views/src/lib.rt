@@ -1,8 +1,5 @@
 //! Views of histories: what a history made, without an entry of it kept.
 //!
-//! - `view`: what is seen of a history, entry by entry.
-//! - `viewer`: follows the lines of a history, and has a view look at each entry.
-//! - `viewed`: reads a history that way.
 //! - `sought`: the view that looks for a version.
 //! - `found`: finds a version in a history.
 //! - `report`: writes a report of a version that was found.
@@ -14,7 +11,12 @@
 //! - `differing`: what differs between two versions.
 //! - `shown`: what came of what was asked for.
 //!
-//! It knows nothing of how a line is read and judged (`script_runs`), of how a reply is written (`script_format`), of how a version holds its reports (`filing_version`), of how two versions are compared (`version_differences`), or of files.
+//! It knows nothing of files, nor of
+//!
+//! - how a line is read and judged (`script_runs`);
+//! - how a reply is written (`script_format`);
+//! - how a version holds its reports (`filing_version`);
+//! - how two versions are compared (`version_differences`).
 #![tactic(auto)]
 
 mod differing;
@@ -27,9 +29,6 @@ mod report;
 mod session_log;
 mod shown;
 mod sought;
-mod view;
-mod viewed;
-mod viewer;
 
 pub use differing::{FoundDifference, difference_of_history};
 pub use found::{FoundVersion, version_of_history};

@@ -7,9 +7,9 @@ ghost use Rattle.filing_core.specs.Engines.{IsEngineOf};
 ghost use Rattle.history_views.specs.Names.{HasNames, SeeksNamed, name_loaded};
 
 use crate::sought::SoughtVersion;
-use crate::view::View;
 use filing_core::Engine;
 use filing_step::{Entry, Reply, Step};
+use script_runs::View;
 use std::alloc::{AllocError, Global};
 use text_map::{PagedValue, TextPages};
 
@@ -81,7 +81,7 @@ impl View for NamedVersion {
 
     ghost sees = { SeeksNamedOn };
 
-    fn look(&mut self, alloc: Global, engine: &Engine, entry: &Entry) -> Result<(), AllocError> {
-        self.look_at(alloc, engine, entry)
+    fn look(&mut self, alloc: Global, engine: &Engine, entry: Entry) -> Result<(), AllocError> {
+        self.look_at(alloc, engine, &entry)
     }
 }

@@ -8,9 +8,9 @@ ghost use Rattle.history_views.specs.Placed.{HasPlaces, SeeksPlaced};
 ghost use Rattle.history_views.specs.Versions.{version_kept};
 
 use crate::sought::SoughtVersion;
-use crate::view::View;
 use filing_core::Engine;
 use filing_step::{Entry, Step};
+use script_runs::View;
 use std::alloc::{AllocError, Global};
 use version_differences::Places;
 
@@ -78,7 +78,7 @@ impl View for PlacedVersions {
 
     ghost sees = { SeeksPlacedOn };
 
-    fn look(&mut self, alloc: Global, engine: &Engine, entry: &Entry) -> Result<(), AllocError> {
-        self.look_at(alloc, engine, entry)
+    fn look(&mut self, alloc: Global, engine: &Engine, entry: Entry) -> Result<(), AllocError> {
+        self.look_at(alloc, engine, &entry)
     }
 }

@@ -25,7 +25,7 @@ fn exported(alloc: Global, version: &RepoVersion, name: &str) -> Result<Option<S
     }
 }
 
-/// The same as a line, with the LF that ends it.
+/// A report as an export of that version replies it, in a line with the LF that ends it; none where it is not there.
 fn exported_line(
     alloc: Global,
     version: &RepoVersion,

@@ -59,7 +59,7 @@ inspected table asked bytes d i is h =
 
 -- what is told of bytes that are no JSON
 pub not_json : (table : Table) (asked : Option Allowed) (bytes : List ℕ) (i : Inspection) → data_in bytes ≡ None
-    → AreFaults (NotJson ∷ []) i.faults.items → i.facts ≡ 0 → i.cells.items ≡ [] → i.would_load ≡ false → IsInspection table asked bytes i
+    → AreFaults (NotJson ∷ []) i.faults.items → i.facts ≡ 0 → i.cells.items ≡ [] → i.would_load_as_asked ≡ false → IsInspection table asked bytes i
 not_json table asked bytes i is told facts cells loads_is = record {
   facts = facts ∙ sym (ap (λ o. length (option_map_or fact_members o [])) is);
   faults = subst (λ o. AreFaults (option_map_or (report_faults table) o (NotJson ∷ [])) i.faults.items) (sym is) told;
@@ -72,7 +72,7 @@ not_json table asked bytes i is told facts cells loads_is = record {
 
 pub tells_no_json : {E : Type 0} (table : Table) (asked : Option Allowed) (bytes : List ℕ) (r : Result Inspection E) → data_in bytes ≡ None
     → IfOk r (λ i. AreFaults (NotJson ∷ []) i.faults.items) → IfOk r (λ i. i.facts ≡ 0) → IfOk r (λ i. i.cells.items ≡ [])
-    → IfOk r (λ i. i.would_load ≡ false) → IfOk r (IsInspection table asked bytes)
+    → IfOk r (λ i. i.would_load_as_asked ≡ false) → IfOk r (IsInspection table asked bytes)
 tells_no_json table asked bytes (Ok i) is told facts cells loads_is = not_json table asked bytes i is told facts cells loads_is
 tells_no_json table asked bytes (Err e) is told facts cells loads_is = tt
 

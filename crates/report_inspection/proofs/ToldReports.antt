@@ -23,7 +23,7 @@ pub tells : (table : Table) (asked : Option Allowed) (d : Data) (head : Head) (n
     → IsHead table (get (codes "documentInfo") d) head → names ≡ head.names → known ≡ head.allowed → before.faults ≡ head.faults
     → before.facts.items ≡ [] → TakesFacts names (get (codes "facts") d) before after → i.facts ≡ length (fact_members d)
     → i.faults ≡ after.faults → asked_or_known ≡ unwrap_or asked known → AreCells asked_or_known (facts_view after.facts.items) i.cells.items
-    → i.would_load ≡ ((length i.faults.items == 0) && are_allowed i.cells.items) → TellsOf table asked d i
+    → i.would_load_as_asked ≡ ((length i.faults.items == 0) && are_allowed i.cells.items) → TellsOf table asked d i
 tells table asked d head names known a before after i is names_are known_is same none takes count faults a_is cells loads = record {
   facts = count;
   faults = subst (λ v. AreFaults (report_faults table d) v.items) (sym faults) all_faults;

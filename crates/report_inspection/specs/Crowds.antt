@@ -20,7 +20,7 @@ hash_in e = hash_at (dims_in e)
 abbrev pub has_hash : List (Text × Fact) → ℕ → Bool
 has_hash es hash = list_any (λ e. hash == hash_in e) es
 
--- one has it, and another behind
+-- one has it, and another after it
 abbrev pub is_twice : List (Text × Fact) → ℕ → Bool
 is_twice [] hash = false
 is_twice (e ∷ es) hash = ((hash == hash_in e) && has_hash es hash) || is_twice es hash

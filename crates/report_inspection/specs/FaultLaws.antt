@@ -1,4 +1,4 @@
--- What every fault of a report is beside a reading, which stops at the first. The project's own.
+-- All faults of a report, compared with a reading, which stops at the first. The project's own.
 use Rattle.std.specs.Prelude.{◌≡◌, ℕ, Bool, nat_lt, List, [], ◌∷◌, length, Option, Result, Ok, Err}
 use Rattle.serde_json.specs.Data.{Data}
 use Rattle.filing_model.specs.Oim.Facts.{Names, Table}

@@ -30,7 +30,7 @@ pub record TakesEach (names : Option Names) (members : List (Text × Data)) (bef
   pub facts : facts_view after.facts.items ≡ facts_view before.facts.items ++ facts_read names members
   pub faults : AddsFaults (fact_faults names members) before.faults.items after.faults.items
 
--- so each fact of a report is, of what stands at `facts`, behind what is wrong with all of them
+-- so each fact of a report is, of what stands at `facts`, after what is wrong with all of them
 pub record TakesFacts (names : Option Names) (facts : Option Data) (before after : Found) : Type 0 where
   pub taken : facts_view after.facts.items ≡ facts_view before.facts.items ++ facts_read names (members_of facts)
   pub faults : AddsFaults (shape_fault facts

@@ -13,7 +13,8 @@ use Rattle.report_inspection.specs.EachFault.{allowed_in, allowed_known, fact_me
 use Rattle.report_inspection.specs.declared.fault.Fault.{Fault}
 use Rattle.report_inspection.specs.declared.inspection.Inspection.{Inspection}
 
--- a load of a text under a name that is free is answered `loaded`: it is read as a report, which obeys the asked value, or the declared one where none is asked for
+-- whether a load under a free name would be answered `loaded`, as if the report declared the asked value where there is one:
+-- it is read as a report, which obeys that value, or else the declared one
 abbrev pub loads : Option Allowed → Result Report ReportFault → Bool
 loads asked (Err fault) = false
 loads asked (Ok r) = obeys (unwrap_or asked r.allowed) r.facts.entries
@@ -30,12 +31,12 @@ pub record AreFaults (faults : List ReportFault) (told : List Fault) : Type 0 wh
   pub are : map reading_fault told ≡ map (λ fault. Some fault) faults
   pub reasons : AllByRecursion HasReasons told
 
--- these faults are told behind those before
+-- these faults are told after those before
 abbrev pub AddsFaults : List ReportFault → List Fault → List Fault → Type 0
 AddsFaults faults before after =
     (earlier : List ReportFault) → AreFaults earlier before → AreFaults (earlier ++ faults) after
 
--- one is told behind those before
+-- one is told after those before
 abbrev pub TellsFault : Option ReportFault → List Fault → List Fault → Type 0
 TellsFault None before after = ⊥
 TellsFault (Some fault) before after = AddsFaults (fault ∷ []) before after
@@ -45,11 +46,11 @@ pub record IsInspection (table : Table) (asked : Option Allowed) (bytes : List �
   pub facts : i.facts ≡ length (members_in bytes)
   pub faults : AreFaults (faults_in table bytes) i.faults.items
   pub cells : AreCells (unwrap_or asked (allowed_in bytes)) (facts_in table bytes) i.cells.items
-  pub loads : i.would_load ≡ loads asked (read_report_of table bytes)
+  pub loads : i.would_load_as_asked ≡ loads asked (read_report_of table bytes)
 
--- what is told of a value: whether it would be loaded is told by what is told of it
+-- what is told of a value: whether it would be loaded as asked is told by its faults and cells
 pub record TellsOf (table : Table) (asked : Option Allowed) (d : Data) (i : Inspection) : Type 0 where
   pub facts : i.facts ≡ length (fact_members d)
   pub faults : AreFaults (report_faults table d) i.faults.items
   pub cells : AreCells (unwrap_or asked (allowed_known d)) (facts_read (names_known table d) (fact_members d)) i.cells.items
-  pub loads : i.would_load ≡ ((length i.faults.items == 0) && are_allowed i.cells.items)
+  pub loads : i.would_load_as_asked ≡ ((length i.faults.items == 0) && are_allowed i.cells.items)

@@ -1,4 +1,4 @@
--- ---- every fault of a report, and what was read beside them
+-- ---- every fault of a report, and what was read apart from them
 pub mod EachFault
 -- ---- the cells of more than one fact
 pub mod Cells

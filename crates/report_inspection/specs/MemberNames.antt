@@ -13,7 +13,7 @@ use Rattle.report_inspection.specs.declared.known_names.ObjectKind.TheVariants a
 abbrev pub is_among : List Text → Text → Bool
 is_among names name = list_any (text_eq name) names
 
--- it stands among them, and again behind
+-- it stands among them, and again after that
 abbrev pub is_repeated : List Text → Text → Bool
 is_repeated [] name = false
 is_repeated (n ∷ ns) name = (text_eq name n && is_among ns name) || is_repeated ns name

@@ -1,4 +1,4 @@
--- What is no fault of a report, and may be meant otherwise. The project's own.
+-- Warnings: what loads but is probably a mistake. The project's own.
 use Rattle.std.specs.Prelude.{◌≡◌, Bool, IsTrue, true, false, ◌||◌, if◌then◌else◌, List, [], ◌∷◌, ◌++◌, map, Option, None, Some, option_map, string_bytes, codes}
 use Rattle.std.specs.List.{list_any, AllByRecursion}
 use Rattle.std.specs.List.Sorted.{IsStrictlySortedBy}
@@ -74,13 +74,13 @@ pub record Then (First Later : List Told → Type 0) (ws : List Told) : Type 0 w
   pub are_later : Later later
   pub both : ws ≡ first ++ later
 
--- of a report beside its facts
+-- of a report apart from its facts
 abbrev pub AreOfReport : Json → List Told → Type 0
 AreOfReport report = Then
     (AreOfNames warning.NameTwice None (is_repeated_in_report report))
     (AreOfNames warning.NotRead None (is_unknown_in_report report))
 
--- a fact has a number of decimals beside a value that is null
+-- a fact has a number of decimals, and a value that is null
 abbrev pub is_idle : Option Json → Option Json → Bool
 is_idle (Some null) (Some (number s)) = true
 is_idle value decimals = false
@@ -102,7 +102,7 @@ abbrev pub AreOfFacts : List (Text × Json) → List Told → Type 0
 AreOfFacts [] ws = ws ≡ []
 AreOfFacts (fact ∷ facts) ws = Then (AreOfFact fact.0 fact.1) (AreOfFacts facts) ws
 
--- such warnings are told behind others
+-- such warnings are told after others
 pub record Tells (Are : List Told → Type 0) (before after : List Warning) : Type 0 where
   pub told_now : List Told
   pub are : Are told_now
@@ -134,6 +134,6 @@ kept_in (object ms) = kept_of ms
 abbrev pub kept_facts : Json → List (Text × Json)
 kept_facts report = option_map_or kept_in (get (codes "facts") report) []
 
--- all warnings of a report: just those of its names and of its facts, and behind them some of concepts
+-- all warnings of a report: just those of its names and of its facts, and after them some of concepts
 abbrev pub AreOf : Json → List Told → Type 0
 AreOf report = Then (AreOfReport report) (Then (AreOfFacts (kept_facts report)) AreOfConcepts)

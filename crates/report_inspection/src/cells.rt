@@ -65,7 +65,7 @@ fn ids_of(alloc: Global, run: &[(String, Arc<Fact>)]) -> Result<Vec<String>, All
     Ok(ids)
 }
 
-/// The same facts, which are shared.
+/// Other owners of these facts.
 fn shared(alloc: Global, run: &[(String, Arc<Fact>)]) -> Result<Vec<Arc<Fact>>, AllocError>
     ensures { IfOk result (λ v. map arc_value v.items ≡ facts_of (facts_view run.now)) }
 {

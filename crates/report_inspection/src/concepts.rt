@@ -9,7 +9,7 @@ use oim_value::Decimal;
 use std::alloc::{AllocError, Global};
 use std::collections::{BTreeMap, BTreeSet};
 
-/// The most URIs at which a local name is looked for, so that the time stays near linear.
+/// URIs at which a local name is looked for at most, so that the time stays near linear.
 const MOST_URIS: usize = 100;
 
 /// The first facts of a concept that have a unit, and that have a number as their value.
@@ -117,7 +117,7 @@ impl<'n, 'a> Concepts<'n, 'a> {
         Ok(())
     }
 
-    /// Warns of a numeric concept that no fact has, beside a fact that has its local name.
+    /// Warns of a numeric concept that no fact has, where this fact has its local name.
     #[tactic(auto, using(crate::proofs::ToldWarnings::no_concept))]
     fn warn_of_other(
         &self,
@@ -139,7 +139,7 @@ impl<'n, 'a> Concepts<'n, 'a> {
         push_concept(alloc, warnings, WarningKind::OtherNamespace, id, uri, local)
     }
 
-    /// As `warn_of_other`, at each of these URIs.
+    /// Warns of each numeric concept at one of these URIs that no fact has, where this fact has its local name.
     #[tactic(auto, using(crate::proofs::ToldWarnings::no_concept, crate::proofs::ToldWarnings::more_concepts))]
     fn warn_of_others(
         &self,
@@ -181,7 +181,7 @@ impl<'n, 'a> Concepts<'n, 'a> {
         self.warn_of_others(alloc, warnings, table, uris, id, local)
     }
 
-    /// As `warn_of_number`, of each concept.
+    /// Warns of each concept that has a number and that the table lacks, where it has the local name at another of these URIs.
     #[tactic(auto, using(crate::proofs::ToldWarnings::no_concept, crate::proofs::ToldWarnings::more_concepts))]
     fn warn_of_numbers(
         &self,
@@ -256,7 +256,9 @@ fn namespaces_of<'a, 'b>(report: &'b json::Value<'a>) -> Option<&'b json::Value<
     report.get("documentInfo")?.get("namespaces")
 }
 
-/// Warns of concepts of these facts that the table lacks: of those with a unit, and of those with a number whose local name it has at another URI. Each kind comes in byte order of the URIs and the local names. None is warned of where the names of the report are not known.
+/// Warns of concepts of these facts that the table lacks: of those with a unit,
+/// and of those with a number whose local name it has at another URI.
+/// Each kind comes in byte order of the URIs and the local names. None is warned of where the names of the report are not known.
 #[tactic(auto, using(crate::proofs::ToldWarnings::no_concept, crate::proofs::ToldWarnings::more_concepts))]
 pub(crate) fn warn_of_concepts<'a>(
     alloc: Global,

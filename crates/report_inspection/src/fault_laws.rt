@@ -1,8 +1,9 @@
-//! What every fault of a report is beside a reading, which stops at the first.
+//! All faults of a report, compared with a reading, which stops at the first.
 
 ghost use Rattle.report_inspection.specs.FaultLaws.{FactsHaveFaultsWhereRefused, FirstFaultIsTheReadings};
 
-/// The first fault that is reported is the one that a reading reports. Where there is none, the text is read as a report, whose facts and declared value are those that are reported.
+/// The first fault that is reported is the one that a reading reports.
+/// Where there is none, the text is read as a report, whose facts and declared value are those that are reported.
 pub fn first_fault_is_the_readings()
     ensures { FirstFaultIsTheReadings }
 {}

@@ -35,10 +35,15 @@ pub struct Inspection {
     pub faults: Vec<Fault>,
     /// Its cells of more than one fact, in the order of their dimension sets; of the facts that can be read.
     pub cells: Vec<Cell>,
-    /// What is no fault, and may be meant otherwise, each once. First of the report, then of each fact in byte order of the identifiers: in byte order the names that stand twice, then the members that are not read, then decimals beside null. Then the concepts that the table lacks, and then the numbers at other URIs.
+    /// Warnings: what loads but is probably a mistake, each once, in this order:
+    ///
+    /// - of the report, then of each fact in byte order of the identifiers: in byte order the names that stand twice,
+    ///   then the members that are not read, then decimals of a value that is null;
+    /// - the concepts that the table lacks;
+    /// - the numbers at other URIs.
     pub warnings: Vec<Warning>,
-    /// Whether a load of it would be answered `loaded`, under a name that is free.
-    pub would_load: bool,
+    /// Whether a load under a free name would be answered `loaded`, as if the report declared the value that was asked for, where one was.
+    pub would_load_as_asked: bool,
 }
 
 /// What is wrong with a text that is no JSON.
@@ -58,7 +63,7 @@ fn no_json(alloc: Global, bytes: &[u8]) -> Result<Inspection, AllocError>
     ensures faults { IfOk result (λ i. AreFaults (NotJson ∷ []) i.faults.items) }
     ensures facts { IfOk result (λ i. i.facts ≡ 0) }
     ensures cells { IfOk result (λ i. i.cells.items ≡ []) }
-    ensures loads { IfOk result (λ i. i.would_load ≡ false) }
+    ensures loads { IfOk result (λ i. i.would_load_as_asked ≡ false) }
 {
     let told = told_of_bytes(alloc, bytes)?;
     let mut faults = Vec::new(alloc);
@@ -68,7 +73,7 @@ fn no_json(alloc: Global, bytes: &[u8]) -> Result<Inspection, AllocError>
         faults,
         cells: Vec::new(alloc),
         warnings: Vec::new(alloc),
-        would_load: false,
+        would_load_as_asked: false,
     })
 }
 
@@ -98,17 +103,18 @@ fn inspect_value(
     let warnings = warnings_of(alloc, value, &kept, &names, table)?;
     let Found { facts, faults } = found;
     let cells = cells_of(alloc, asked.unwrap_or(allowed), facts)?;
-    let would_load = faults.is_empty() && are_allowed(&cells);
+    let would_load_as_asked = faults.is_empty() && are_allowed(&cells);
     Ok(Inspection {
         facts: count,
         faults,
         cells,
         warnings,
-        would_load,
+        would_load_as_asked,
     })
 }
 
-/// Inspects the text of a report, after one byte order mark, by this numeric table. Where an allowed value is asked for, it takes the place of the declared one.
+/// Inspects the text of a report, after one byte order mark, by this numeric table.
+/// Where an allowed value is asked for, it takes the place of the declared one.
 ///
 /// Each check of a reading is made, whatever the others say, and each fact is read by itself. Out of memory is an error, and says nothing of the report.
 pub fn inspect(

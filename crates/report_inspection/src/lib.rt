@@ -7,7 +7,7 @@
 //! - `cell`: a cell as it is reported.
 //! - `cells`: the cells of more than one fact.
 //! - `crowds`: the facts that may share a cell.
-//! - `warning`: what is no fault, and may be meant otherwise.
+//! - `warning`: what loads but is probably a mistake.
 //! - `warnings`: all that is warned of in a report.
 //! - `part_names`: the names that are warned of in a report, and in one fact.
 //! - `repeats`: names that stand more than once in an object.
@@ -15,7 +15,7 @@
 //! - `concepts`: concepts that the numeric table lacks.
 //! - `lines`: the lines of an inspection.
 //! - `words`: the words in them.
-//! - `plain`: the same as lines for people.
+//! - `plain`: an inspection as lines for people.
 //! - `fault_laws`: the laws of the faults.
 //!
 //! It knows nothing of versions, of sessions, of how a line of a script is read, or of files.
@@ -43,6 +43,6 @@ pub use cell::Cell;
 pub use fault::Fault;
 pub use fault_laws::{facts_have_faults_where_refused, first_fault_is_the_readings};
 pub use inspection::{Inspection, inspect};
-pub use lines::{push_cell, push_fault, push_inspection, push_summary, push_warning};
+pub use lines::push_inspection;
 pub use plain::push_plain;
 pub use warning::{Warning, WarningKind};

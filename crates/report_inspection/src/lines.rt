@@ -57,7 +57,7 @@ fn push_fault_head(out: &mut String, file: &str, id: Option<&str>) -> Result<(),
     push_id(out, id)
 }
 
-/// Appends its end.
+/// Appends the end of the line of a fault.
 fn push_fault_end(out: &mut String, word: &str, reason: &str) -> Result<(), AllocError>
     ensures { OnOk result (string_bytes out.new ≡ string_bytes out.old ++ fault_end word.now reason.now) }
 {
@@ -126,7 +126,7 @@ fn push_more(
 }
 
 /// Appends the lines of a fault: one for each of its reasons.
-pub fn push_fault(out: &mut String, file: &str, fault: &Fault) -> Result<(), AllocError>
+fn push_fault(out: &mut String, file: &str, fault: &Fault) -> Result<(), AllocError>
     ensures { OnOk result (string_bytes out.new ≡ string_bytes out.old ++ fault_lines file.now fault.now) }
 {
     let Some(word) = fault_word(&fault.fault) else {
@@ -170,7 +170,7 @@ fn push_cell_head(out: &mut String, file: &str, cell: &Cell) -> Result<(), Alloc
     push_dims(out, cell.dims())
 }
 
-/// Appends its end.
+/// Appends the end of the line of a cell.
 fn push_cell_end(out: &mut String, cell: &Cell) -> Result<(), AllocError>
     ensures { OnOk result (string_bytes out.new ≡ string_bytes out.old ++ cell_end cell.now) }
 {
@@ -182,7 +182,7 @@ fn push_cell_end(out: &mut String, cell: &Cell) -> Result<(), AllocError>
 }
 
 /// Appends the line of a cell.
-pub fn push_cell(out: &mut String, file: &str, cell: &Cell) -> Result<(), AllocError>
+fn push_cell(out: &mut String, file: &str, cell: &Cell) -> Result<(), AllocError>
     ensures { OnOk result (string_bytes out.new ≡ string_bytes out.old ++ cell_line file.now cell.now) }
 {
     push_cell_head(out, file, cell)?;
@@ -198,7 +198,7 @@ fn push_warning_head(out: &mut String, file: &str, word: &str) -> Result<(), All
     push_word(out, word)
 }
 
-/// Appends its end.
+/// Appends the end of the line of a warning.
 fn push_warning_end(out: &mut String, id: Option<&str>, name: &str) -> Result<(), AllocError>
     ensures { OnOk result (string_bytes out.new ≡ string_bytes out.old
         ++ warning_end (option_map (λ t. t.now) id.entry) name.now) }
@@ -211,7 +211,7 @@ fn push_warning_end(out: &mut String, id: Option<&str>, name: &str) -> Result<()
 }
 
 /// Appends the line of a warning.
-pub fn push_warning(out: &mut String, file: &str, warning: &Warning) -> Result<(), AllocError>
+fn push_warning(out: &mut String, file: &str, warning: &Warning) -> Result<(), AllocError>
     ensures { OnOk result (string_bytes out.new ≡ string_bytes out.old ++ warning_line file.now warning.now) }
 {
     push_warning_head(out, file, kind_word(warning.kind))?;
@@ -253,7 +253,7 @@ fn push_first_counts(out: &mut String, facts: u64, cells: u64) -> Result<(), All
     push_count(out, cells)
 }
 
-/// Appends the others, and the end of the line.
+/// Appends the last counts of an inspection, and the end of the line.
 fn push_last_counts(
     out: &mut String,
     faults: u64,
@@ -270,7 +270,7 @@ fn push_last_counts(
 }
 
 /// Appends the line that ends an inspection: how many facts, cells, faults, disallowed cells and warnings there are.
-pub fn push_summary(out: &mut String, file: &str, inspection: &Inspection) -> Result<(), AllocError>
+fn push_summary(out: &mut String, file: &str, inspection: &Inspection) -> Result<(), AllocError>
     ensures { OnOk result (string_bytes out.new ≡ string_bytes out.old ++ summary_line file.now inspection.now) }
 {
     push_head(out, "inspected", file)?;

@@ -52,7 +52,7 @@ fn push_plain_cell(out: &mut String, file: &str, cell: &Cell) -> Result<(), Allo
     })
 }
 
-/// What is said of a name before it, and behind it.
+/// What is said of a name before it, and after it.
 fn said(kind: WarningKind) -> (&'static str, &'static str) {
     match kind {
         WarningKind::NameTwice => ("the name ", " stands twice: the last counts"),

@@ -11,7 +11,7 @@ use filing_model::is_same_text;
 use std::alloc::{AllocError, Global};
 use std::collections::BTreeSet;
 
-/// So many members are compared with one another sooner than a set of their names is made.
+/// Members that are compared with one another at most; for more a set of their names is made.
 const FEW: usize = 16;
 
 /// Whether one of these members has this name.
@@ -26,7 +26,7 @@ fn is_among(members: &[(&str, json::Value<'_>)], name: &str) -> bool
     false
 }
 
-/// As `add_repeated`, without a set of names.
+/// Adds each name that stands more than once among these members, without a set of names.
 fn add_repeated_of_few<'a>(
     repeated: &mut BTreeSet<&'a str>,
     members: &[(&'a str, json::Value<'a>)],
@@ -93,7 +93,7 @@ fn have_repeats<'a>(
     Ok(have_neighbours(&names))
 }
 
-/// As `add_repeated`, by a set of names.
+/// Adds each name that stands more than once among these members, by a set of names.
 fn add_repeated_of_many<'a>(
     alloc: Global,
     repeated: &mut BTreeSet<&'a str>,
@@ -146,7 +146,7 @@ pub(crate) fn add_repeated_in<'a>(
     }
 }
 
-/// As `add_repeated_in`, of each item.
+/// Adds each name that stands more than once in an object of these items, however deep.
 #[cycle(deep)]
 fn add_repeated_in_items<'a>(
     alloc: Global,
@@ -161,7 +161,7 @@ fn add_repeated_in_items<'a>(
     Ok(())
 }
 
-/// As `add_repeated_in`, of each member's value.
+/// Adds each name that stands more than once in an object of the values of these members, however deep.
 #[cycle(deep)]
 fn add_repeated_in_values<'a>(
     alloc: Global,

@@ -1,4 +1,4 @@
-//! `Warning`: what is no fault, and may be meant otherwise.
+//! `Warning`: what loads but is probably a mistake.
 
 ghost use Rattle.std.specs.Prelude.{◌≡◌, ◌++◌, ◌∷◌, [], map, OnOk, option_map};
 ghost use Rattle.report_inspection.specs.Warnings.{told};
@@ -13,7 +13,7 @@ pub enum WarningKind {
     NameTwice,
     /// A reading passes over a member of the report or of a fact, or `documentInfo` has a member that xBRL-JSON 1.0 does not define.
     NotRead,
-    /// The decimals beside a value that is null are dropped.
+    /// The decimals of a value that is null are dropped.
     DecimalsBesideNull,
     /// A concept has a unit, and the numeric table lacks it.
     NotInTable,

@@ -1,4 +1,4 @@
-//! What is no fault of a report, and may be meant otherwise.
+//! Warnings: what loads but is probably a mistake.
 
 ghost use Rattle.std.specs.Prelude.{◌≡◌, ◌++◌, map, IfOk, OnOk, Some, option_map};
 ghost use Rattle.json.specs.Value.{value_view};
@@ -30,7 +30,7 @@ fn push_names(
     Ok(())
 }
 
-/// Warns of the names in a report beside those in its facts.
+/// Warns of the names in a report apart from those in its facts.
 fn warn_of_report(
     alloc: Global,
     warnings: &mut Vec<Warning>,
@@ -44,7 +44,7 @@ fn warn_of_report(
     push_names(alloc, warnings, WarningKind::NotRead, None, &unknown)
 }
 
-/// Whether a fact has a number of decimals beside a value that is null.
+/// Whether a fact has a number of decimals, and a value that is null.
 fn has_idle_decimals(fact: &json::Value<'_>) -> bool
     ensures { result ≡ has_idle_decimals (value_view fact.now) }
 {
@@ -52,7 +52,7 @@ fn has_idle_decimals(fact: &json::Value<'_>) -> bool
         && matches!(fact.get("decimals"), Some(json::Value::Number(_)))
 }
 
-/// Warns of decimals beside null.
+/// Warns of decimals of a value that is null.
 fn warn_of_decimals(
     alloc: Global,
     warnings: &mut Vec<Warning>,
@@ -74,7 +74,7 @@ fn warn_of_decimals(
     )
 }
 
-/// Warns of the names in a fact, and of decimals beside null.
+/// Warns of the names in a fact, and of decimals of a value that is null.
 fn warn_of_fact(
     alloc: Global,
     warnings: &mut Vec<Warning>,

@@ -10,9 +10,9 @@ use Rattle.json.specs.Json as json
 use Rattle.json.specs.Json.{Parse, parse_map, if_last, value, value_with}
 use Rattle.json.specs.Lex.{Lexeme, token, comma, colon, Class, quote, backslash, operator, space, other, Mode, between, class, lex, lex_byte, operator_lexeme, string_token, Place, fresh, punctuate, place_token, tokens}
 use Rattle.json.specs.Token.{Token}
-use Rattle.json.specs.Word.{after_number, ends_word, head, is_operator, is_space, literal, number_before, word}
+use Rattle.json.specs.Word.{after_number, ends_word, head, is_space, literal, number_before, word}
 use Rattle.json.proofs.Grammar.{value_is}
-use Rattle.serde_json.specs.Data.{Data, Members, no_members, object, number, string, boolean, null, Num}
+use Rattle.serde_json.specs.Data.{Data, Members, no_members, object, number, Num}
 use Rattle.serde_json.specs.Read.{of_json, of_members, number_of, max_depth, read}
 use Rattle.filing_model.specs.Reading.JsonText.{json_of}
 use Rattle.script_format.specs.ReplyText.{bad_line_text}

@@ -133,7 +133,7 @@ pub fn step_asked(alloc: Global, asking: &Asking<'_>) -> Result<Result<Step, Str
     }
 }
 
-/// As `cell_asked`, of dimensions that are given up.
+/// The step that reads a cell of these dimensions, which are given up, or the reply to them.
 #[tactic(auto, using(crate::proofs::ToldFaults::cell_is_refused))]
 fn cell_from(alloc: Global, report: String, dims: Value) -> Result<Result<Step, String>, AllocError>
     ensures { IfOk result (λ asked. IsAsked asked (call_read (model.Cell (string_bytes report) (view dims)))) }
@@ -147,7 +147,7 @@ fn cell_from(alloc: Global, report: String, dims: Value) -> Result<Result<Step, 
     }
 }
 
-/// As `add_asked`, of a fact that is given up.
+/// The step that adds a fact, which is given up, or the reply to it.
 #[tactic(auto, using(crate::proofs::ToldFaults::addition_is_refused))]
 fn add_from(
     alloc: Global,
@@ -199,7 +199,8 @@ fn step_in(
     }
 }
 
-/// As `step_asked` of what `asking_at` reads, by the first text of an array, which is given up: dimensions and a fact move out of it.
+/// The step that an array asks of a session by its first text, as `step_asked` has it; none where `asking_at` reads none.
+/// The array is given up: dimensions and a fact move out of it.
 pub fn step_from(
     alloc: Global,
     value: Value,

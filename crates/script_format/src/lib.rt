@@ -21,12 +21,12 @@ mod texts;
 
 pub use asked_step::{own_period, step_asked, step_from};
 pub use line::{
-    Asking, Line, Period, allowed_at, asked_at, asking_at, kind_of_word, line_of, nullable_at,
-    taken_at, text_at,
+    Asking, Line, Period, allowed_at, asked_at, kind_of_word, line_of, nullable_at, taken_at,
+    text_at,
 };
 pub use line_outcome::{LineOutcome, classify_line, classify_line_in};
 pub use line_value::json_value_in;
-pub use load::{Loaded, load_of_line, report_in};
+pub use load::Loaded;
 pub use texts::{
     bad_fact_reply, bad_line_reply, bad_report_reply, class_word, exported_reply,
     exported_reply_of, name_in_use_reply, no_session_reply, push_asked, push_later, push_number,

@@ -282,7 +282,7 @@ fn declare_at(value: &Value, place: usize) -> Option<Asking<'_>>
 }
 
 /// What is asked by a word, with the parts of an array from a place on and none after them.
-pub fn asking_at<'a>(word: &str, value: &'a Value, place: usize) -> Option<Asking<'a>>
+pub(crate) fn asking_at<'a>(word: &str, value: &'a Value, place: usize) -> Option<Asking<'a>>
     requires { place + 6 < 2 ^ 64 }
     ensures { option_map asking_view result ≡ model.asking_at word.now place (view value.now) }
 {

@@ -213,7 +213,7 @@ fn may_be_array(line: &[u8]) -> bool
     }
 }
 
-/// As `classify_line`, with room that is kept from line to line.
+/// Classifies a line by a numeric table, as `classify_line` does, in a buffer that is kept from line to line.
 pub fn classify_line_in(
     alloc: Global,
     line: &[u8],

@@ -1,4 +1,4 @@
-//! The JSON value of a line, read with room that is kept from line to line.
+//! The JSON value of a line, read in a buffer that is kept from line to line.
 
 ghost use Rattle.std.specs.Prelude.{◌≡◌, ◌<◌, [], length, Some, None, IfOk, IfSome, MatchOption, option_map};
 ghost use Rattle.json.specs.Json.{value, items, members};
@@ -13,13 +13,15 @@ use serde_json::{Map, Value};
 use std::alloc::{AllocError, Global};
 use std::str::from_utf8;
 
-/// How deep the arrays and objects of a JSON text may nest.
+/// Levels of arrays and objects that a JSON text may have at most.
 const MAX_DEPTH: usize = 127;
 
-/// The array of a line begins with room for so many items; a step has no more.
+/// Items for which the array of a line has capacity at first; a step has no more.
 const LIKELY_ITEMS: usize = 8;
 
-/// An empty list for the items of an array. Room grows where it lies: in memory that another thread asked for first, that thread would be held up meanwhile. Arrays within a line take only what they need, since there may be many.
+/// An empty list for the items of an array. It grows where it lies:
+/// in memory that another thread asked for first, that thread would be held up meanwhile.
+/// Arrays within a line take only what they need, since there may be many.
 fn no_items(alloc: Global, depth: usize) -> Result<Vec<Value>, AllocError>
     ensures { IfOk result (λ items. items.items ≡ []) }
 {
@@ -30,7 +32,7 @@ fn no_items(alloc: Global, depth: usize) -> Result<Vec<Value>, AllocError>
     }
 }
 
-/// The next value of a reader, where there is one. Arrays and objects may nest `depth` deep.
+/// The next value of a reader, if any. Arrays and objects may nest `depth` deep.
 #[cycle(read)]
 fn read(alloc: Global, reader: &mut Reader<'_>, depth: usize) -> Result<Option<Value>, AllocError>
     ensures value { IfOk result (λ o. MatchOption o
@@ -125,7 +127,8 @@ fn read_members(
     }
 }
 
-/// The value of these bytes, where they are a JSON text. The room is that of the reading alone: where it is kept from one text to the next, none is taken and cleared for it.
+/// The value of these bytes, where they are a JSON text.
+/// The buffer is that of the reading alone: where it is kept from one text to the next, none is taken and cleared for it.
 pub fn json_value_in(
     alloc: Global,
     bytes: &[u8],

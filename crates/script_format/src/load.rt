@@ -27,7 +27,7 @@ pub struct Loaded {
 }
 
 /// The report of a load: an object, or the text of one. Its parts move out of the value.
-pub fn report_in(
+pub(crate) fn report_in(
     alloc: Global,
     value: Value,
     table: &Arc<NumericTable>,
@@ -40,7 +40,7 @@ pub fn report_in(
     }
 }
 
-/// As `report_in`, of a value whose texts are those of its line.
+/// The report of a load: an object, or the text of one. The texts of the value are those of its line.
 fn report_of_text(
     alloc: Global,
     value: json::Value<'_>,
@@ -102,7 +102,7 @@ fn load_parts<'a>(value: json::Value<'a>) -> Option<(&'a str, json::Value<'a>)>
     Some((name, report))
 }
 
-/// As `load_of_line`, of a line of any beginning. What is read of it is given back before the report is handed on.
+/// The load that a line of any beginning is; none where it is no load. What is read of it is given back before the report is handed on.
 fn load_of_text(
     alloc: Global,
     line: &[u8],
@@ -123,7 +123,7 @@ fn load_of_text(
 }
 
 /// The load that a line is. Of its texts only those that the report keeps are copied. None where the line does not begin as loads mostly do, or is no load.
-pub fn load_of_line(
+pub(crate) fn load_of_line(
     alloc: Global,
     line: &[u8],
     table: &Arc<NumericTable>,

@@ -5,7 +5,7 @@ use Rattle.filing_model.specs.Reading.JsonText.{json_of}
 use Rattle.script_reasons.specs.ToldFacts.{AreOfFactsIn}
 use Rattle.script_reasons.specs.declared.reasons.Reasons.{Reasons}
 
--- a column of this line, or the one behind it, from 1
+-- a column of this line, or the one after it, from 1
 abbrev pub IsColumnOf : Text → ℕ → Type 0
 IsColumnOf line column = (0 < column) × (column ≤ length line + 1)
 

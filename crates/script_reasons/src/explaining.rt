@@ -109,7 +109,8 @@ fn gathered_of(
     Ok((None, some_of(alloc, refusal, gathered)?))
 }
 
-/// Why the line of this number was refused, by its reply and by the numeric table of its script; none where the reply answers it. The first reason is what the reply reports. Out of memory is an error, and says nothing about the line.
+/// Why the line of this number was refused, by its reply and by the numeric table of its script; none where the reply answers it.
+/// The first reason is what the reply reports. Out of memory is an error, and says nothing about the line.
 pub fn explain(
     alloc: Global,
     number: u64,

@@ -1,4 +1,5 @@
-//! What is wrong with a fact, or with dimensions, as they are read. The functions that read them report that they are refused; where the fault is, is looked up here anew, in the same order.
+//! What is wrong with a fact, or with dimensions, as they are read. The functions that read them report that they are refused.
+//! Where the fault is, is looked up here anew, in the same order.
 
 use crate::shown::{Shown, ShownValue, kind_of};
 use crate::told::Told;
@@ -6,7 +7,7 @@ use filing_model::is_same_text;
 use serde_json::{Map, Value};
 use std::alloc::{AllocError, Global};
 
-/// How many bytes a dimension's name or value may have.
+/// Bytes that a dimension's name or value may have at most.
 const LONGEST: usize = 4096;
 
 /// Whether a dimension is one that may not be null.
@@ -109,7 +110,7 @@ fn decimals_shape(
     }
 }
 
-/// Tells each number in a value that is not whole. It stands in this member.
+/// Tells each number that is not whole in a value, which stands in the member `place`.
 #[cycle(whole)]
 pub fn not_whole(
     alloc: Global,
@@ -133,7 +134,7 @@ pub fn not_whole(
     }
 }
 
-/// As `not_whole`, of each item.
+/// Tells each number that is not whole in these items, which stand in the member `place`.
 #[cycle(whole)]
 fn not_whole_items(
     alloc: Global,
@@ -147,7 +148,7 @@ fn not_whole_items(
     Ok(())
 }
 
-/// As `not_whole`, of each member's value.
+/// Tells each number that is not whole in the values of these members, which stand in the member `place`.
 #[cycle(whole)]
 fn not_whole_members(
     alloc: Global,

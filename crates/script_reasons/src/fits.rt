@@ -84,7 +84,7 @@ fn unbound_names(
     }
 }
 
-/// What stands beside a value that is not numeric, and may not.
+/// What a fact has that only a numeric one may have.
 fn out_of_place(fact: &Value) -> &'static str {
     let has_unit = match fact.get("dimensions") {
         Some(dims) => dims.get("unit").is_some(),

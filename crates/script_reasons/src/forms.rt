@@ -1,4 +1,6 @@
-//! The parts that each line of a script has, and what is wrong with a line that is JSON. The forms are those of `script_format`, whose functions say whether a part fits; how many parts a line has, and what each is called, stands here.
+//! The parts that each line of a script has, and what is wrong with a line that is JSON.
+//! The forms are those of `script_format`, whose functions say whether a part fits.
+//! How many parts a line has, and what each is called, stands here.
 
 use crate::facts::dims_fault;
 use crate::nearest::nearest;
@@ -9,7 +11,7 @@ use script_format::{allowed_at, asked_at, kind_of_word, nullable_at, text_at};
 use serde_json::Value;
 use std::alloc::{AllocError, Global};
 
-/// A part of a line, behind its word.
+/// A part of a line, after its word.
 #[derive(Clone, Copy)]
 enum Part {
     Report,
@@ -97,7 +99,7 @@ fn is_limit(line: &Value, place: usize) -> bool {
     limit_at(line, place).is_some()
 }
 
-/// The parts behind the word of a line that asks something of a session.
+/// The parts after the word of a line that asks something of a session.
 fn asking_parts(word: &str) -> Option<&'static [Part]> {
     if is_same_text(word, "get") || is_same_text(word, "remove") {
         Some(&[Part::Session, Part::Report, Part::Id])
@@ -123,7 +125,7 @@ fn asking_parts(word: &str) -> Option<&'static [Part]> {
     }
 }
 
-/// The parts behind the word of a line; none where there is no such line.
+/// The parts after the word of a line; none where there is no such line.
 fn parts_of(word: &str) -> Option<&'static [Part]> {
     if is_same_text(word, "load") {
         Some(&[Part::Report, Part::Content])

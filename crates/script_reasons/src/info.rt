@@ -170,7 +170,7 @@ fn members_faults(
     Ok(names)
 }
 
-/// Tells all that is wrong with a report beside its facts, and gives the names that it declares, where they are in order.
+/// Tells all that is wrong with a report apart from its facts, and gives the names that it declares, where they are in order.
 pub fn info_faults(
     alloc: Global,
     told: &mut Told,

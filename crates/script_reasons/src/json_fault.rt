@@ -5,7 +5,7 @@ use json::{Reader, Scratch, Token};
 use oim_report::number;
 use std::alloc::{AllocError, Global};
 
-/// How deep the arrays and objects of a text may nest.
+/// Levels of arrays and objects that a JSON text may have at most.
 const MAX_DEPTH: usize = 127;
 
 /// What is reported about a text in quotes that cannot be read.
@@ -97,7 +97,7 @@ impl Walk {
         }
     }
 
-    /// Passes a token, behind which the next one stands at this place.
+    /// Passes a token, after which the next one stands at this place.
     fn pass(&mut self, text: &str, token: &Token<'_>, place: usize) -> Result<(), AllocError> {
         let (next, place) = match token {
             Token::Key(_) => (Next::MemberValue, place),

@@ -17,7 +17,9 @@
 //! - `fits`: what is wrong with a fact by the names of its report.
 //! - `states`: what the state of the repository refused.
 //!
-//! The reasons are looked for after the reply, of refused lines alone, by the functions that read the line before. It knows nothing of how a line is answered: nothing of a core, of versions or of the names in use.
+//! The reasons are looked for after the reply, of refused lines alone, by the functions that read the line before.
+//!
+//! It knows nothing of how a line is answered: nothing of a core, of versions or of the names in use.
 #![tactic(auto)]
 
 mod bad_line;
@@ -42,7 +44,7 @@ pub use explaining::explain;
 pub use facts::not_whole;
 pub use info::{features_fault, info_faults, names_of, type_fault};
 pub use reasons::{Reason, Reasons, push_reasons};
-pub use refusal::{Refusal, refusal_in, tells_mistake};
+pub use refusal::{Refusal, tells_mistake};
 pub use refusal_laws::{words_tell_refusals, words_tell_replies};
 pub use reports::{told_of_fact, told_of_facts, told_of_text, without_mark};
 pub use told::Told;

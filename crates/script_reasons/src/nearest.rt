@@ -9,10 +9,10 @@ const WORDS: [&str; 12] = [
     "close", "export",
 ];
 
-/// How many bytes a word has at most for which another one is looked for.
+/// Bytes that a word has at most for which another one is looked for.
 const LONGEST: usize = 16;
 
-/// The most edits that lead from a word to the one that was meant.
+/// Edits at most that lead from a word to the one that was meant.
 const MOST: usize = 2;
 
 /// The word of a line to which the fewest edits lead, two at most, whatever the case of the letters; the first of several.

@@ -86,7 +86,7 @@ fn push_reason(
     out.push_str("\n")
 }
 
-/// Appends the lines of several.
+/// Appends the lines of several reasons.
 fn push_each_reason(
     out: &mut String,
     number: u64,

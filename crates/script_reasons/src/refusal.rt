@@ -126,7 +126,11 @@ fn is_removal(alloc: Global, line: &[u8]) -> Result<bool, AllocError>
 }
 
 /// The refusal of a line by its reply; none where the reply answers it. That there is no fact refuses a removal, and answers any other line.
-pub fn refusal_in(alloc: Global, line: &[u8], reply: &str) -> Result<Option<Refusal>, AllocError>
+pub(crate) fn refusal_in(
+    alloc: Global,
+    line: &[u8],
+    reply: &str,
+) -> Result<Option<Refusal>, AllocError>
     ensures refusal { IfOk result (λ o. o ≡ refusal_in line.now reply.now) }
     ensures word { IfOk result (λ o. IfSome o (λ r. refusal_word r ≡ word_of reply.now)) }
 {
@@ -141,7 +145,8 @@ pub fn refusal_in(alloc: Global, line: &[u8], reply: &str) -> Result<Option<Refu
     }
 }
 
-/// Whether a reply tells, by its word, that its line is malformed or out of place: `bad-line`, `bad-report`, `bad-fact`, `name-in-use`, `no-session`, `no-report` and `read-only` do. It takes no memory.
+/// Whether a reply tells, by its word, that its line is malformed or out of place. It takes no memory.
+/// `bad-line`, `bad-report`, `bad-fact`, `name-in-use`, `no-session`, `no-report` and `read-only` do.
 pub fn tells_mistake(reply: &str) -> bool
     ensures { result ≡ tells_mistake reply.now }
 {

@@ -3,14 +3,14 @@
 use serde_json::Value;
 use std::fmt;
 
-/// How many bytes of a text are shown.
+/// Bytes of a text that are shown at most.
 const MOST: usize = 60;
 
 /// A text in quotes; of a long one the beginning, and two dots.
 #[derive(Clone, Copy)]
 pub(crate) struct Shown<'a>(pub(crate) &'a str);
 
-/// As much of a text as is shown.
+/// The beginning of a text, which is what is shown of it.
 fn front_of(text: &str) -> &str {
     match text.split_at_checked(text.floor_char_boundary(MOST)) {
         Some((front, _)) => front,

@@ -5,7 +5,7 @@ ghost use Rattle.std.specs.Prelude.{◌≡◌, ◌<◌, vec_len, OnOk};
 use filing_model::Trouble;
 use std::alloc::{AllocError, Global};
 
-/// How much is reported about one line.
+/// Things that are reported about one line at most.
 pub(crate) const MOST: usize = 100;
 
 /// What was found so far. What is found beyond the hundredth is counted.

@@ -7,19 +7,20 @@ pub mod MachineAnswers
 -- ---- whole scripts
 pub mod Scripts
 pub mod ObservedRuns
+pub mod SerialScripts
 -- ---- histories
 pub mod PlainEntries
 pub mod TakenCalls
-pub mod JudgedByEngine
+pub mod FollowedLines
 pub mod JudgedLines
 pub mod HistoryRuns
 pub mod WrittenEntries
 -- ---- journals
 pub mod KeptOnce
 pub mod Entering
-pub mod CopiedRuns
 pub mod Recordings
 pub mod Guarding
 pub mod JournaledRuns
 pub mod JournaledScripts
 pub mod Reopenings
+pub mod JournalsReadBack

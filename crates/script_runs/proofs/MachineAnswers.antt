@@ -1,5 +1,5 @@
 -- What a machine answers to a line, by the line's outcome.
-use Rattle.std.proofs.Common.{◌≡◌, ap, sym, refl, subst, String, string_bytes}
+use Rattle.std.proofs.Common.{◌≡◌, ap, sym, subst, String, string_bytes}
 use Rattle.std.specs.Arc.{arc_value}
 use Rattle.std.specs.declared.alloc.Global.{Global}
 use Rattle.filing_model.specs.Common.Text.{Text}

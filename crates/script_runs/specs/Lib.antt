@@ -3,11 +3,13 @@ pub mod ScriptRun
 pub mod StepsTaken
 pub mod Observed
 pub mod HistoryRun
+pub mod Following
+pub mod Viewed
 pub mod Resumed
+pub mod Serial
 -- What a journal has, and what a run over a script leaves in one.
 pub mod Entered
 pub mod Recorded
-pub mod Copied
 pub mod Journaled
 pub mod JournaledRun
 pub mod Guarded

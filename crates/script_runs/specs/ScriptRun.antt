@@ -10,7 +10,6 @@ use Rattle.line_io.specs.Devices.{SourceState, SinkState, Gave, Took}
 use Rattle.line_io.specs.Run.{Runs}
 use Rattle.script_format.specs.Script.{State, start, line_answer, script_output, script_history}
 use Rattle.filing_core.specs.States.{CoreState}
-use Rattle.filing_core.specs.Engines.{EngineState, IsEngineOf}
 use Rattle.line_io.specs.declared.fault.ScriptFault.{ScriptFault}
 
 -- the reply to a line, and what is carried on
@@ -56,8 +55,3 @@ ScriptRunsWithin state reads table (Err fault) source source' sink sink' =
 abbrev pub ScriptRuns : {S : Type 0} → (S → SourceState) → Table → Result CoreState ScriptFault → S → S → SinkState
     → SinkState → Type 0
 ScriptRuns state = ScriptRunsWithin state most_reads
-
--- with an engine, which is that of the script's history
-abbrev pub EngineRuns : {S : Type 0} → (S → SourceState) → Table → Result EngineState ScriptFault → S → S → SinkState
-    → SinkState → Type 0
-EngineRuns state = TakerRuns (λ engine h. IsEngineOf h engine) state most_reads

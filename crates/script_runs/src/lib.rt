@@ -1,6 +1,7 @@
 //! Scripts and histories: the steps of a core, line by line, between a source and a sink of bytes.
 //!
 //! - `script`: runs a script.
+//! - `serial_laws`: that each script is serial.
 //! - `script_machine`: answers its lines, each by the step that it takes.
 //! - `observed`: shows them to an observer, with their replies.
 //! - `takes_steps`: what takes its steps: a core, an engine, or an engine with a journal or with a file of its entries.
@@ -13,39 +14,44 @@
 //! - `recorded`: runs a script with that.
 //! - `durable`: keeps in the journal what was accepted before it is reported.
 //! - `history`: writes a history, and has those of others judged.
-//! - `judge`: follows the lines of a history, and reports where they depart.
-//! - `copier`: does so, and writes their entries to a file.
-//! - `copied`: reads a history that way.
+//! - `reading`: reads the entries of its lines.
+//! - `view`: what is seen of a history, entry by entry.
+//! - `follower`: takes the entries of a history line by line, and has a view look at each.
+//! - `viewed`: reads a whole history that way, and judges it.
 //!
-//! It knows nothing of how lines are cut and devices are read (`line_io`), of how a line or a reply is written (`script_format`), of several scripts at once, of locks, or of files.
+//! It knows nothing of how lines are cut and devices are read (`line_io`), of how a line or a reply is written (`script_format`), of several
+//! scripts at once, of locks, or of files.
 #![tactic(auto)]
 
-mod copied;
-mod copier;
 mod durable;
 mod entry_file;
+mod follower;
 mod history;
 mod journaled;
 mod journaled_steps;
 mod journaling;
-mod judge;
 mod observed;
+mod reading;
 mod recorded;
 mod recording;
 mod reopened;
 mod script;
 mod script_machine;
+mod serial_laws;
 mod takes_steps;
+mod view;
+mod viewed;
 
-pub use copied::{CopiedHistory, copy_history};
 pub use entry_file::EntryFile;
-pub use history::{Nowhere, judge_history, judge_history_keeping, write_history, write_verdict};
-pub use journaled::{JournaledRun, run_script_with_journal, run_script_with_journal_observed};
-pub use judge::entry_of;
-pub use observed::Observes;
-pub use recorded::{RecordedRun, record_script, record_script_observed};
-pub use reopened::{OpenHistoryFault, engine_of_history, entries_of_history};
-pub use script::{
-    READS, resume_script, resume_script_observed, run_script, run_script_on_engine,
-    run_script_within,
+pub use history::{judge_history, judge_history_keeping, write_history, write_verdict};
+pub use journaled::{JournaledRun, run_script_with_journal_observed};
+pub use observed::{Observes, Unobserved};
+pub use reading::entry_of;
+pub use recorded::{RecordedRun, record_script_observed};
+pub use reopened::{
+    KeptEntries, OpenHistoryFault, engine_of_history, entries_of_history, journals_are_read_back,
 };
+pub use script::{READS, resume_script_observed, run_script, run_script_within};
+pub use serial_laws::each_script_is_serial;
+pub use view::{NoView, View};
+pub use viewed::{Nowhere, ViewedHistory, view_history};

@@ -6,7 +6,7 @@ ghost use Rattle.script_runs.specs.Observed.{KeepsSeen, RepliesSeen, keeps_nothi
 use line_io::{DurableMachine, Failed, Machine};
 use std::alloc::{AllocError, Global};
 
-/// What is shown each line of a run beside its reply, once it is answered. It changes neither.
+/// What is shown each line of a run with its reply, once it is answered. It changes neither.
 pub trait Observes {
     /// The observer before, a line that is not blank, its reply without a line feed, and the observer after.
     ghost sees: { Self → List ℕ → List ℕ → Self → Type 0 };
@@ -18,7 +18,7 @@ pub trait Observes {
 
 /// Looks at nothing.
 #[derive(Drop)]
-pub(crate) struct Unobserved;
+pub struct Unobserved;
 
 impl Observes for Unobserved {
     ghost sees = { looks_at_nothing };
@@ -34,7 +34,7 @@ pub(crate) struct Observed<M: Drop, O: Drop> {
 }
 
 impl<M: Drop, O: Observes + Drop> Observed<M, O> {
-    /// Shows a line beside its reply.
+    /// Shows a line with its reply.
     fn show(&mut self, alloc: Global, number: u128, line: &[u8], reply: &str)
         ensures machine { self.new.machine ≡ self.old.machine }
         ensures saw { O.sees self.old.observer line.now reply.now self.new.observer }

@@ -6,7 +6,8 @@ ghost use Rattle.filing_model.specs.Histories.History.{History};
 ghost use Rattle.filing_core.specs.Engines.{IsEngineOf};
 ghost use Rattle.script_runs.specs.Observed.{IsShown};
 ghost use Rattle.script_runs.specs.Resumed.{GoesOn};
-ghost use Rattle.script_runs.specs.ScriptRun.{most_reads, EngineRuns, ScriptRuns, ScriptRunsWithin, TakerRuns};
+ghost use Rattle.script_runs.specs.Serial.{GoesOnSerially};
+ghost use Rattle.script_runs.specs.ScriptRun.{most_reads, ScriptRuns, ScriptRunsWithin, TakerRuns};
 
 use crate::observed::{Observed, Observes, Unobserved};
 use crate::script_machine::ScriptMachine;
@@ -17,7 +18,7 @@ use oim_fact::NumericTable;
 use std::alloc::Global;
 use std::sync::Arc;
 
-/// So many reads are made at most.
+/// Reads of a source that are made at most.
 pub const READS: u64 = 1 << 32;
 
 /// Runs a script from where the taker of its steps left off, with no name in use, shows its lines and their replies to an observer, and gives both back.
@@ -46,7 +47,7 @@ pub(crate) fn run_observed<T: TakesSteps + Drop, O: Observes + Drop, R: Source, 
     (machine.into_taker(), observer, ended)
 }
 
-/// The same with nobody who looks.
+/// Runs a script from where the taker of its steps left off, with no name in use, and gives the taker back.
 pub(crate) fn run_on<T: TakesSteps + Drop, R: Source, W: Sink>(
     alloc: Global,
     taker: T,
@@ -87,7 +88,8 @@ fn run_with<T: TakesSteps + Drop, R: Source, W: Sink>(
     }
 }
 
-/// Runs a script: reads reports by the numeric table, takes the step of each line that has one, in their order, and writes a reply to each line that is not blank. It gives back the core with the steps that were taken. At most 2^32 reads are made.
+/// Runs a script: takes the step of each line that has one, in their order, and writes a reply to each line that is not blank.
+/// Reports are read by the numeric table. It gives back the core with the steps that were taken. At most 2^32 reads are made.
 pub fn run_script<R: Source, W: Sink>(
     alloc: Global,
     input: &mut R,
@@ -101,7 +103,7 @@ pub fn run_script<R: Source, W: Sink>(
     run_script_within(alloc, input, output, table, READS)
 }
 
-/// Runs a script as `run_script` does, with at most so many reads. `Endless` is answered where all of them were made, and none met the end or failed.
+/// Runs a script as `run_script` does, with at most this many reads. `Endless` is answered where all of them were made, and none met the end or failed.
 pub fn run_script_within<R: Source, W: Sink>(
     alloc: Global,
     input: &mut R,
@@ -119,39 +121,9 @@ pub fn run_script_within<R: Source, W: Sink>(
     }
 }
 
-/// Runs a script as `run_script` does, and keeps none of its steps: it gives back the engine that took them.
-pub fn run_script_on_engine<R: Source, W: Sink>(
-    alloc: Global,
-    input: &mut R,
-    output: &mut W,
-    table: &Arc<NumericTable>,
-) -> Result<Engine, ScriptFault>
-    ensures script { EngineRuns R.state (arc_value table.now) result input.old input.new
-        (W.state output.old) (W.state output.new) }
-    ensures bounded { (R.state input.new).reads ≤ (R.state input.old).reads + most_reads }
-{
-    match Engine::new(alloc) {
-        Ok(engine) => run_with(alloc, engine, input, output, table, READS),
-        Err(_) => Err(ScriptFault::NoMemory(1)),
-    }
-}
-
-/// Runs a script as `run_script_on_engine` does, from where an engine left off, with no name in use, and gives the engine back.
-pub fn resume_script<R: Source, W: Sink>(
-    alloc: Global,
-    engine: Engine,
-    input: &mut R,
-    output: &mut W,
-    table: &Arc<NumericTable>,
-) -> (Engine, Result<(), ScriptFault>)
-    ensures script { (h : History) → IsEngineOf h engine → GoesOn R.state most_reads (arc_value table.now) h
-        (λ e h. IsEngineOf h e) result.0 result.1 input.old input.new (W.state output.old) (W.state output.new) }
-    ensures bounded { (R.state input.new).reads ≤ (R.state input.old).reads + most_reads }
-{
-    run_on(alloc, engine, input, output, table, READS)
-}
-
-/// As `resume_script`, with an observer that is shown each line beside its reply, and given back.
+/// Runs a script as `run_script` does, from where an engine left off, with no name in use.
+/// An observer is shown each line with its reply. Engine and observer are given back.
+#[tactic(auto, using(crate::proofs::SerialScripts::goes_on_serially))]
 pub fn resume_script_observed<O: Observes + Drop, R: Source, W: Sink>(
     alloc: Global,
     engine: Engine,
@@ -162,6 +134,7 @@ pub fn resume_script_observed<O: Observes + Drop, R: Source, W: Sink>(
 ) -> (Engine, O, Result<(), ScriptFault>)
     ensures script { (h : History) → IsEngineOf h engine → GoesOn R.state most_reads (arc_value table.now) h
         (λ e h. IsEngineOf h e) result.0 result.2 input.old input.new (W.state output.old) (W.state output.new) }
+    ensures serial { GoesOnSerially (arc_value table.now) engine }
     ensures shown { OnOk result.2 (IsShown R.state O.sees input.old input.new (W.state output.old) (W.state output.new)
         observer result.1) }
     ensures bounded { (R.state input.new).reads ≤ (R.state input.old).reads + most_reads }

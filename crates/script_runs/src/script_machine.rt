@@ -21,7 +21,7 @@ use script_format::{
 use std::alloc::{AllocError, Global};
 use std::sync::Arc;
 
-/// What answers the lines of a script: what takes its steps, with the names in use, the table by which reports are read, and the room in which lines are read.
+/// What answers the lines of a script: what takes its steps, with the names in use, the table by which reports are read, and a buffer for lines.
 #[derive(Drop)]
 pub(crate) struct ScriptMachine<T: TakesSteps + Drop> {
     table: Arc<NumericTable>,

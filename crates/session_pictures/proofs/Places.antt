@@ -1,5 +1,6 @@
 -- Numbers in their places among numbers that rise.
-use Rattle.std.proofs.Common.{◌≡◌, ap, sym, refl, ℕ, suc, ◌==◌, ◌≤◌, arith, Bool, true, false, cond, List, [], ◌∷◌, length, true≢false}
+use Rattle.std.proofs.Common.{◌≡◌, ap, sym, refl, ℕ, suc, ◌==◌, ◌≤◌, arith, Bool, true, false, cond, List, [], ◌∷◌, length}
+use Rattle.std.proofs.Common.{true≢false}
 use Rattle.std.specs.Prelude.{nat_lt}
 use Rattle.std.specs.List.{insert}
 use Rattle.session_pictures.specs.Columns.{count_below, is_at, with_number}
@@ -27,7 +28,8 @@ pub with_absent : (n : ℕ) (cs : List ℕ) → is_at n (count_below n cs) cs �
 with_absent n [] none = refl
 with_absent n (m ∷ ms) none = by (nat_lt m n) none (with_absent n ms)
   where
-    by : (b : Bool) → is_at n (cond b (suc (count_below n ms)) 0) (m ∷ ms) ≡ false → (is_at n (count_below n ms) ms ≡ false → insert ms (count_below n ms) n ≡ with_number n ms)
+    by : (b : Bool) → is_at n (cond b (suc (count_below n ms)) 0) (m ∷ ms) ≡ false
+        → (is_at n (count_below n ms) ms ≡ false → insert ms (count_below n ms) n ≡ with_number n ms)
         → insert (m ∷ ms) (cond b (suc (count_below n ms)) 0) n ≡ cond b (m ∷ with_number n ms) (cond (m == n) (m ∷ ms) (n ∷ m ∷ ms))
     by true none rest = ap (λ xs. m ∷ xs) (rest none)
     by false none rest = sym (ap (λ b. cond b (m ∷ ms) (n ∷ m ∷ ms)) none)

@@ -1,5 +1,6 @@
 -- The sessions that are shown.
-use Rattle.std.proofs.Common.{◌≡◌, ◌∙◌, ap, sym, refl, ℕ, ◌+◌, ◌-◌, ◌≤◌, ◌<◌, arith, Bool, true, false, leb, List, map, take, drop, length}
+use Rattle.std.proofs.Common.{◌≡◌, ◌∙◌, ap, sym, refl, ℕ, ◌+◌, ◌-◌, ◌≤◌, ◌<◌, arith, Bool, true, false, leb}
+use Rattle.std.proofs.Common.{List, map, take, drop, length}
 use Rattle.std.specs.Prelude.{min}
 use Rattle.std.proofs.lemmas.Bool.{leb-true, leb-false}
 use Rattle.std.proofs.lemmas.List.{take_all, length-drop, take-map, drop-map}
@@ -26,7 +27,8 @@ module _ (ss : List ToldSession) (first before : ℕ) (is : before ≡ first - 1
   shown_is =
       sym (take-map told_in 200 (drop before ss)) ∙ ap (take 200) (sym (drop-map told_in before ss)) ∙ ap (λ k. take 200 (drop k (map told_in ss))) is
 
-  pub some_shown : (many : ℕ) → many ≡ min (length ss - before) 200 → map told_in (take (before + many - before) (drop before ss)) ≡ shown first (map told_in ss)
+  pub some_shown : (many : ℕ) → many ≡ min (length ss - before) 200
+      → map told_in (take (before + many - before) (drop before ss)) ≡ shown first (map told_in ss)
   some_shown many few =
       let same : before + many - before ≡ min (length (drop before ss)) 200 = omega (arith, few, length-drop before ss) in
       ap (λ n. map told_in (take n (drop before ss))) same ∙ ap (map told_in) (take_fewer 200 (drop before ss)) ∙ shown_is

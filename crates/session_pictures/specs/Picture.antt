@@ -11,7 +11,7 @@ use Rattle.session_pictures.specs.declared.told.Ending.TheVariants.{Committed, C
 
 -- ---- lengths, in pixels
 
--- what stands left of the first version and above the first row, and what is left free behind the last version and below the last row
+-- what stands left of the first version and above the first row, and what is left free after the last version and below the last row
 abbrev pub left : ℕ
 left = 160
 

@@ -1,6 +1,6 @@
 //! The arrow into the bar of a session that ended by a conflict.
 
-ghost use Rattle.std.specs.Prelude.{◌≡◌, ◌++◌, map, string_bytes, OnOk};
+ghost use Rattle.std.specs.Prelude.{◌≡◌, ◌+◌, ◌<◌, ◌^◌, ◌++◌, length, map, string_bytes, OnOk};
 ghost use Rattle.session_pictures.specs.Picture.{arrow_by, arrow_text, arrows_group, arrows_text, from_row, is_shown};
 ghost use Rattle.session_pictures.specs.Told.{told_in};
 
@@ -76,21 +76,20 @@ fn push_arrows(
     columns: &[u64],
     sessions: &[ToldSession],
 ) -> Result<(), AllocError>
+    requires { first + length sessions.now < 2 ^ 64 }
     ensures { OnOk result (string_bytes out.new
         ≡ string_bytes out.old ++ arrows_text first many columns.now first (map told_in sessions.now)) }
 {
     let mut number = first;
     for session in sessions {
         push_arrow(out, first, many, columns, number, session)?;
-        let Some(next) = number.checked_add(1) else {
-            return Err(AllocError);
-        };
-        number = next;
+        number += 1;
     }
     Ok(())
 }
 
 /// Appends the group of these arrows, as seen from the middle of the first row.
+#[tactic(auto, unfolding(crate::specs::Picture::arrows_group))]
 pub(crate) fn push_arrows_group(
     out: &mut String,
     first: u64,
@@ -98,6 +97,7 @@ pub(crate) fn push_arrows_group(
     columns: &[u64],
     sessions: &[ToldSession],
 ) -> Result<(), AllocError>
+    requires { first + length sessions.now < 2 ^ 64 }
     ensures { OnOk result (string_bytes out.new
         ≡ string_bytes out.old ++ arrows_group first many columns.now (map told_in sessions.now)) }
 {

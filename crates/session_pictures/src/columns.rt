@@ -8,11 +8,11 @@ ghost use Rattle.session_pictures.specs.Told.{end_in, told_in};
 use crate::told::{Ending, SessionEnd, ToldSession};
 use std::alloc::{AllocError, Global};
 
-/// How wide a version is.
+/// Width of a version, in pixels.
 pub(crate) const CELL: u128 = 24;
-/// How far into a version an opening stands.
+/// Pixels from the beginning of a version to an opening.
 const OPENING: u128 = 12;
-/// How far into a version an end stands that makes none.
+/// Pixels from the beginning of a version to an end that makes none.
 const ENDING: u128 = 18;
 
 /// How many numbers at the front are below this one.
@@ -118,7 +118,7 @@ fn end_inset(ending: Ending) -> u128
     }
 }
 
-/// Where it ends.
+/// Where the bar of a session ends.
 pub(crate) fn bar_end(columns: &[u64], ended: &Option<SessionEnd>) -> u128
     ensures { result ≡ bar_end columns.now (option_map end_in ended.now) }
 {

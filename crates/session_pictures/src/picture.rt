@@ -1,6 +1,6 @@
 //! The picture of sessions.
 
-ghost use Rattle.std.specs.Prelude.{◌≡◌, ◌++◌, map, string_bytes, IfOk, OnOk};
+ghost use Rattle.std.specs.Prelude.{◌≡◌, ◌+◌, ◌<◌, ◌^◌, ◌++◌, length, map, max, string_bytes, IfOk, OnOk};
 ghost use Rattle.session_pictures.specs.Picture.{above_text, column_text, columns_text, grid, head_text, picture_from, picture_of, shown, title_text};
 ghost use Rattle.session_pictures.specs.Columns.{columns};
 ghost use Rattle.session_pictures.specs.Told.{told_in};
@@ -13,20 +13,21 @@ use crate::rows::{ROW, push_rows};
 use crate::told::ToldSession;
 use std::alloc::{AllocError, Global};
 
-/// How many sessions a picture shows at most.
+/// Sessions that a picture shows at most.
 const MOST: usize = 200;
-/// What stands left of the first version.
+/// Pixels to the left of the first version.
 const LEFT: u128 = 160;
-/// What stands above the first row.
+/// Pixels above the first row.
 const ABOVE: u128 = 170;
-/// What is left free behind the last version.
+/// Pixels to the right of the last version, which are left free.
 const RIGHT: u128 = 260;
-/// What is left free below the last row.
+/// Pixels below the last row, which are left free.
 const BELOW: u128 = 20;
 
-/// At most so many sessions, from the one of this number on.
+/// At most so many sessions, from the one of this number on. Each has a number of 64 bits, and so has the next one.
 fn shown(sessions: &[ToldSession], first: u64) -> &[ToldSession]
-    ensures { map told_in result.now ≡ shown first (map told_in sessions.now) }
+    ensures numbered { max first 1 + length result.now < 2 ^ 64 }
+    ensures shown { map told_in result.now ≡ shown first (map told_in sessions.now) }
 {
     let before = first.saturating_sub(1) as usize;
     if before >= sessions.len() {
@@ -87,6 +88,7 @@ fn push_grid(
     columns: &[u64],
     sessions: &[ToldSession],
 ) -> Result<(), AllocError>
+    requires { first + length sessions.now < 2 ^ 64 }
     ensures { OnOk result (string_bytes out.new
         ≡ string_bytes out.old ++ grid first many columns.now (map told_in sessions.now)) }
 {
@@ -125,6 +127,7 @@ fn picture_from(
     sessions: &[ToldSession],
     all: usize,
 ) -> Result<String, AllocError>
+    requires { first + length sessions.now < 2 ^ 64 }
     ensures { IfOk result (λ text. string_bytes text ≡ picture_from first (map told_in sessions.now) all) }
 {
     let columns = columns_of(alloc, sessions)?;

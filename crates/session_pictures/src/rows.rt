@@ -1,6 +1,6 @@
 //! The row of a session: its label, its bar, and what is reported about its end.
 
-ghost use Rattle.std.specs.Prelude.{◌≡◌, ◌++◌, map, option_map, string_bytes, OnOk};
+ghost use Rattle.std.specs.Prelude.{◌≡◌, ◌+◌, ◌<◌, ◌^◌, ◌++◌, length, map, option_map, string_bytes, OnOk};
 ghost use Rattle.session_pictures.specs.Picture.{bar_text, conflict_words, down, end_mark, end_text, end_words, ending_words, label_text, maker_words, row_text, rows_text};
 ghost use Rattle.session_pictures.specs.Told.{end_in, told_in};
 
@@ -9,7 +9,7 @@ use crate::elements::{kind_style, kind_word, mark, push_group, push_group_end};
 use crate::told::{Ending, SessionEnd, ToldSession};
 use std::alloc::AllocError;
 
-/// How high a row is.
+/// Height of a row, in pixels.
 pub(crate) const ROW: u128 = 20;
 
 /// Where the row of a session begins.
@@ -79,7 +79,7 @@ fn push_ending(
     }
 }
 
-/// Appends how it ended, or that it is open.
+/// Appends how a session ended, or that it is open.
 fn push_words(
     out: &mut String,
     ended: &Option<SessionEnd>,
@@ -94,7 +94,7 @@ fn push_words(
     }
 }
 
-/// Appends the mark of its end, if it has ended.
+/// Appends the mark of the end of a session, if it has ended.
 fn push_mark(out: &mut String, ended: &Option<SessionEnd>) -> Result<(), AllocError>
     ensures { OnOk result (string_bytes out.new ≡ string_bytes out.old ++ end_mark (option_map end_in ended.now)) }
 {
@@ -104,7 +104,7 @@ fn push_mark(out: &mut String, ended: &Option<SessionEnd>) -> Result<(), AllocEr
     }
 }
 
-/// Appends what is reported about its end.
+/// Appends what is reported about the end of a session.
 fn push_end(out: &mut String, columns: &[u64], session: &ToldSession) -> Result<(), AllocError>
     ensures { OnOk result (string_bytes out.new ≡ string_bytes out.old ++ end_text columns.now (told_in session.now)) }
 {
@@ -141,16 +141,14 @@ pub(crate) fn push_rows(
     columns: &[u64],
     sessions: &[ToldSession],
 ) -> Result<(), AllocError>
+    requires { first + length sessions.now < 2 ^ 64 }
     ensures { OnOk result (string_bytes out.new
         ≡ string_bytes out.old ++ rows_text first columns.now first (map told_in sessions.now)) }
 {
     let mut number = first;
     for session in sessions {
         push_row(out, first, columns, number, session)?;
-        let Some(next) = number.checked_add(1) else {
-            return Err(AllocError);
-        };
-        number = next;
+        number += 1;
     }
     Ok(())
 }

@@ -61,7 +61,8 @@ fn text_of_report(
     Ok(Some(out))
 }
 
-/// The lines that turn the one version into the other: for all reports, or for the one of a name; none where neither version has that. It looks at the given places alone.
+/// The lines that turn the one version into the other: for all reports, or for the one of a name; none where neither version has that.
+/// It looks at the given places alone.
 pub fn difference_text(
     alloc: Global,
     from: &RepoVersion,

@@ -40,7 +40,7 @@ impl Model for Ids {
 impl PagedValue for Ids {}
 
 impl Ids {
-    /// None. It takes no memory.
+    /// No identifiers. It takes no memory.
     fn new(alloc: Global) -> Ids
         ensures { result ≡ empty }
     {
@@ -49,7 +49,7 @@ impl Ids {
         }
     }
 
-    /// The same once more.
+    /// The identifiers once more, all shared.
     fn share(&self, alloc: Global) -> Result<Ids, AllocError>
         ensures { IfOk result (λ ids. ids ≡ self.now) }
     {
@@ -58,7 +58,7 @@ impl Ids {
         })
     }
 
-    /// With one identifier more.
+    /// The identifiers with one more.
     fn with(self, alloc: Global, id: &str) -> Result<Ids, AllocError>
         ensures { IfOk result (λ ids. ids ≡ insert self id.now tt) }
     {
@@ -69,7 +69,7 @@ impl Ids {
         })
     }
 
-    /// In byte order.
+    /// The identifiers in byte order.
     pub(crate) fn iter(&self) -> Range<'_, NamedValue<Mark>>
         ensures { result ≡ self.now.entries }
     {
@@ -92,7 +92,7 @@ impl Model for Places {
 }
 
 impl Places {
-    /// None. It takes no memory.
+    /// No names. It takes no memory.
     pub fn new(alloc: Global) -> Places
         ensures { result ≡ empty }
     {
@@ -139,7 +139,7 @@ impl Places {
         self.reports.get(name)
     }
 
-    /// In byte order of the names.
+    /// The names in byte order, each with its identifiers.
     pub(crate) fn iter(&self) -> Range<'_, NamedValue<Ids>>
         ensures { result ≡ self.now.entries }
     {

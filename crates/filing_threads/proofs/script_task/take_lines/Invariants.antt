@@ -8,7 +8,7 @@ use Rattle.filing_threads.proofs.script_task.take_lines.Given as goal
 abbrev pub invariant-loop-read : goal.invariant-loop-read
 invariant-loop-read g l =
     IsLearnt l.named_desk l.outcomes.items
-    × IsUnderWay (arc_value l.table) l.script l.rest l.fn.named_desk.state l.named_desk.state l.outcomes.items (string_bytes l.text)
+    × IsUnderWay l.journaled (arc_value l.table) l.script l.rest l.fn.named_desk.state l.named_desk.state l.outcomes.items (string_bytes l.text) l.answered
 
 abbrev pub decreases-loop-read : goal.decreases-loop-read
 decreases-loop-read g l = length l.rest

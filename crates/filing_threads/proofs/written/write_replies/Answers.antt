@@ -1,7 +1,7 @@
 use Rattle.std.proofs.Common.{◌≡◌, ◌∙◌, ap, sym, subst, Bool, ◌&&◌, ◌∷◌, string_bytes}
 use Rattle.line_io.specs.Devices.{Took, TookPart}
-use Rattle.filing_threads.specs.Writing.{is_last, is_whole}
-use Rattle.filing_threads.proofs.WrittenReplies.{IsWrittenTo, and_false, and_true, one_written, one_failed}
+use Rattle.filing_threads.specs.Writing.{is_last, is_fed}
+use Rattle.filing_threads.proofs.WrittenReplies.{IsWrittenTo, and_false, and_true, fed_so, one_written, one_failed}
 use Rattle.filing_threads.proofs.written.write_replies.Goals as goal
 use Rattle.filing_threads.proofs.written.write_replies.Goals.{in-Whole, in-StepStarved}
 
@@ -19,12 +19,13 @@ loop-replies-preserved g c =
     let text : c.as_bytes.result.now ≡ string_bytes replies.text = c.as_bytes.ensures.value in
     elim c.match-ending.branch [
       | in-Whole w ↦
+          let fed = fed_so replies.ending w.in-Whole.is in
           subst (λ (b : Bool). IsWrittenTo all rest b start next)
-          (ap (λ e. whole && is_whole e) w.in-Whole.is ∙ and_true whole ∙ sym w.whole-is)
-          (one_written all rest whole start now next replies is (ap is_last w.in-Whole.is) (subst (λ t. Took now next t 0) text c.in-Ok.ensures))
+          (ap (λ (b : Bool). whole && b) fed.1 ∙ and_true whole ∙ sym w.whole-is)
+          (one_written all rest whole start now next replies is fed.0 (subst (λ t. Took now next t 0) text c.in-Ok.ensures))
       | in-StepStarved w ↦
           subst (λ (b : Bool). IsWrittenTo all rest b start next)
-          (ap (λ e. whole && is_whole e) w.in-StepStarved.is ∙ and_false whole ∙ sym w.whole-is)
+          (ap (λ e. whole && is_fed e) w.in-StepStarved.is ∙ and_false whole ∙ sym w.whole-is)
           (one_written all rest whole start now next replies is (ap is_last w.in-StepStarved.is) (subst (λ t. Took now next t 0) text c.in-Ok.ensures))
     ]
 

@@ -13,7 +13,7 @@ returns-clause-told c =
     c.in_ok-faults.ensures refl refl refl c.new.ensures.items c.in_ok-count.ensures.takes
     c.in_ok-count.ensures.count refl c.unwrap_or.ensures c.in_ok-cells.ensures loads
   where
-    loads : c.if-is_empty.would_load ≡ ((length c.take_facts.new.found.faults.items == 0) && are_allowed c.in_ok-cells.cells.items)
+    loads : c.if-is_empty.would_load_as_asked ≡ ((length c.take_facts.new.found.faults.items == 0) && are_allowed c.in_ok-cells.cells.items)
     loads = elim c.if-is_empty.branch [
       | then-is_empty w ↦ grind arith
       | else-is_empty w ↦ grind arith

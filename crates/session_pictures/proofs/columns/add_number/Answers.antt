@@ -9,8 +9,9 @@ insert-requires c = let within = below_within c.args.number c.args.columns.now.i
 
 pub returns-then-is_at : goal.returns-then-is_at
 returns-then-is_at c =
+    let place = c.count_below-place.ensures ∙ ap (count_below c.args.number) c.deref.ensures.value in
     with_present c.args.number c.args.columns.now.items
-    (sym ((λ i. is_at c.args.number ((c.count_below-place.ensures ∙ ap (count_below c.args.number) c.deref.ensures.value) i) (c.deref-2.ensures.value i))) ∙ sym c.is_at.ensures ∙ c.if-is_at.true)
+    (sym ((λ i. is_at c.args.number (place i) (c.deref-2.ensures.value i))) ∙ sym c.is_at.ensures ∙ c.if-is_at.true)
 
 pub returns : goal.returns
 returns c =

@@ -1,9 +1,19 @@
+use Rattle.std.proofs.Common.{◌∙◌, sym, refl}
 use Rattle.std.specs.Arc.{arc_value}
-use Rattle.filing_office.proofs.Learning.{on_ok}
 use Rattle.filing_threads.proofs.JudgedScripts.{adds_line}
 use Rattle.filing_threads.proofs.batch.Batch.judge.Goals as goal
 
+pub returns-then-branch : goal.returns-then-branch
+returns-then-branch c = (
+  record {
+    due = c.in_ok-judged.judged;
+    outcome = c.in_ok-judged.ensures;
+    left_out = sym c.in_ok-is_left_out.ensures ∙ c.if-branch.true;
+  },
+  refl,
+)
+
 pub returns : goal.returns
 returns c =
-    on_ok c.push.result c.push.ensures
-    (adds_line (arc_value c.args.table.now) c.args.line.now c.in_ok-judged.judged c.args.self.now c.push.new.self c.in_ok-judged.ensures)
+    adds_line c.args.journaled (arc_value c.args.table.now) c.args.line.now c.in_ok-judged.judged c.args.self.now c.push.new.self c.in_ok-judged.ensures
+    (sym c.in_ok-is_left_out.ensures ∙ c.if-branch.false) c.in_ok-push.ensures

@@ -21,7 +21,7 @@ returns-in-Some-Some g c =
     IfOk-weaker c.exported_reply_of.result _ _
     (λ text written h taken.
     let now : version ≡ repository h =
-    ap repository_in (c.deref-version.ensures ∙ c.current.ensures) ∙ (c.as_engine.ensures h taken).kept.version_is.repository_is in
+    ap repository_in (c.deref-version.ensures ∙ c.current.ensures.version) ∙ (c.as_engine.ensures h taken).kept.version_is.repository_is in
     told_now g.T.TakesSteps.has_taken c.args.self.now h (judged_export (carried c.args.self.now h) name) (string_bytes text) taken
     (ap ReplyNow (ap (λ d. option_map_or exported_text (report_at d name) (reply_text NoReport)) (sym now)
     ∙ ap (λ o. option_map_or exported_text o (reply_text NoReport)) found ∙ sym written)))

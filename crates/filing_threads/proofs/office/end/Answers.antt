@@ -1,0 +1,8 @@
+use Rattle.std.proofs.Common.{reverse}
+use Rattle.filing_threads.proofs.CountedDesks.{ended_so}
+use Rattle.filing_threads.proofs.office.end.Goals as goal
+
+pub returns : goal.returns
+returns g c =
+    ended_so c.begun_with.result c.in-Ok.core c.args.desks.items (reverse c.args.first.now) c.begun_with.ensures.same c.begun_with.ensures.goes
+    c.in-Ok.ensures.counted c.in-Ok.ensures.numbered
