@@ -1,3 +1,5 @@
 mod ScriptRuns
 mod NotedMistakes
 mod HistoryRuns
+mod ThreadRuns
+mod LoadedReports

@@ -1,5 +1,5 @@
 -- How the program ends.
-use Rattle.std.specs.Prelude.{◌≡◌, ℕ, Bool, true, List, Result, Ok, Err, IsUtf8}
+use Rattle.std.specs.Prelude.{◌≡◌, ℕ, Bool, true, List, [], ◌∷◌, ◌++◌, Result, Ok, Err, IsUtf8}
 use Rattle.filing_model.specs.Oim.Facts.{Table}
 use Rattle.filing_model.specs.Oim.Tables.{read_table_of}
 use Rattle.filing_model.specs.declared.faults.TableFault.{TableFault}
@@ -8,8 +8,6 @@ use Rattle.line_io.specs.declared.fault.ScriptFault.{ScriptFault}
 use Rattle.line_io.specs.declared.fault.ScriptFault.TheVariants as script
 use Rattle.filing_threads.specs.declared.fault.ThreadsFault.{ThreadsFault}
 use Rattle.filing_threads.specs.declared.fault.ThreadsFault.TheVariants as threads
-use Rattle.script_runs.specs.declared.reopened.OpenHistoryFault.{OpenHistoryFault}
-use Rattle.script_runs.specs.declared.reopened.OpenHistoryFault.TheVariants as history
 use Rattle.journal_file.specs.declared.fault.FileFault.{FileFault}
 use Rattle.journal_file.specs.declared.fault.FileFault.TheVariants as file
 use Rattle.filing_words.specs.declared.fault.WordsFault.{WordsFault}
@@ -43,10 +41,10 @@ abbrev pub journaled_fault_of : Bool → ScriptFault → Fault
 journaled_fault_of true (script.NoMemory line) = TooDeep line
 journaled_fault_of deep fault = fault_of fault
 
--- a line of the journal at which its history departs keeps its number
-abbrev pub history_fault_of : OpenHistoryFault → Fault
-history_fault_of (history.Departs number) = JournalLine number
-history_fault_of history.NoMemory = NoMemory
+-- what a run with a journal ends with: this status, or its fault
+abbrev pub journaled_status : ℕ → Bool → Result (Unit {0}) ScriptFault → Result ℕ Fault
+journaled_status status deep (Ok x) = Ok status
+journaled_status status deep (Err fault) = Err (journaled_fault_of deep fault)
 
 -- a journal's file that cannot be opened is one that could not be written
 abbrev pub file_fault_of : FileFault → Fault
@@ -79,6 +77,11 @@ IsTableOf bytes (Err (HistoryLine number)) = ⊥
 IsTableOf bytes (Err JournalInUse) = ⊥
 IsTableOf bytes (Err (JournalLine number)) = ⊥
 IsTableOf bytes (Err (TooDeep number)) = ⊥
+
+-- the lines of a table that is one stand after those of others, with a line feed after them; or the table has this fault
+abbrev pub AddsTable : List ℕ → List ℕ → List ℕ → Result (Unit {0}) Fault → Type 0
+AddsTable bytes before after (Ok x) = (after ≡ before ++ (bytes ++ (10 ∷ []))) × ((t : Table) × IsTableOf bytes (Ok t))
+AddsTable bytes before after (Err fault) = IsTableOf bytes (Err fault)
 
 -- 1 after a read or write fault, 2 where the words, the number of scripts or the numeric table were wrong, 3 where memory ran out, 4 where a history or a journal departs
 abbrev pub status_of : Fault → ℕ

@@ -8,11 +8,12 @@ use Rattle.report_inspection.specs.Lines.{inspection_text}
 use Rattle.report_inspection.specs.declared.inspection.Inspection.{Inspection}
 use Rattle.filing.specs.declared.inspect.Manner.{Manner}
 
--- the status of a report, by whether a load of it would be accepted
+-- the status of a report, by whether a load would be accepted, as if it declared the asked value, if any
 abbrev pub inspected_status : Bool → ℕ
-inspected_status would_load = if would_load then 0 else 4
+inspected_status would_load_as_asked = if would_load_as_asked then 0 else 4
 
--- a text was written of a report and nothing else, as far as the bytes are known: its lines, unless lines for people are wanted; and the status tells whether a load of it would be accepted
+-- a text was written of a report and nothing else, as far as the bytes are known: its lines, unless lines for people are wanted;
+-- and the status tells whether a load would be accepted, as if the report declared the asked value, if any
 pub record WritesInspection (table : Table) (manner : Manner) (bytes : List ℕ) (file : Text)
     (written written' : Option (List ℕ)) (status : ℕ)
     : Type 0 where
@@ -21,4 +22,4 @@ pub record WritesInspection (table : Table) (manner : Manner) (bytes : List ℕ)
   pub text : Text
   pub took : Appends written written' text
   pub lines_are : manner.as_text ≡ false → text ≡ inspection_text file inspection
-  pub status_is : status ≡ inspected_status inspection.would_load
+  pub status_is : status ≡ inspected_status inspection.would_load_as_asked

@@ -1,4 +1,5 @@
 pub mod Faults
 pub mod Inspected
+pub mod Loads
 pub mod Mistakes
 pub mod Runs

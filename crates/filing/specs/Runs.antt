@@ -1,111 +1,156 @@
--- What a run of the program leaves of its reader and its writer.
-use Rattle.std.specs.Prelude.{◌≡◌, ℕ, Bool, false, List, reverse, Some, None, option_map}
-use Rattle.std.specs.declared.option.Option.{Option}
+-- What a run of the program leaves of its sources and its sinks, by its result.
+use Rattle.std.specs.Prelude.{◌≡◌, ◌⊎◌, ℕ, ◌+◌, Bool, true, false, List, [], reverse, Option, Some, None, Result, Ok, Err, option_map}
+use Rattle.std.specs.declared.alloc.Global.{Global}
+use Rattle.std.specs.declared.vec.Vec.{Vec}
 use Rattle.std.specs.Io.KnownBytes.{Consumes, Appends, IsAtEnd}
 use Rattle.filing_model.specs.Common.Text.{Text}
 use Rattle.filing_model.specs.Oim.Facts.{Table}
 use Rattle.filing_model.specs.Sessions.Repository.{Repository}
-use Rattle.filing_model.specs.Histories.History.{Entry, History}
-use Rattle.filing_model.specs.Histories.Lawful.{IsLawful}
+use Rattle.filing_model.specs.Histories.History.{History}
+use Rattle.line_io.specs.Devices.{SinkState, SourceState, new_sink, new_source}
 use Rattle.line_io.specs.Lines.{lines_of, spoken}
-use Rattle.journal.specs.Lines.{recovered}
+use Rattle.line_io.specs.declared.fault.ScriptFault.{ScriptFault}
+use Rattle.journal.specs.Lines.{is_foreign, recovered}
 use Rattle.journal.specs.Standing.{IsKept, device_of, has_stopped}
 use Rattle.journal.specs.declared.journal.Journal.{Journal}
 use Rattle.history_format.specs.LinesRead.{AreLawful, LinesDepart, entries_on}
 use Rattle.filing_core.specs.Engines.{EngineState, IsEngineOf}
+use Rattle.filing_core.specs.States.{CoreState}
 use Rattle.filing_core.specs.Verdicts.{departure}
 use Rattle.filing_core.specs.declared.verdict.Verdict.{Verdict}
-use Rattle.history_format.specs.JournalLines.{journal_text}
-use Rattle.script_runs.specs.HistoryRun.{verdict_text, verdict_status}
-use Rattle.script_runs.specs.Recorded.{HasLines}
-use Rattle.script_runs.specs.Resumed.{history_on, output_on}
-use Rattle.script_runs.specs.declared.entry_file.EntryFile.{EntryFile}
+use Rattle.filing_core.specs.declared.verdict.Verdict.TheVariants.{Departs}
+use Rattle.script_runs.specs.HistoryRun.{IsHistoryFollowed, IsHistoryJudged, IsHistoryStopped, verdict_status, verdict_text}
+use Rattle.script_runs.specs.Reopened.{AreLinesOf, DepartsAt}
+use Rattle.script_runs.specs.Resumed.{GoesOn, IsStoppedOn}
+use Rattle.script_runs.specs.ScriptRun.{most_reads}
+use Rattle.script_runs.specs.declared.reopened.OpenHistoryFault.{OpenHistoryFault}
+use Rattle.script_runs.specs.declared.reopened.OpenHistoryFault.TheVariants as opening
+use Rattle.filing_threads.specs.FoundHistories.{RunsAndWritesOn, ThreadsWriteOn}
+use Rattle.filing_threads.specs.declared.fault.ThreadsFault.{ThreadsFault}
 use Rattle.history_views.specs.Versions.{version_asked}
 use Rattle.history_views.specs.declared.shown.Shown.{Shown}
 use Rattle.history_views.specs.declared.shown.Shown.TheVariants.{Written, NoReport, NoVersion}
+use Rattle.filing.specs.Faults.{fault_of, threads_fault_of}
+use Rattle.filing.specs.declared.fault.Fault.{Fault}
+use Rattle.filing.specs.declared.fault.Fault.TheVariants.{HistoryLine, JournalLine, NoMemory, Write}
 
--- a journal is kept and goes on, and has these lines
-pub record GoesOnWith {D : Type 0} (seen : D → List ℕ) (may_leave : D → List ℕ → Type 0) (has_failed : D → Bool)
-    (lines : List ℕ) (journal : Journal D) : Type 0 where
-  pub kept : IsKept seen may_leave has_failed journal
-  pub goes_on : has_stopped journal ≡ false
-  pub lines_are : recovered (seen (device_of journal)) ≡ lines
+-- ---- readers and writers
 
--- a journal is kept and goes on, and its lines are those of these entries, which are a lawful history
-pub record HasEntries {D : Type 0} (seen : D → List ℕ) (may_leave : D → List ℕ → Type 0) (has_failed : D → Bool)
-    (entries : List Entry) (journal : Journal D) : Type 0 where
-  pub kept : IsKept seen may_leave has_failed journal
-  pub goes_on : has_stopped journal ≡ false
-  pub lawful : IsLawful (reverse entries)
-  pub lines : recovered (seen (device_of journal)) ≡ journal_text (reverse entries)
+-- a source was made of a reader, and a sink of a writer: this was done between them, so much is left of the one, and the other has this
+pub record Over {S T : Type 0} (source_state : S → SourceState) (sink_state : T → SinkState) (rest rest' written written' : Option (List ℕ))
+    (done : S → S → SinkState → SinkState → Type 0) : Type 0 where
+  pub source : S
+  pub source' : S
+  pub sink : T
+  pub sink' : T
+  pub begins : source_state source ≡ new_source rest
+  pub ends : rest' ≡ (source_state source').rest
+  pub begun : sink_state sink ≡ new_sink written
+  pub ended : written' ≡ (sink_state sink').written
+  pub does : done source source' (sink_state sink) (sink_state sink')
 
--- the reader was read to its end, the output of the script that it gave, from a history on, is what was written and nothing else, as far as the bytes of either are known, and this is what the script made of the history
-pub record WritesOn (table : Table) (h : History) (rest rest' written written' : Option (List ℕ)) (after : History)
-    : Type 0 where
-  pub given : List ℕ
-  pub gave : Consumes rest rest' given
-  pub at_end : IsAtEnd rest'
-  pub took : Appends written written' (output_on table h (lines_of given))
-  pub after_is : after ≡ history_on table h (lines_of given)
+-- so of a writer alone: this was done to a sink that was made of it, and it has this then
+pub record OverWriter {T : Type 0} (state : T → SinkState) (written written' : Option (List ℕ)) (done : SinkState → SinkState → Type 0) : Type 0 where
+  pub sink : T
+  pub sink' : T
+  pub begins : state sink ≡ new_sink written
+  pub ends : written' ≡ (state sink').written
+  pub does : done (state sink) (state sink')
 
--- a journal is kept and goes on, and its lines are those of a history of the engine
-pub record HasHistory {D : Type 0} (seen : D → List ℕ) (may_leave : D → List ℕ → Type 0) (has_failed : D → Bool)
-    (engine : EngineState) (journal : Journal D) : Type 0 where
-  pub kept : IsKept seen may_leave has_failed journal
-  pub goes_on : has_stopped journal ≡ false
-  pub history : History
-  pub engine_is : IsEngineOf history engine
-  pub lines : recovered (seen (device_of journal)) ≡ journal_text history
+-- ---- histories
 
--- the engine is that of what the script made
-pub record ResumesScript (table : Table) (h : History)
-    (rest rest' written written' : Option (List ℕ)) (engine : EngineState)
-    : Type 0 where
-  pub after : History
-  pub writes : WritesOn table h rest rest' written written' after
-  pub engine_is : IsEngineOf after engine
+module _ {S : Type 0} (state : S → SourceState) (table : Table) where
+  -- the source was read to its end, and its lines depart at the one of this number, from 1
+  abbrev pub DepartsAtLine : S → S → Fault → Type 0
+  DepartsAtLine source source' fault =
+      (place : ℕ) × ((fault ≡ HistoryLine (place + 1)) × IsHistoryJudged table (state source) (state source') (Departs place))
 
--- so where entries are written to a file, which has their lines unless a write failed
-pub record RecordsScript {D : Type 0} {B : _} (seen : D → List ℕ) (table : Table) (h : History)
-    (rest rest' written written' : Option (List ℕ)) (engine : EngineState) (entries : EntryFile D B) : Type 0 where
-  pub after : History
-  pub writes : WritesOn table h rest rest' written written' after
-  pub engine_is : IsEngineOf after engine
-  pub lines : HasLines seen entries after
+  -- no history was read: the lines depart, or the run over them ended early for a cause
+  abbrev pub IsNotRead : S → S → Fault → Type 0
+  IsNotRead source source' fault =
+      DepartsAtLine source source' fault
+      ⊎ ((cause : ScriptFault) × ((fault ≡ fault_of cause) × IsHistoryStopped state table source source' cause))
 
--- the engine is one of some history
-abbrev pub IsOfSome : EngineState → Type 0
-IsOfSome engine = (h : History) × IsEngineOf h engine
+  -- the source was read to its end, and its lines are a lawful history: that of the engine, and the one that was seen
+  abbrev pub ReadsHistory : {V : Type 0} → (V → History → Type 0) → EngineState → V → S → S → Type 0
+  ReadsHistory sees engine view source source' =
+      (h : History) × (IsHistoryFollowed table (state source) (state source') engine h × sees view h)
 
--- and a file has the lines of that history, unless a write failed
-abbrev pub HasSome : {D : Type 0} {B : _} → (D → List ℕ) → EngineState → EntryFile D B → Type 0
-HasSome seen engine entries = (h : History) × (IsEngineOf h engine × HasLines seen entries h)
+  -- the lawful history that a source gave to its end; the empty one where there is no source
+  abbrev pub BeginsWith : Option S → Option S → History → Type 0
+  BeginsWith None None h = h ≡ []
+  BeginsWith (Some source) (Some source') h =
+      (engine : EngineState) × IsHistoryFollowed table (state source) (state source') engine h
+  BeginsWith None (Some source') h = ⊥
+  BeginsWith (Some source) None h = ⊥
 
--- the reader was read to its end, and its lines are a lawful history, which is the engine's
-pub record FollowsHistory (table : Table) (rest rest' : Option (List ℕ)) (engine : EngineState) : Type 0 where
-  pub given : List ℕ
-  pub gave : Consumes rest rest' given
-  pub at_end : IsAtEnd rest'
-  pub lawful : AreLawful table (spoken (lines_of given))
-  pub engine_is : IsEngineOf (reverse (entries_on table (spoken (lines_of given)))) engine
+  -- there is none
+  abbrev pub IsNotBegun : Option S → Option S → Fault → Type 0
+  IsNotBegun None None fault = fault ≡ NoMemory
+  IsNotBegun (Some source) (Some source') fault = IsNotRead source source' fault
+  IsNotBegun None (Some source') fault = ⊥
+  IsNotBegun (Some source) None fault = ⊥
 
--- and a file has the lines of its entries, unless a write failed
-pub record CopiesHistory {D : Type 0} {B : _} (seen : D → List ℕ) (table : Table) (rest rest' : Option (List ℕ))
-    (engine : EngineState) (entries : EntryFile D B) : Type 0 where
-  pub given : List ℕ
-  pub gave : Consumes rest rest' given
-  pub at_end : IsAtEnd rest'
-  pub lawful : AreLawful table (spoken (lines_of given))
-  pub engine_is : IsEngineOf (reverse (entries_on table (spoken (lines_of given)))) engine
-  pub lines : HasLines seen entries (reverse (entries_on table (spoken (lines_of given))))
+  -- the engine is that of this history, which was seen
+  abbrev pub BeginsOn : {V : Type 0} → (V → History → Type 0) → Option S → Option S → EngineState → V → Type 0
+  BeginsOn sees from from' engine view =
+      (h : History) × (BeginsWith from from' h × (IsEngineOf h engine × sees view h))
 
--- so with a journal: the device has the lines of that history, which is the engine's
-pub record WritesAndKeeps {D : Type 0} (seen : D → List ℕ) (table : Table) (h : History)
-    (rest rest' written written' : Option (List ℕ)) (engine : EngineState) (device : D) : Type 0 where
-  pub after : History
-  pub writes : WritesOn table h rest rest' written written' after
-  pub lines : recovered (seen device) ≡ journal_text after
-  pub engine_is : IsEngineOf after engine
+-- ---- scripts
+
+module _ {H S : Type 0} (history : H → SourceState) (state : S → SourceState) (table : Table) where
+  -- a script went on from the history that the one source gave to its end, and what took its steps is left; or there was no such history, and nothing else was done; or the script ended early for a cause
+  abbrev pub RunsFrom : {T : Type 0} → (T → History → Type 0) → Option H → Option H → Result T Fault → S → S → SinkState → SinkState → Type 0
+  RunsFrom has_taken from from' (Ok taker) source source' sink sink' =
+      (h : History) × (BeginsWith history table from from' h
+      × GoesOn state most_reads table h has_taken taker (Ok tt) source source' sink sink')
+  RunsFrom has_taken from from' (Err fault) source source' sink sink' =
+      (IsNotBegun history table from from' fault × ((source' ≡ source) × (sink' ≡ sink)))
+      ⊎ ((h : History) × (BeginsWith history table from from' h × ((cause : ScriptFault) × ((fault ≡ fault_of cause)
+      × IsStoppedOn state most_reads table h source source' sink sink' cause))))
+
+module _ {H : Type 0} (history : H → SourceState) (J : Type 0) (table : Table) (scripts : List (Vec ℕ Global)) where
+  -- so of scripts in threads, and of the core that has the whole history
+  abbrev pub ThreadsFrom : Option H → Option H → Result CoreState Fault → SinkState → SinkState → Type 0
+  ThreadsFrom from from' (Ok core) sink sink' =
+      (h : History) × (BeginsWith history table from from' h × RunsAndWritesOn J table scripts h core.history (Ok tt) sink sink')
+  ThreadsFrom from from' (Err fault) sink sink' =
+      (IsNotBegun history table from from' fault × (sink' ≡ sink))
+      ⊎ ((h : History) × (BeginsWith history table from from' h × ((cause : ThreadsFault) × ((fault ≡ threads_fault_of cause)
+      × ((whole : Option History) × ThreadsWriteOn J table scripts h whole (Err cause) sink sink')))))
+
+-- ---- journals
+
+-- by the table, the bytes are the lines of a history, which this is of; or they depart at the line of this number
+abbrev pub OpensAs : {T : Type 0} → (T → History → Type 0) → Table → Text → Result T OpenHistoryFault → Type 0
+OpensAs is_of table bytes (Ok opened) = (h : History) × (AreLinesOf table bytes h × is_of opened h)
+OpensAs is_of table bytes (Err (opening.Departs number)) = DepartsAt table bytes number
+OpensAs is_of table bytes (Err opening.NoMemory) = Unit {0}
+
+-- why the file of a journal was not opened: it is none of a journal, or its lines depart at the one of this number
+abbrev pub RefusesFile : Table → List ℕ → Fault → Type 0
+RefusesFile table file (JournalLine number) =
+    ((is_foreign file ≡ true) × (number ≡ 1)) ⊎ DepartsAt table (recovered file) number
+RefusesFile table file NoMemory = Unit {0}
+RefusesFile table file Write = Unit {0}
+RefusesFile table file other = ⊥
+
+module _ {D : Type 0} (seen : D → List ℕ) (may_leave : D → List ℕ → Type 0) (has_failed : D → Bool) where
+  -- a journal is kept and goes on, and has these lines
+  pub record GoesOnWith (lines : List ℕ) (journal : Journal D) : Type 0 where
+    pub kept : IsKept seen may_leave has_failed journal
+    pub goes_on : has_stopped journal ≡ false
+    pub lines_are : recovered (seen (device_of journal)) ≡ lines
+
+  -- and by the table its lines are those of a history, which this is of
+  pub record HasOpened (table : Table) (is_of : History → Type 0) (journal : Journal D) : Type 0 where
+    pub kept : IsKept seen may_leave has_failed journal
+    pub goes_on : has_stopped journal ≡ false
+    pub history : History
+    pub is : is_of history
+    pub lines : AreLinesOf table (recovered (seen (device_of journal))) history
+
+-- ---- what is told of histories
 
 -- the reader was read to its end, and the line of the verdict on its lines is what was written and nothing else, as far as the bytes of either are known; the status is that of the verdict
 pub record WritesVerdict (table : Table) (rest rest' written written' : Option (List ℕ)) (status : ℕ) : Type 0 where
@@ -143,7 +188,3 @@ abbrev pub AreShown : Table → (History → Text) → Option (List ℕ) → Opt
     → Option (List ℕ) → Option (List ℕ) → Type 0
 AreShown table text_of rest rest' written written' =
     ShowsFound table (λ h. Some (Some (text_of h))) rest rest' written written' Written
-
--- some bytes were written and nothing else, as far as they are known
-abbrev pub WritesSome : Option (List ℕ) → Option (List ℕ) → Type 0
-WritesSome written written' = (text : List ℕ) × Appends written written' text

@@ -10,7 +10,8 @@ use script_reasons::{explain, push_reasons, tells_mistake};
 use std::alloc::{AllocError, Global};
 use std::sync::Arc;
 
-/// Looks at the lines of a script and at their replies, and reports why a line was refused, where that is asked for. What cannot be reported, out of memory or without a standard error, is dropped: replies never see it.
+/// Looks at the lines of a script and at their replies, and reports why a line was refused, where that is asked for.
+/// What cannot be reported, out of memory or without a standard error, is dropped: replies never see it.
 #[derive(Drop)]
 pub(crate) struct Explainer {
     rt: HostRuntime,
@@ -20,6 +21,8 @@ pub(crate) struct Explainer {
     script: Option<String>,
     /// Whether a reply reported a line that is malformed or out of place.
     pub(crate) found_mistake: bool,
+    /// The paths of the reports that its lines load, where they were made of files.
+    reports: Vec<String>,
     /// How many lines it was shown. Blank ones are shown to nobody.
     lines: u64,
     refused: u64,
@@ -28,7 +31,7 @@ pub(crate) struct Explainer {
 }
 
 impl Explainer {
-    /// One that explains, or that only knows of mistakes.
+    /// An explainer, or one that only knows of mistakes.
     pub(crate) fn new(
         rt: &HostRuntime,
         table: &Arc<NumericTable>,
@@ -41,6 +44,7 @@ impl Explainer {
             table: table.clone()?,
             explains,
             script: None,
+            reports: Vec::new(rt.alloc()),
             found_mistake: false,
             lines: 0,
             refused: 0,
@@ -49,7 +53,7 @@ impl Explainer {
         })
     }
 
-    /// The same for one script of several, which it names before the first reason.
+    /// An explainer for one script of several, which it names before the first reason; or one that only knows of mistakes.
     pub(crate) fn of_script(
         rt: &HostRuntime,
         table: &Arc<NumericTable>,
@@ -61,6 +65,29 @@ impl Explainer {
         let mut explainer = Explainer::new(rt, table, explains)?;
         explainer.script = Some(String::from_str(rt.alloc(), path)?);
         Ok(explainer)
+    }
+
+    /// An explainer of lines that load the reports at these paths, which names the path before each reason.
+    pub(crate) fn of_reports(
+        rt: &HostRuntime,
+        table: &Arc<NumericTable>,
+        reports: Vec<String>,
+    ) -> Result<Explainer, AllocError>
+        ensures { IfOk result (λ e. e.found_mistake ≡ false) }
+    {
+        let mut explainer = Explainer::new(rt, table, true)?;
+        explainer.reports = reports;
+        Ok(explainer)
+    }
+
+    /// Names the report that the line of this number loads, if it was made of a file.
+    fn tell_report(&self, number: u64) {
+        let Ok(place) = usize::try_from(number.saturating_sub(1)) else {
+            return;
+        };
+        if let Some(path) = self.reports.get(place) {
+            let _ = eprintln!(&self.rt; "filing: {path:?}:");
+        }
     }
 
     /// Names the script, if it has to.
@@ -98,6 +125,7 @@ impl Explainer {
             self.tell_script();
         }
         self.refused = self.refused.saturating_add(1);
+        self.tell_report(number);
         let _ = eprint!(&self.rt; "{text}");
     }
 

@@ -3,10 +3,10 @@ ghost use Rattle.std.specs.Process.{exit_status};
 ghost use Rattle.filing.specs.Faults.{status_of};
 
 use crate::misplaced::Misplaced;
-use filing_cli::{OpenHistoryFault, ScriptFault, ThreadsFault};
+use filing_cli::{ScriptFault, ThreadsFault};
 use filing_model::TableFault;
 use filing_words::WordsFault;
-use journal::{DeviceFailed, NotAJournal};
+use journal::DeviceFailed;
 use journal_file::FileFault;
 use std::alloc::{AllocError, AllocFailed};
 use std::io::{Error, ErrorKind};
@@ -140,31 +140,6 @@ impl From<ScriptFault> for Fault {
             ScriptFault::Write => Fault::Write,
             ScriptFault::NoMemory(_) => Fault::NoMemory,
         }
-    }
-}
-
-impl From<OpenHistoryFault> for Fault {
-    ghost use Rattle.std.specs.Prelude.{◌≡◌};
-    ghost use Rattle.filing.specs.Faults.{history_fault_of};
-
-    ghost from_gives = { λ fault e. e ≡ history_fault_of fault };
-
-    fn from(fault: OpenHistoryFault) -> Fault {
-        match fault {
-            OpenHistoryFault::Departs(number) => Fault::JournalLine(number),
-            OpenHistoryFault::NoMemory => Fault::NoMemory,
-        }
-    }
-}
-
-impl From<NotAJournal> for Fault {
-    ghost use Rattle.std.specs.Prelude.{◌≡◌};
-    ghost use Rattle.filing.specs.declared.fault.Fault.TheVariants.{JournalLine};
-
-    ghost from_gives = { λ _ e. e ≡ JournalLine 1 };
-
-    fn from(_error: NotAJournal) -> Fault {
-        Fault::JournalLine(1)
     }
 }
 

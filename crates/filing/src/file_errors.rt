@@ -5,9 +5,6 @@ use journal_file::ErrorLog;
 use std::alloc::AllocError;
 use std::io::Error;
 
-/// The name of a file without a name.
-pub(crate) const UNNAMED: &str = "temporary file";
-
 /// Reports the errors of a file by its name.
 #[derive(Drop)]
 pub(crate) struct FileErrors {

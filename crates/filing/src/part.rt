@@ -1,4 +1,4 @@
-//! A new file beside the place that it is to take. Nothing that is there is opened, followed or written over.
+//! A new file next to the place that it is to take. Nothing that is there is opened, followed or written over.
 
 use crate::misplaced::Misplaced;
 use crate::place::beside;
@@ -7,10 +7,10 @@ use std::io::{ErrorKind, Result as IoResult};
 use std::os::unix::fs::{MetadataExt, OpenOptionsExt, PermissionsExt, fchown};
 use std::{fs, process};
 
-// So many names are tried.
+// Names that are tried at most.
 const MOST_NAMES: u32 = 100;
 
-// Who may do what with a file: its owner, its group and all others.
+// Who may do what with a file, in bits: its owner, its group and all others.
 const RIGHTS: u32 = 0o777;
 
 const RIGHTS_OF_GROUP: u32 = 0o070;
@@ -24,7 +24,8 @@ pub(crate) struct Part {
     pub(crate) path: String,
 }
 
-/// Makes a file under a name that no other file has, in the folder of a path. A private file is its owner's alone, as one that is to replace another is at first.
+/// Makes a file under a name that no other file has, in the folder of a path.
+/// A private file is its owner's alone, as one that is to replace another is at first.
 pub(crate) fn new_part(rt: &HostRuntime, path: &str, is_private: bool) -> Result<Part, Misplaced> {
     let run = process::id(rt.process());
     let mut options = OpenOptions::new();
@@ -44,7 +45,8 @@ pub(crate) fn new_part(rt: &HostRuntime, path: &str, is_private: bool) -> Result
     Err(Misplaced::Unusable)
 }
 
-/// Gives a file the owner, the group and the rights of the one that it is to replace. Who may not give it to that owner keeps it; where it cannot be given to that group, the group has no rights.
+/// Gives a file the owner, the group and the rights of the one that it is to replace.
+/// Who may not give it to that owner keeps it; where it cannot be given to that group, the group has no rights.
 pub(crate) fn keep_rights(file: &File, replaced: &Metadata) -> IoResult<()> {
     let made = file.metadata()?;
     if made.uid() != replaced.uid() {

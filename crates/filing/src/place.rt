@@ -24,7 +24,7 @@ pub(crate) enum Place {
     },
 }
 
-// So many links are followed, one after the other, as the system does.
+// Links that are followed at most, one after the other, as the system does.
 const MOST_LINKS: usize = 40;
 
 /// The path of a name in the folder of another path.

@@ -10,16 +10,16 @@ use std::mem::forget;
 use std::sync::atomic::{AtomicU64, Ordering};
 use std::time::Instant;
 
-// So many seconds pass before the first line.
+// Seconds before the first line.
 const FIRST: u64 = 2;
 
-// So many seconds pass at least between two lines.
+// Seconds at least between two lines.
 const BETWEEN: u64 = 10;
 
-// A line of so many bytes takes long to be answered.
+// Bytes of a line that takes long to be answered.
 const LONG: u64 = 16 << 20;
 
-/// The share of what is done in all of it, in hundredths.
+/// The share of what is done in all of it, in %.
 fn share(done: u64, whole: u64) -> u128 {
     if whole == 0 {
         return 100;
@@ -80,7 +80,7 @@ impl Progress {
     }
 
     /// Tells how much is done, and which share, where all of it is known, once a line is due. A line that cannot be written is passed over.
-    fn tell(&self, done: u64, whole: Option<u64>, what: &str) {
+    pub(crate) fn tell(&self, done: u64, whole: Option<u64>, what: &str) {
         let Some(seconds) = self.seconds_due() else {
             return;
         };

@@ -1,13 +1,16 @@
 //! The numeric table of the command line, and the bytes of a file.
 
-ghost use Rattle.std.specs.Prelude.{◌≡◌, [], None, Ok};
-ghost use Rattle.filing.specs.Faults.{IsTableOf};
+ghost use Rattle.std.specs.Prelude.{◌≡◌, [], Ok};
+ghost use Rattle.filing_model.specs.Reading.JsonText.{without_mark};
+ghost use Rattle.filing.specs.Faults.{AddsTable, IsTableOf};
 
 use crate::fault::{Fault, read_fault};
-use crate::named::Reasons;
+use crate::named::{INPUT, Named, Reasons};
 use oim_fact::NumericTable;
 use oim_report::read_table;
+use script_reasons::without_mark;
 use std::alloc::Global;
+use std::io::Read;
 use std::rt::Files;
 use std::{fs, str};
 
@@ -48,21 +51,74 @@ pub(crate) fn bytes_of<R: Files + AllocGlobal>(
     }
 }
 
-/// The numeric table of the file at a path; without one, the empty table.
-pub(crate) fn numeric_table<R: Files + AllocGlobal>(
-    rt: &R,
-    path: Option<&str>,
+/// The bytes of a file that the words name, or of standard input for `-`.
+pub(crate) fn bytes_given(
+    rt: &HostRuntime,
+    path: &str,
     reasons: Reasons,
-) -> Result<NumericTable, Fault>
-    ensures { path.entry ≡ None → result ≡ Ok [] }
+) -> Result<Vec<u8>, Fault> {
+    if path != "-" {
+        return bytes_of(rt, path, reasons);
+    }
+    let mut bytes = Vec::new(rt.alloc());
+    match Named::new(rt.stdin(), INPUT, reasons).read_to_end(&mut bytes) {
+        Ok(_) => Ok(bytes),
+        Err(error) => Err(read_fault(&error)),
+    }
+}
+
+/// The bytes after one byte order mark, of which it warns.
+fn after_mark<'a>(rt: &impl Eprint, path: &str, bytes: &'a [u8]) -> &'a [u8]
+    ensures { result.now ≡ without_mark bytes.now }
 {
-    let Some(path) = path else {
-        return Ok(NumericTable::of(Vec::new(rt.alloc()))?);
-    };
-    let bytes = bytes_of(rt, path, reasons)?;
-    let table = table_of(rt.alloc(), bytes.as_slice());
-    if let Err(fault) = &table {
+    let rest = without_mark(bytes);
+    if rest.len() < bytes.len() {
+        let _ = eprintln!(rt;
+            "filing: warning: the byte order mark at the head of {path:?} is dropped"
+        );
+    }
+    rest
+}
+
+/// Adds the lines of a numeric table to those of others. They are read for their faults: the number of a line is that in its own file.
+fn add_lines(alloc: Global, lines: &mut Vec<u8>, bytes: &[u8]) -> Result<(), Fault>
+    ensures { AddsTable bytes.now lines.old.items lines.new.items result }
+{
+    let _table = table_of(alloc, bytes)?;
+    lines.extend_from_slice(bytes)?;
+    lines.push(b'\n')?;
+    Ok(())
+}
+
+/// Adds the lines of the numeric table in a file to those of others.
+fn add_file(
+    rt: &HostRuntime,
+    lines: &mut Vec<u8>,
+    path: &str,
+    reasons: Reasons,
+) -> Result<(), Fault> {
+    let bytes = bytes_given(rt, path, reasons)?;
+    let added = add_lines(rt.alloc(), lines, after_mark(rt, path, &bytes));
+    if let Err(fault) = &added {
         tell_table_fault(path, *fault, reasons);
     }
-    table
+    added
+}
+
+/// The numeric table of all lines of the files at these paths; without one, the empty table.
+pub(crate) fn numeric_table(
+    rt: &HostRuntime,
+    paths: &[&str],
+    reasons: Reasons,
+) -> Result<NumericTable, Fault>
+    ensures { paths.entry.now ≡ [] → result ≡ Ok [] }
+{
+    if paths.is_empty() {
+        return Ok(NumericTable::of(Vec::new(rt.alloc()))?);
+    }
+    let mut lines = Vec::new(rt.alloc());
+    for path in paths {
+        add_file(rt, &mut lines, path, reasons)?;
+    }
+    table_of(rt.alloc(), &lines)
 }

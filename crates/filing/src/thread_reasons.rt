@@ -10,7 +10,7 @@ use std::alloc::Global;
 use std::str::from_utf8;
 use std::sync::Arc;
 
-/// Shows the lines of a script to an explainer, each beside the next of the replies, and gives how many replies there were.
+/// Shows the lines of a script to an explainer, each with the next of the replies, and gives how many replies there were.
 fn show_script(
     alloc: Global,
     explainer: &mut Explainer,

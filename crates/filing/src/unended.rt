@@ -5,7 +5,7 @@ use script_format::text_at;
 use std::alloc::{AllocError, Global};
 use std::collections::BTreeMap;
 
-// So many sessions are reported by name.
+// Sessions that are reported by name at most.
 const TOLD: usize = 10;
 
 /// Tells that a session was never ended, and how many changes it had staged.

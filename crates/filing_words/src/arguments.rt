@@ -2,7 +2,7 @@
 
 ghost use Rattle.std.specs.Prelude.{◌≡◌, false};
 ghost use Rattle.clap.specs.Words.{rule_of};
-ghost use Rattle.filing_words.specs.Words.{option_rule, flag_rule, word_rule, numeric, history, from, journal, every_reply, explain, strict, judged, viewed, report, at, earlier, later, svg, first, allowing, plain, reports, scripts};
+ghost use Rattle.filing_words.specs.Words.{option_rule, repeated_rule, flag_rule, word_rule, numeric, history, from, journal, every_reply, explain, strict, judged, viewed, report, at, earlier, later, svg, first, allowing, plain, reports, scripts, keeping, loaded};
 
 use clap::{Arg, ArgAction};
 use std::alloc::Global;
@@ -23,6 +23,24 @@ fn value_option<'a>(
         .value_name(value)
         .help(help)
         .action(ArgAction::Set)
+}
+
+/// An option that takes a value each time it is given.
+fn repeated_option<'a>(
+    alloc: Global,
+    id: &'a str,
+    long: &'a str,
+    value: &'a str,
+    help: &'a str,
+) -> Arg<'a>
+    ensures rule { rule_of result ≡ repeated_rule id.entry.now long.entry.now }
+    ensures local { result.global ≡ false }
+{
+    Arg::new(alloc, id)
+        .long(long)
+        .value_name(value)
+        .help(help)
+        .action(ArgAction::Append)
 }
 
 /// A flag.
@@ -54,13 +72,13 @@ fn needed<'a>(
         .required(true)
 }
 
-/// The option that names a numeric table.
+/// The option that names numeric tables.
 #[tactic(auto, unfolding(crate::specs::Words::numeric))]
 pub(crate) fn numeric_option<'a>(alloc: Global) -> Arg<'a>
     ensures rule { rule_of result ≡ numeric }
     ensures local { result.global ≡ false }
 {
-    value_option(
+    repeated_option(
         alloc,
         "numeric",
         "numeric",
@@ -111,6 +129,37 @@ pub(crate) fn journal_option<'a>(alloc: Global) -> Arg<'a>
         "journal",
         "FILE",
         "A journal to go on from: what is committed is kept in it",
+    )
+}
+
+/// The option that names the file of a journal, where there has to be one.
+#[tactic(auto, unfolding(crate::specs::Words::keeping))]
+pub(crate) fn keeping_option<'a>(alloc: Global) -> Arg<'a>
+    ensures rule { rule_of result ≡ keeping }
+    ensures local { result.global ≡ false }
+{
+    value_option(
+        alloc,
+        "keeping",
+        "journal",
+        "FILE",
+        "The journal in which the reports are kept",
+    )
+    .required(true)
+}
+
+/// The reports that are to be loaded.
+#[tactic(auto, unfolding(crate::specs::Words::loaded))]
+pub(crate) fn loaded_argument<'a>(alloc: Global) -> Arg<'a>
+    ensures rule { rule_of result ≡ loaded }
+    ensures local { result.global ≡ false }
+{
+    needed(
+        alloc,
+        "loaded",
+        "NAME=REPORT",
+        "A name and the file of a report, - for standard input; or a folder",
+        ArgAction::Append,
     )
 }
 
@@ -243,7 +292,7 @@ pub(crate) fn earlier_argument<'a>(alloc: Global) -> Arg<'a>
     )
 }
 
-/// The number of the version to which it leads.
+/// The number of the version to which a difference leads.
 #[tactic(auto, unfolding(crate::specs::Words::later))]
 pub(crate) fn later_argument<'a>(alloc: Global) -> Arg<'a>
     ensures rule { rule_of result ≡ later }

@@ -1,9 +1,9 @@
-//! Words of `run`, of `threads` and of `log` that `clap` takes one by one, and that do not go together.
+//! Words of commands that `clap` takes one by one, and that do not go together.
 
 use crate::fault::WordsFault;
-use crate::invocation::{LogWords, RunWords, ThreadsWords};
+use crate::invocation::{InspectWords, LoadWords, LogWords, RunWords, ThreadsWords};
 
-/// What is wrong with words that are there beside one another, in `clap`'s words.
+/// What is wrong with words that do not go together, in `clap`'s words.
 fn misfit(has_journal: bool, has_history: bool, has_from: bool) -> Option<&'static str> {
     if has_journal && has_history {
         Some("the argument '--history <FILE>' cannot be used with '--journal <FILE>'")
@@ -23,8 +23,37 @@ fn refuse(rt: &impl Eprint, reason: Option<&str>) -> Result<(), WordsFault> {
     Err(WordsFault::Refused)
 }
 
+/// Whether a word names standard input.
+fn is_input(word: &str) -> bool {
+    word == "-"
+}
+
+/// Whether one of these words names standard input.
+fn has_input(words: &[&str]) -> bool {
+    words.iter().any(|word| is_input(word))
+}
+
+/// Whether a report to load comes from standard input.
+fn loads_input(word: &str) -> bool {
+    match word.split_once('=') {
+        Some((_, file)) => is_input(file),
+        None => false,
+    }
+}
+
+/// Refuses a numeric table from standard input where something else comes from there.
+fn refuse_table(rt: &impl Eprint, tables: &[&str], is_taken: bool) -> Result<(), WordsFault> {
+    let reason =
+        "the argument '--numeric -' cannot be used: standard input is read as something else";
+    if is_taken && has_input(tables) {
+        return refuse(rt, Some(reason));
+    }
+    Ok(())
+}
+
 /// Refuses words of a run that do not go together.
 pub fn refuse_misfit(rt: &impl Eprint, given: &RunWords<'_>) -> Result<(), WordsFault> {
+    refuse_table(rt, given.numeric.as_slice(), true)?;
     if given.journal.is_none() && given.every_reply {
         return refuse(
             rt,
@@ -39,7 +68,7 @@ pub fn refuse_misfit(rt: &impl Eprint, given: &RunWords<'_>) -> Result<(), Words
     refuse(rt, reason)
 }
 
-/// Refuses such words of scripts in threads.
+/// Refuses words of scripts in threads that do not go together.
 pub fn refuse_misfit_of_threads(
     rt: &impl Eprint,
     given: &ThreadsWords<'_>,
@@ -52,10 +81,28 @@ pub fn refuse_misfit_of_threads(
     refuse(rt, reason)
 }
 
-/// Refuses such words of a log.
+/// Refuses words of a log that do not go together.
 pub fn refuse_misfit_of_log(rt: &impl Eprint, given: &LogWords<'_>) -> Result<(), WordsFault> {
     if given.first.is_some() && !given.svg {
         return refuse(rt, Some("the argument '--first <SESSION>' wants '--svg'"));
     }
     Ok(())
+}
+
+/// Refuses words of an inspection that do not go together.
+pub fn refuse_misfit_of_inspect(
+    rt: &impl Eprint,
+    given: &InspectWords<'_>,
+) -> Result<(), WordsFault> {
+    let is_taken = has_input(given.reports.as_slice());
+    refuse_table(rt, given.numeric.as_slice(), is_taken)
+}
+
+/// Refuses words of reports to load that do not go together.
+pub fn refuse_misfit_of_load(rt: &impl Eprint, given: &LoadWords<'_>) -> Result<(), WordsFault> {
+    if has_input(given.reports.as_slice()) {
+        return refuse(rt, Some("standard input has no name: write 'NAME=-'"));
+    }
+    let is_taken = given.reports.iter().any(|word| loads_input(word));
+    refuse_table(rt, given.numeric.as_slice(), is_taken)
 }

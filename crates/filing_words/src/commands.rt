@@ -2,16 +2,17 @@
 
 ghost use Rattle.std.specs.Prelude.{◌≡◌, false, IfOk, IsOkAnd};
 ghost use Rattle.clap.specs.Words.{AddsSubcommand, app_of, new_app, rule_of, with_rule};
-ghost use Rattle.filing_words.specs.Words.{numeric, run, check, show, diff, log, inspect, threads, words, program};
+ghost use Rattle.filing_words.specs.Words.{numeric, run, load, check, show, diff, log, inspect, threads, words, program};
 
 use crate::arguments::{
     allowing_option, at_option, earlier_argument, every_reply_flag, explain_flag, first_option,
-    from_option, history_option, journal_option, judged_argument, later_argument, numeric_option,
-    report_argument, reports_argument, scripts_argument, strict_flag, svg_flag, text_flag,
-    viewed_argument,
+    from_option, history_option, journal_option, judged_argument, keeping_option, later_argument,
+    loaded_argument, numeric_option, report_argument, reports_argument, scripts_argument,
+    strict_flag, svg_flag, text_flag, viewed_argument,
 };
 use crate::help::{
-    BEGINNING, DIFFERENCES, INSPECTIONS, LINES, REFUSALS, SESSIONS, THREADS, VERDICTS, VERSIONS,
+    BEGINNING, DIFFERENCES, INSPECTIONS, LINES, LOADS, REFUSALS, SESSIONS, THREADS, VERDICTS,
+    VERSIONS,
 };
 use clap::{Arg, Command};
 use std::alloc::{AllocError, Global};
@@ -55,6 +56,14 @@ fn run_command<'a>(alloc: Global) -> Result<Command<'a>, AllocError>
         .arg(every_reply_flag(alloc))?
         .arg(explain_flag(alloc))?
         .arg(strict_flag(alloc))
+}
+
+/// The command that loads reports into a journal.
+fn load_command<'a>(alloc: Global) -> Result<Command<'a>, AllocError>
+    ensures { IfOk result (λ c. app_of c ≡ load) }
+{
+    let about = "Loads reports from files into a journal";
+    command_of(alloc, "load", about, LOADS, loaded_argument(alloc))?.arg(keeping_option(alloc))
 }
 
 /// The command that judges a history.
@@ -161,7 +170,8 @@ pub(crate) fn command<'a>(alloc: Global) -> Result<Command<'a>, AllocError>
         .subcommand_required(true)
         .arg_required_else_help(false);
     let with_run = with_below(bare, run_command(alloc))?;
-    let with_threads = with_below(with_run, threads_command(alloc))?;
+    let with_load = with_below(with_run, load_command(alloc))?;
+    let with_threads = with_below(with_load, threads_command(alloc))?;
     let with_check = with_below(with_threads, check_command(alloc))?;
     let with_show = with_below(with_check, show_command(alloc))?;
     let with_diff = with_below(with_show, diff_command(alloc))?;

@@ -1,6 +1,7 @@
-//! What `filing --help` says of how to begin, `--help` of each command of what it reads and writes, and `filing words` of refusals. It is shown as it stands, at most 80 columns wide; no code reads it.
+//! What `filing --help` says of how to begin, `--help` of each command of what it reads and writes, and `filing words` of refusals.
+//! It is shown as it stands, at most 80 columns wide; no code reads it.
 
-/// What `filing --help` says beside the commands.
+/// What `filing --help` says apart from the commands.
 pub(crate) const BEGINNING: &str = r#"A script goes in, and a reply comes out for each of its lines:
   filing run < script.jsonl > replies.jsonl
   filing run --numeric concepts.txt --history history.jsonl < script.jsonl
@@ -11,7 +12,8 @@ pub(crate) const BEGINNING: &str = r#"A script goes in, and a reply comes out fo
   filing inspect --numeric concepts.txt report.json
 
 With a journal, what is loaded and committed is kept from run to run:
-  filing run --journal office.jsonl < script.jsonl > replies.jsonl
+  filing load --numeric concepts.txt --journal office.jsonl r1=report.json
+  filing run --numeric concepts.txt --journal office.jsonl < script.jsonl
 
 `filing run --help` has every line by an example, `filing words` every word by
 which a line is refused.
@@ -19,8 +21,8 @@ which a line is refused.
 The status is 0 where the script was read to its end, also where lines were
 refused; 1 after a fault in reading or writing; 2 where the words or the numeric
 table are wrong; 3 where memory ran out; 4 where a history or a journal departs,
-or a report that is inspected would be refused; 5 where `--strict` was given and
-a line was malformed or out of place."#;
+or a report that is loaded or inspected is refused; 5 where `--strict` was given
+and a line was malformed or out of place."#;
 
 /// Every line by an example, and how reports and replies go in and out.
 pub(crate) const LINES: &str =
@@ -75,11 +77,10 @@ A commit is answered by one of
 
 Other refusals are a word: `filing words` has each.
 
-A report's file becomes a load line, a script runs, and replies are picked out
-again, by jq:
-  jq -c '["load","r1",.]' report.json > script.jsonl
-  jq -Rsc '["load","r1",.]' report.json > script.jsonl
-                              the same, with the text kept as it is
+A report's file goes into a journal by `filing load`:
+  filing load --numeric concepts.txt --journal office.jsonl r1=report.json
+
+A script runs, and replies are picked out again, by jq:
   filing run --numeric concepts.txt < script.jsonl > replies.jsonl
   filing run --history history.jsonl < script.jsonl > replies.jsonl
                               and what `filing check` judges
@@ -90,7 +91,8 @@ again, by jq:
                               each line with its reply below it
 
 Without --numeric no concept is numeric, and a fact with a unit is refused as
-misplaced.
+misplaced. It may be given several times: a concept is numeric where one of the
+files has it. - is standard input, where that is not the script.
 
 A journal is a file from which a run goes on, and in which it keeps its steps.
 The reply to a load or a commit that passed is written once it is in the file,
@@ -112,6 +114,31 @@ With --explain, and on a terminal always, standard error has a reason for each
 line that was refused, how many were, and which sessions were never ended. With
 --strict the status is 5 where a reply is bad-line, bad-report, bad-fact,
 no-session, no-report, name-in-use or read-only."#;
+
+/// What `filing load --help` says of reports that are loaded.
+pub(crate) const LOADS: &str =
+    r#"Each report is a name and the file of a report in xBRL-JSON 1.0, - for standard
+input:
+  filing load --numeric concepts.txt --journal office.jsonl r1=a.json r2=b.json
+  unzip -p r3.zip r3.json | filing load --journal office.jsonl r3=-
+
+A path without = is loaded under the name of its file without the ending. Of a
+folder all files are loaded so, in byte order, but for those whose name begins
+with a dot:
+  filing load --numeric concepts.txt --journal office.jsonl reports
+
+The whole text of a file is the report of one load line, byte for byte. Its
+reply is written once the report is in the journal, on the disk:
+  ["loaded",1]
+  ["bad-report","bad-fact","f1","misplaced"]
+
+Standard error has the reasons of each refusal, after the path of its file, and
+on a terminal how many reports were read.
+
+The journal is one of `filing run --help`, and is made where there is none. The
+status is 4 where a report was refused: the others are loaded all the same. All
+files are read first: where one cannot be read, or is not UTF-8, nothing is
+loaded, and the status is 1."#;
 
 /// What `filing check --help` says of histories and verdicts.
 pub(crate) const VERDICTS: &str =
@@ -227,8 +254,9 @@ With --text the same comes as lines for people.
 `consistent` and `all`.
 
 The status is 0 where `filing run` would answer ["loaded",..] to each report, as
-it is declared or with --as, 4 where it would refuse one, and 1 where a file
-could not be read: the others are inspected all the same."#;
+if it declared the word of --as where that is given; 4 where it would refuse
+one; and 1 where a file could not be read: the others are inspected all the
+same."#;
 
 /// What `filing threads --help` says of several scripts.
 pub(crate) const THREADS: &str =

@@ -1,10 +1,10 @@
 //! What the words of the command line ask for.
 
 /// What `run` was given.
-#[derive(Clone, Copy)]
+#[derive(Drop)]
 pub struct RunWords<'a> {
-    /// The file of a numeric table.
-    pub numeric: Option<&'a str>,
+    /// The files of numeric tables, in their order.
+    pub numeric: Vec<&'a str>,
     /// The file to which the history goes.
     pub history: Option<&'a str>,
     /// The file of a history to go on from.
@@ -19,11 +19,22 @@ pub struct RunWords<'a> {
     pub strict: bool,
 }
 
+/// What `load` was given.
+#[derive(Drop)]
+pub struct LoadWords<'a> {
+    /// The files of numeric tables, in their order.
+    pub numeric: Vec<&'a str>,
+    /// The file of a journal.
+    pub journal: &'a str,
+    /// The reports in their order, as they were written: names with files, or folders.
+    pub reports: Vec<&'a str>,
+}
+
 /// What `check` was given.
-#[derive(Clone, Copy)]
+#[derive(Drop)]
 pub struct CheckWords<'a> {
-    /// The file of a numeric table.
-    pub numeric: Option<&'a str>,
+    /// The files of numeric tables, in their order.
+    pub numeric: Vec<&'a str>,
     /// The file of the history.
     pub history: &'a str,
     /// Whether to print why the history departs.
@@ -31,10 +42,10 @@ pub struct CheckWords<'a> {
 }
 
 /// What `show` was given.
-#[derive(Clone, Copy)]
+#[derive(Drop)]
 pub struct ShowWords<'a> {
-    /// The file of a numeric table.
-    pub numeric: Option<&'a str>,
+    /// The files of numeric tables, in their order.
+    pub numeric: Vec<&'a str>,
     /// The number of a version, as it was written.
     pub version: Option<&'a str>,
     /// The file of the history.
@@ -44,10 +55,10 @@ pub struct ShowWords<'a> {
 }
 
 /// What `diff` was given.
-#[derive(Clone, Copy)]
+#[derive(Drop)]
 pub struct DiffWords<'a> {
-    /// The file of a numeric table.
-    pub numeric: Option<&'a str>,
+    /// The files of numeric tables, in their order.
+    pub numeric: Vec<&'a str>,
     /// The file of the history.
     pub history: &'a str,
     /// The number of the version from which the difference leads, as it was written.
@@ -59,10 +70,10 @@ pub struct DiffWords<'a> {
 }
 
 /// What `log` was given.
-#[derive(Clone, Copy)]
+#[derive(Drop)]
 pub struct LogWords<'a> {
-    /// The file of a numeric table.
-    pub numeric: Option<&'a str>,
+    /// The files of numeric tables, in their order.
+    pub numeric: Vec<&'a str>,
     /// The file of the history.
     pub history: &'a str,
     /// Whether the log is drawn.
@@ -74,8 +85,8 @@ pub struct LogWords<'a> {
 /// What `inspect` was given.
 #[derive(Drop)]
 pub struct InspectWords<'a> {
-    /// The file of a numeric table.
-    pub numeric: Option<&'a str>,
+    /// The files of numeric tables, in their order.
+    pub numeric: Vec<&'a str>,
     /// The files of the reports, in their order.
     pub reports: Vec<&'a str>,
     /// The duplicates that are allowed in place of those that a report declares, as they were written.
@@ -87,8 +98,8 @@ pub struct InspectWords<'a> {
 /// What `threads` was given.
 #[derive(Drop)]
 pub struct ThreadsWords<'a> {
-    /// The file of a numeric table.
-    pub numeric: Option<&'a str>,
+    /// The files of numeric tables, in their order.
+    pub numeric: Vec<&'a str>,
     /// The file to which the history goes.
     pub history: Option<&'a str>,
     /// The file of a history to go on from.
@@ -108,6 +119,8 @@ pub struct ThreadsWords<'a> {
 pub enum Invocation<'a> {
     /// Run the script that comes on standard input.
     Run(RunWords<'a>),
+    /// Load reports from files into a journal.
+    Load(LoadWords<'a>),
     /// Judge the history in a file.
     Check(CheckWords<'a>),
     /// Show a report as a version of the history in a file has it, or which reports it has.

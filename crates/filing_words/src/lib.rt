@@ -25,11 +25,15 @@ mod numbers;
 mod reading;
 mod stray;
 
-pub use combined::{refuse_misfit, refuse_misfit_of_log, refuse_misfit_of_threads};
+pub use combined::{
+    refuse_misfit, refuse_misfit_of_inspect, refuse_misfit_of_load, refuse_misfit_of_log,
+    refuse_misfit_of_threads,
+};
 pub use fault::WordsFault;
 pub use help::REFUSALS;
 pub use invocation::{
-    CheckWords, DiffWords, InspectWords, Invocation, LogWords, RunWords, ShowWords, ThreadsWords,
+    CheckWords, DiffWords, InspectWords, Invocation, LoadWords, LogWords, RunWords, ShowWords,
+    ThreadsWords,
 };
 pub use numbers::{number_given, number_of};
 pub use reading::{given_words, read_words};

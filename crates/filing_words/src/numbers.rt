@@ -15,7 +15,7 @@ pub fn number_of(rt: &impl Eprint, argument: &str, word: &str) -> Result<u64, Wo
     }
 }
 
-/// The same of an argument that may be missing.
+/// The number that a word gives as the value of an argument; none where the word is missing.
 pub fn number_given(
     rt: &impl Eprint,
     argument: &str,

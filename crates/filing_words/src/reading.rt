@@ -77,7 +77,7 @@ fn shown<'a, R: Print + Eprint>(rt: &R, error: &Error) -> Result<Invocation<'a>,
     }
 }
 
-/// Says where a script comes from, beside the error of words that name its file.
+/// Says where a script comes from, after the error of words that name its file.
 fn hint<R: Eprint>(rt: &R, error: &Error, words: &[String]) {
     if error.kind() != ErrorKind::UnknownArgument {
         return;

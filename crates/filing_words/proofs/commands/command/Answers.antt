@@ -2,12 +2,12 @@ use Rattle.std.proofs.Common.{ap, codes, true, false, refl, ◌≡◌, ◌∙◌
 use Rattle.std.proofs.lemmas.Result.{IfOk-weaker}
 use Rattle.clap.specs.Words.{App, app_of, new_app}
 use Rattle.clap.specs.Simple.{app_of_fields}
-use Rattle.filing_words.specs.Words.{allowing, at, check, diff, earlier, every_reply, explain, first, from, history, inspect, journal, judged, later, log, numeric, plain, program, report, reports, run, scripts, show, strict, svg, threads, viewed, words}
+use Rattle.filing_words.specs.Words.{allowing, at, check, diff, earlier, every_reply, explain, first, from, history, inspect, journal, judged, keeping, later, load, loaded, log, numeric, plain, program, report, reports, run, scripts, show, strict, svg, threads, viewed, words}
 use Rattle.filing_words.proofs.BuiltCommands.{with_command, with_made}
 use Rattle.filing_words.proofs.commands.command.Goals as goal
 
 pub returns : goal.returns
-unfolding numeric history from journal every_reply explain strict judged viewed report at earlier later svg first allowing plain reports scripts run check show diff log inspect threads words program
+unfolding numeric history from journal every_reply explain strict judged viewed report at earlier later svg first allowing plain reports scripts keeping loaded run load check show diff log inspect threads words program
 returns c =
     let dated = λ (a : App). record a { top = record a.top { has_version = true } } in
     let wants = λ (a : App). record a { top = record a.top { subcommand_required = true } } in
@@ -18,7 +18,8 @@ returns c =
     let top_is : app_of c.arg_required_else_help-bare.result ≡ wants (dated (new_app (codes "filing"))) = ap app_of_fields c.arg_required_else_help-bare.ensures
     ∙ ap helps (ap app_of_fields c.subcommand_required.ensures ∙ ap wants told) in
     let runs = with_made _ run _ _ _ c.in_ok-with_run.ensures top_is c.run_command.ensures refl in
-    let threaded = with_made _ threads _ _ _ c.in_ok-with_threads.ensures runs c.threads_command.ensures refl in
+    let loads = with_made _ load _ _ _ c.in_ok-with_load.ensures runs c.load_command.ensures refl in
+    let threaded = with_made _ threads _ _ _ c.in_ok-with_threads.ensures loads c.threads_command.ensures refl in
     let checked = with_made _ check _ _ _ c.in_ok-with_check.ensures threaded c.check_command.ensures refl in
     let showing = with_made _ show _ _ _ c.in_ok-with_show.ensures checked c.show_command.ensures refl in
     let comparing = with_made _ diff _ _ _ c.in_ok-with_diff.ensures showing c.diff_command.ensures refl in

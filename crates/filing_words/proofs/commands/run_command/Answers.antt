@@ -1,7 +1,7 @@
 use Rattle.std.proofs.Common.{◌≡◌, ◌∙◌, ap, codes}
 use Rattle.std.proofs.lemmas.Result.{IfOk-weaker}
 use Rattle.clap.specs.Words.{app_of, new_app, with_rule}
-use Rattle.filing_words.specs.Words.{every_reply, explain, from, history, journal, numeric, run, strict}
+use Rattle.filing_words.specs.Words.{history, numeric, run}
 use Rattle.filing_words.proofs.BuiltCommands.{with_argument}
 use Rattle.filing_words.proofs.commands.run_command.Goals as goal
 

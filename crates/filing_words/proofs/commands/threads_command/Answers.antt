@@ -1,7 +1,7 @@
 use Rattle.std.proofs.Common.{◌≡◌, ◌∙◌, ap, codes}
 use Rattle.std.proofs.lemmas.Result.{IfOk-weaker}
 use Rattle.clap.specs.Words.{app_of, new_app, with_rule}
-use Rattle.filing_words.specs.Words.{explain, from, history, journal, numeric, scripts, strict, threads}
+use Rattle.filing_words.specs.Words.{numeric, scripts, threads}
 use Rattle.filing_words.proofs.BuiltCommands.{with_argument}
 use Rattle.filing_words.proofs.commands.threads_command.Goals as goal
 

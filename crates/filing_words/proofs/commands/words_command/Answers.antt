@@ -1,5 +1,4 @@
-use Rattle.std.proofs.Common.{◌≡◌, ◌∙◌, ap, codes}
-use Rattle.clap.specs.Words.{app_of, new_app}
+use Rattle.std.proofs.Common.{◌∙◌, ap}
 use Rattle.clap.specs.Simple.{app_of_fields}
 use Rattle.filing_words.specs.Words.{words}
 use Rattle.filing_words.proofs.commands.words_command.Goals as goal

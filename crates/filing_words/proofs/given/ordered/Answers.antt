@@ -1,14 +1,20 @@
 use Rattle.std.proofs.Common.{sym}
 use Rattle.clap.specs.Words.{found_of, rows_of, subcommand_rows_of}
-use Rattle.filing_words.proofs.Entered.{both_read, enters_run, enters_check, enters_show, enters_diff, enters_log, enters_inspect, enters_threads, enters_words}
-use Rattle.filing_words.specs.Words.{compared_of, inspected_of, judged_of, logged_of, run_of, shown_of, threads_of}
+use Rattle.filing_words.proofs.Entered.{both_read, enters_run, enters_load, enters_check, enters_show, enters_diff, enters_log, enters_inspect, enters_threads, enters_words}
+use Rattle.filing_words.specs.Words.{compared_of, inspected_of, judged_of, loaded_of, logged_of, run_of, shown_of, threads_of}
 use Rattle.filing_words.proofs.given.ordered.Goals as goal
 
-pub returns-in-Some-run-default : goal.returns-in-Some-run-default
-returns-in-Some-run-default c =
+pub returns-in_ok-run_words-in-Some-run-default : goal.returns-in_ok-run_words-in-Some-run-default
+returns-in_ok-run_words-in-Some-run-default c =
     let met = c.in-Some-run-default in
-    enters_run (subcommand_rows_of c.args.matches.now) met.field-0-0.now (rows_of (found_of met.run'.now)) (run_of c.run_words.result)
-    (both_read _ _ _ _ _ (sym met.ensures.name) (sym met.ensures.rows)) met.is-run c.run_words.ensures
+    enters_run (subcommand_rows_of c.args.matches.now) met.field-0-0.now (rows_of (found_of met.run'.now)) (run_of c.in_ok-run_words-in-Some-run-default.field-0)
+    (both_read _ _ _ _ _ (sym met.ensures.name) (sym met.ensures.rows)) met.is-run c.in_ok-run_words-in-Some-run-default.ensures
+
+pub returns-in_ok-load_words-in-Some-load-default : goal.returns-in_ok-load_words-in-Some-load-default
+returns-in_ok-load_words-in-Some-load-default c =
+    let met = c.in-Some-load-default in
+    enters_load (subcommand_rows_of c.args.matches.now) met.field-0-0.now (rows_of (found_of met.load.now)) (loaded_of c.in_ok-load_words-in-Some-load-default.field-0)
+    (both_read _ _ _ _ _ (sym met.ensures.name) (sym met.ensures.rows)) met.is-load c.in_ok-load_words-in-Some-load-default.ensures
 
 pub returns-in_ok-check_words-in-Some-check-default : goal.returns-in_ok-check_words-in-Some-check-default
 returns-in_ok-check_words-in-Some-check-default c =
