@@ -1,7 +1,19 @@
-//! Calls that no script makes.
+//! Calls that no script makes, or makes only through others.
 //!
-//! A line that is no JSON is read as a report. `["prefixes",[PREFIX,URI],..]` makes the names of prefixes, `["dims",[NAME,TEXT],..]` dimensions; `["declare",WORD,TEXT]` sets a word in a text that may be no info of a report; and `["number",N]` gets the replies with this number of a version.
+//! A line that is no JSON is read as a report. Others are arrays:
+//!
+//! - `["prefixes",[PREFIX,URI],..]` makes the names of prefixes, `["dims",[NAME,TEXT],..]` dimensions.
+//! - `["declare",WORD,TEXT]` sets a word in a text that may be no info of a report.
+//! - `["numeral",TEXT]` reads a number; `["intervals",TEXT,DECIMALS,TEXT,DECIMALS]` compares two.
+//! - `["fact",FACT]` writes a fact before and after it is fitted to the prefix `ex`; `["class",FACT,..]` gets the class of facts.
+//! - `["version",LOAD,PAGE,STEP,..]` asks the version of a load and a session there, in steps as histories write them.
+//! - `["number",N]` gets the replies with this number of a version.
 
+mod values;
+mod versions;
+
+use crate::calls::values::{class_answer, fact_answer, intervals_answer, numeral_answer};
+use crate::calls::versions::version_answer;
 use crate::lines::{is_end, push_line, read_numeric};
 use crate::question::{parts, text_at};
 use crate::sheet::{Answers, Sheet, compare_rows};
@@ -71,6 +83,14 @@ fn value_answer(alloc: Global, call: &Value, table: &Arc<NumericTable>) -> Resul
             let allowed = allowed_of_word(text_at(call, 1)).unwrap_or(Allowed::All);
             Ok(with_allowed(alloc, text_at(call, 2), allowed)?)
         }
+        "numeral" => numeral_answer(alloc, text_at(call, 1)),
+        "intervals" => intervals_answer(alloc, call),
+        "fact" => match pairs.first() {
+            Some(fact) => fact_answer(alloc, fact, table),
+            None => Ok(String::new(alloc)),
+        },
+        "class" => class_answer(alloc, pairs, table),
+        "version" => version_answer(alloc, call),
         _ => {
             let number = call.get(1usize).and_then(Value::as_u64).unwrap_or(0);
             let committed = reply_text(alloc, &Reply::Committed(number))?;

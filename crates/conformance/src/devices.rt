@@ -6,9 +6,11 @@ use crate::journals::{Keeping, keep_script};
 use anyhow::{Result, anyhow};
 use filing_core::{Core, Verdict};
 use journal::MemoryFile;
-use line_io::{MemoryIn, MemoryOut, ScriptFault};
+use line_io::{MemoryIn, MemoryOut, ScriptFault, Sink, Source};
 use oim_fact::NumericTable;
-use script_runs::{judge_history, run_script_within, write_history, write_verdict};
+use script_runs::{
+    READS, judge_history, run_script, run_script_within, write_history, write_verdict,
+};
 use std::alloc::{AllocError, Global};
 use std::marker::Brand;
 use std::sync::Arc;
@@ -47,7 +49,7 @@ impl Trial {
     pub(crate) fn sound(piece: usize) -> Trial {
         Trial {
             piece,
-            reads: 1 << 32,
+            reads: READS,
             failing_read: 0,
             failing_write: 0,
             idle_write: 0,
@@ -90,6 +92,21 @@ fn ended_with(ended: Ended, written: Result<Vec<u8>, AllocError>) -> Result<Done
     }
 }
 
+/// Runs a script with at most so many reads.
+fn run_trial<R: Source, W: Sink>(
+    alloc: Global,
+    source: &mut R,
+    sink: &mut W,
+    table: &Arc<NumericTable>,
+    reads: u64,
+) -> Result<Core, ScriptFault> {
+    if reads == READS {
+        run_script(alloc, source, sink, table)
+    } else {
+        run_script_within(alloc, source, sink, table, reads)
+    }
+}
+
 fn do_work_by<L: Ledger, K: Ledger>(
     alloc: Global,
     table: &Arc<NumericTable>,
@@ -118,7 +135,7 @@ fn do_work_by<L: Ledger, K: Ledger>(
     let mut source = source.failing_at(trial.failing_read);
     let ended = match work {
         Work::Script(_) => {
-            match run_script_within(alloc, &mut source, &mut sink, table, trial.reads) {
+            match run_trial(alloc, &mut source, &mut sink, table, trial.reads) {
                 Ok(core) => Ended::Left(core),
                 Err(fault) => Ended::Failed(fault),
             }

@@ -6,7 +6,9 @@ use filing_core::{Engine, HashKeys};
 use journal::{Journal, MemoryFile, open, read_lines};
 use line_io::{ScriptFault, Sink, Source};
 use oim_fact::NumericTable;
-use script_runs::{JournaledRun, OpenHistoryFault, engine_of_history, run_script_with_journal};
+use script_runs::{
+    OpenHistoryFault, Unobserved, engine_of_history, run_script_with_journal_observed,
+};
 use std::alloc::{AllocError, Global};
 use std::sync::Arc;
 
@@ -53,17 +55,19 @@ pub(crate) fn keep_script<R: Source, W: Sink>(
     let Some(engine) = engine_of(alloc, table, &lines)? else {
         return Ok(Ended::Unopened);
     };
-    let every_reply = keeping.every_reply;
     let journal = Journal::new(file, lines.len());
-    let JournaledRun {
-        ended,
+    let (run, _) = run_script_with_journal_observed(
+        alloc,
         engine,
         journal,
-        ..
-    } = run_script_with_journal(alloc, engine, journal, source, sink, table, every_reply);
-    drop(engine);
-    let file = journal.into_device();
-    match ended {
+        Unobserved,
+        source,
+        sink,
+        table,
+        keeping.every_reply,
+    );
+    let file = run.journal.into_device();
+    match run.ended {
         Ok(()) => Ok(Ended::Kept(file)),
         Err(fault) => Ok(Ended::Stopped(file, fault)),
     }

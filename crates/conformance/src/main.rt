@@ -3,7 +3,7 @@
 //! - `scripts`: worked scripts, their histories, and histories of others.
 //! - `in_parts`: the steps of a history, loads and commits in two parts.
 //! - `journals`: scripts that keep a journal in memory.
-//! - `calls`: worked rows of calls that no script makes.
+//! - `calls`: worked rows of calls that no script makes, or makes only through others.
 //! - `pages`: worked rows of lists in pages and of the pages of reports, and both beside plain lists.
 //! - `trials`: has each call of a device go wrong.
 //! - `crashes`: opens what a crash may leave of a journal.

@@ -1,6 +1,11 @@
 //! Offices: what their desks and reviewers are answered, in turn and in threads of their own.
 //!
-//! `stage` plays the acts of `data/offices.rows`, each sheet in an office of two desks and two reviewers: `acts` has their parts, `readers` what reviewers do, and `ends` how offices end. `lent` plays those of `data/lent.rows` on what a lock lends, without an office. `crowd` lets four desks take the steps of `rounds` in threads, and compares what `entered` says they were answered with the history; at a `meeting` they wait for one another. `places` makes something of each value at its place.
+//! `stage` plays the acts of `data/offices.rows`, each sheet in an office of two desks and two reviewers: `acts` has their parts,
+//! `readers` what reviewers do, and `ends` how offices end. `lent` plays those of `data/lent.rows` on what a lock lends, without an
+//! office. `crowd` lets desks take the steps of `rounds` in threads, and compares what `entered` says they were answered with the
+//! history; at a `meeting` they wait for one another. `places` makes something of each value at its place.
+
+ghost use Rattle.std.specs.Prelude.{◌<◌, ◌≤◌};
 
 mod acts;
 mod crowd;
@@ -16,10 +21,11 @@ mod stage;
 use crate::sheet::{Answers, Sheet, compare_rows};
 pub(crate) use acts::line_step;
 use anyhow::Result;
-use crowd::{Way, take_rounds};
+use crowd::take_steps;
 use ends::core_text;
 use filing_office::{Blanks, UnopenedLog, opened_and_finished};
 use lent::play_lent;
+use rounds::Way;
 use stage::play;
 use std::alloc::Global;
 use std::marker::{Brand, Sync};
@@ -59,18 +65,25 @@ fn end_at_once<R: Wait + Print + AllocGlobal>(rt: &R) -> Result<()> {
     Ok(())
 }
 
-/// Lets desks take rounds in threads.
-fn run_crowd<R: Threads + Wait + Sync + Print + AllocGlobal>(rt: &R, way: Way) -> Result<()> {
-    take_rounds::<Brand, Brand, _>(rt, Blanks::of(4), way)
+/// Lets desks take steps in threads.
+fn run_crowd<R: Threads + Wait + Sync + Print + AllocGlobal>(
+    rt: &R,
+    desks: usize,
+    way: Way,
+) -> Result<()>
+    requires { (0 < desks) × (desks ≤ 16) }
+{
+    take_steps::<Brand, Brand, _>(rt, desks, Blanks::of(desks), way)
 }
 
-/// Plays the acts of offices and of what a lock lends, and lets four desks take rounds in threads, in both ways.
+/// Plays the acts of offices and of what a lock lends, and lets desks take steps in threads: two of them one amendment each, and four rounds, in both ways.
 pub(crate) fn show_offices<R: Threads + Wait + Sync + Print + Files + AllocGlobal>(
     rt: &R,
 ) -> Result<()> {
     compare_rows(rt, "offices", &Player { rt })?;
     compare_rows(rt, "lent", &Lender { rt })?;
     end_at_once(rt)?;
-    run_crowd(rt, Way::Steps)?;
-    run_crowd(rt, Way::Lists)
+    run_crowd(rt, 2, Way::Once)?;
+    run_crowd(rt, 4, Way::Steps)?;
+    run_crowd(rt, 4, Way::Lists)
 }

@@ -21,7 +21,7 @@ fn told(
     let inspection = inspect(alloc, report, table, asked)?;
     let mut out = String::new(alloc);
     push_inspection(&mut out, "f", &inspection)?;
-    out.push_str(if inspection.would_load {
+    out.push_str(if inspection.would_load_as_asked {
         "loads\n"
     } else {
         "does not load\n"

@@ -1,14 +1,14 @@
-//! Four desks that take rounds of steps in threads of their own, and whether the finished history has just these; and a reviewer who learns what they were given.
+//! Desks that take steps in threads of their own, and whether the finished history has just these; and a reviewer who learns what they were given.
 
-ghost use Rattle.std.specs.Prelude.{◌≡◌, ◌<◌, ◌^◌};
+ghost use Rattle.std.specs.Prelude.{◌≡◌, ◌<◌, ◌≤◌, ◌^◌};
 
 use crate::offices::acts::line_step;
 use crate::offices::ends::{all_came, give_up};
-use crate::offices::entered::Told;
+use crate::offices::entered::{Told, has_each_receipt};
 use crate::offices::meeting::Meeting;
 use crate::offices::places::made_of_each;
 use crate::offices::readers::Readers;
-use crate::offices::rounds::work_of;
+use crate::offices::rounds::{Way, work_of};
 use anyhow::{Result, anyhow};
 use filing_core::HashKeys;
 use filing_office::{Blanks, Core, Desk, DeskStep, Naming, Office, Outcome, Ran, Work, run_desks};
@@ -21,21 +21,9 @@ use std::sync::ledger::Ledger;
 use std::thread;
 use std::thread::Threads;
 
-/// How desks take their rounds.
-#[derive(Clone, Copy)]
-pub(crate) enum Way {
-    /// One step after the other, each with the session that the step before it was answered.
-    Steps,
-    /// As a list of steps under a name, where each waits until all have a session open.
-    Lists,
-}
-
 // The load of a report without facts.
 const LOAD: &str =
     r#"["load","r1",{"documentInfo":{"documentType":"https://xbrl.org/2021/xbrl-json","namespaces":{"ex":"http://e.org/t"}}}]"#;
-
-// What the first desk adds first.
-const ADDED: &str = r#"["get","r1","f-0-0"]"#;
 
 /// Takes steps one after the other, each with the session that the step before it was answered. Where one fails, there are fewer outcomes.
 fn take_all<L: Ledger + Naming, M: Ledger, R: Wait + AllocGlobal>(
@@ -115,7 +103,7 @@ fn load<L: Ledger + Naming, M: Ledger, R: Wait + AllocGlobal>(
     }
 }
 
-/// Loads the report, and lets desks take their rounds.
+/// Loads the report, and lets desks take their steps.
 fn run_rounds<
     L: Ledger + Naming + Send + Sync,
     M: Ledger + Send + Sync,
@@ -126,13 +114,16 @@ fn run_rounds<
         drop(desks);
         return Err(error);
     }
-    let works = made_of_each(rt.alloc(), desks, work_of::<L, M>)?;
+    let with_steps = |alloc: Global, place: usize, desk: Desk<L, M>| -> Result<Work<L, M>> {
+        work_of(alloc, way, place, desk)
+    };
+    let works = made_of_each(rt.alloc(), desks, with_steps)?;
     match way {
         Way::Steps => {
             let run = |work: Work<L, M>| -> Ran<L, M> { worked(rt, office, work) };
             Ok(thread::map_vec(rt, works, &run)?)
         }
-        Way::Lists => run_lists(rt, office, works),
+        Way::Lists | Way::Once => run_lists(rt, office, works),
     }
 }
 
@@ -148,16 +139,20 @@ fn desk_of<L: Ledger + Naming, M: Ledger>(
     Ok(desk)
 }
 
-/// What each desk was answered, whose receipts a reviewer learns.
+/// What each desk was answered, whose receipts a reviewer learns. It opens a review when it has learnt those of the first.
 fn told_of_all<L: Ledger + Naming, M: Ledger>(
     alloc: Global,
     ran: &[Ran<L, M>],
     readers: &mut Readers<L>,
+    way: Way,
 ) -> Result<Vec<Told>> {
     let mut all = Vec::with_capacity(alloc, ran.len())?;
     for (one, place) in ran.iter().zip(0usize..) {
         readers.learn_all(&one.2)?;
-        all.push(Told::of(alloc, place, &one.2)?)?;
+        if place == 0 {
+            drop(readers.opened(alloc, 0)?);
+        }
+        all.push(Told::of(alloc, way, place, &one.2)?)?;
     }
     Ok(all)
 }
@@ -167,8 +162,9 @@ fn come_back<L: Ledger + Naming, M: Ledger>(
     alloc: Global,
     ran: Vec<Ran<L, M>>,
     readers: &mut Readers<L>,
+    way: Way,
 ) -> Result<(Vec<Desk<L, M>>, Vec<Told>)> {
-    match told_of_all(alloc, &ran, readers) {
+    match told_of_all(alloc, &ran, readers, way) {
         Ok(told) => match made_of_each(alloc, ran, desk_of::<L, M>) {
             Ok(desks) => Ok((desks, told)),
             Err(error) => {
@@ -183,12 +179,14 @@ fn come_back<L: Ledger + Naming, M: Ledger>(
     }
 }
 
-/// Compares what desks were answered with the history of their office, and writes what it made, which version a reviewer has learnt, and what it reads there of the first desk's.
+/// Compares what desks were answered with the history of their office, and writes what it made, which version a reviewer has learnt,
+/// and what its review reads of the first desk's.
 fn compare_end<J: Naming, R: Print + AllocGlobal>(
     rt: &R,
     core: &Core,
     all_told: &[Told],
-    readers: &mut Readers<J>,
+    readers: &Readers<J>,
+    way: Way,
 ) -> Result<()> {
     for (told, place) in all_told.iter().zip(0usize..) {
         let answers = told.lines.len();
@@ -199,9 +197,11 @@ fn compare_end<J: Naming, R: Print + AllocGlobal>(
     }
     let (entries, number) = (core.history().len(), core.current().number());
     let seen = readers.seen(rt.alloc(), 0)?;
-    println!(rt; "{entries} entries, {number} versions, {seen} learnt")?;
-    drop(readers.opened(rt.alloc(), 0)?);
-    let read = readers.asked(rt.alloc(), 0, line_step(rt.alloc(), ADDED)?)?;
+    let is_each = has_each_receipt(rt.alloc(), all_told)?;
+    println!(rt;
+        "{entries} entries, {number} versions, a receipt of each from 2 on: {is_each}, {seen} learnt"
+    )?;
+    let read = readers.asked(rt.alloc(), 0, line_step(rt.alloc(), way.first_read())?)?;
     println!(rt; "a reviewer reads {read}")?;
     Ok(())
 }
@@ -212,11 +212,12 @@ fn end_crowd<L: Ledger + Naming, M: Ledger, R: Wait + Print + AllocGlobal>(
     office: Office<L, M>,
     ran: Vec<Ran<L, M>>,
     readers: &mut Readers<L>,
+    way: Way,
 ) -> Result<()> {
-    match come_back(rt.alloc(), ran, readers) {
+    match come_back(rt.alloc(), ran, readers, way) {
         Ok((desks, told)) => {
             let core = all_came(rt, office.finish(rt, desks))?;
-            let compared = compare_end(rt, &core, &told, readers);
+            let compared = compare_end(rt, &core, &told, readers, way);
             drop(core);
             drop(told);
             compared
@@ -225,22 +226,23 @@ fn end_crowd<L: Ledger + Naming, M: Ledger, R: Wait + Print + AllocGlobal>(
     }
 }
 
-/// Four desks that take their rounds in an office of their own.
-pub(crate) fn take_rounds<
+/// Desks that take their steps in an office of their own.
+pub(crate) fn take_steps<
     L: Ledger + Naming + Send + Sync,
     M: Ledger + Send + Sync,
     R: Threads + Wait + Sync + Print + AllocGlobal,
->(rt: &R, blanks: Blanks, way: Way) -> Result<()>
+>(rt: &R, desks: usize, blanks: Blanks, way: Way) -> Result<()>
+    requires some { (0 < desks) × (desks ≤ 16) }
     requires book { blanks.unopened_log.seen.book ≡ L.book }
-    requires steps { (blanks.steps.name ≡ L.name) × (blanks.steps.parts ≡ L.parts) × (blanks.steps.parts ≡ 4) }
+    requires steps { (blanks.steps.name ≡ L.name) × (blanks.steps.parts ≡ L.parts) × (blanks.steps.parts ≡ desks) }
     requires receipts { (blanks.receipts.name ≡ M.name) × (blanks.receipts.parts ≡ M.parts)
-        × (blanks.receipts.parts ≡ 4) }
+        × (blanks.receipts.parts ≡ desks) }
 {
     let keys = HashKeys::Fixed;
-    let (office, desks, reviewers) = Office::<L, M>::open(rt, rt.alloc(), keys, 4, 1, blanks)?;
+    let (office, desks, reviewers) = Office::<L, M>::open(rt, rt.alloc(), keys, desks, 1, blanks)?;
     let mut readers = Readers::of(rt.alloc(), reviewers);
     let ended = match run_rounds(rt, &office, desks, way) {
-        Ok(ran) => end_crowd(rt, office, ran, &mut readers),
+        Ok(ran) => end_crowd(rt, office, ran, &mut readers, way),
         Err(error) => give_up(rt, office, error),
     };
     drop(readers);
