@@ -7,10 +7,7 @@ use rand_core::Rng;
 use rand_pcg::Pcg32;
 use std::alloc::{AllocError, Global};
 
-/// The names of sessions.
-pub(crate) const SESSIONS: [&str; 4] = ["s1", "s2", "s 3", "\"é\\"];
-
-// The same as JSON texts.
+// The names of sessions, as JSON texts.
 const NAMES: [&str; 4] = [r#""s1""#, r#""s2""#, r#""s 3""#, r#""\"\u00e9\\""#];
 
 /// The bytes so far, the generator of what comes next, which names of sessions are in use, and how much was asked of each session.
@@ -34,7 +31,7 @@ impl Draft {
     }
 
     /// A number below a bound.
-    pub(crate) fn below(&mut self, bound: usize) -> usize
+    fn below(&mut self, bound: usize) -> usize
         requires { 0 < bound }
         ensures { result < bound }
     {
@@ -78,12 +75,12 @@ impl Draft {
                 self.asked[place] = 0;
                 place
             }
-            When::Ask | When::Large => {
+            When::Ask => {
                 let place = self.place_of_name(true);
                 self.asked[place] = self.asked[place].saturating_add(1);
                 place
             }
-            When::First | When::Load | When::Apart | When::LargeLoad => 0,
+            When::First | When::Apart => 0,
         }
     }
 
@@ -114,55 +111,6 @@ impl Draft {
             self.put(pool, when)?;
         }
         Ok(())
-    }
-
-    /// Which line comes next. Where few sessions are open, more are opened.
-    fn next_kind(&mut self, asking: When) -> When {
-        let mut names = 0u32;
-        for place in 0..4 {
-            names = names.saturating_add(u32::from(self.used[place]));
-        }
-        if names < 3 && self.below(2) == 0 {
-            return When::Open;
-        }
-        match self.below(64) {
-            0..6 => When::Open,
-            6..12 => When::End,
-            12..14 => When::Load,
-            14..17 => When::Apart,
-            _ => asking,
-        }
-    }
-
-    /// The lines behind the first load: loads, openings, so many lines, and commits of sessions that are still open.
-    fn put_all(&mut self, pool: &Pool<'_>, asking: When, count: usize) -> Result<(), AllocError> {
-        self.put_some(pool, When::First, 3)?;
-        let loads = self.below(3);
-        self.put_some(pool, When::Load, loads)?;
-        let openings = self.below(5);
-        self.put_some(pool, When::Open, openings)?;
-        for _ in 0..count {
-            let when = self.next_kind(asking);
-            self.put(pool, when)?;
-        }
-        let endings = 2 + self.below(3);
-        self.put_some(pool, When::End, endings)
-    }
-
-    /// A script. Of one in four the last line has no end.
-    pub(crate) fn put_script(&mut self, pool: &Pool<'_>) -> Result<(), AllocError> {
-        let count = 22 + self.below(33);
-        self.put_all(pool, When::Ask, count)?;
-        if self.below(4) == 0 {
-            self.text.pop();
-        }
-        Ok(())
-    }
-
-    /// A script of one large report, and small ones beside it.
-    pub(crate) fn put_large_script(&mut self, pool: &Pool<'_>) -> Result<(), AllocError> {
-        self.put(pool, When::LargeLoad)?;
-        self.put_all(pool, When::Large, 100)
     }
 
     /// A script that meets others in threads: a load, openings, some lines, mostly of those that ask something of a session, and ends of sessions.

@@ -9,26 +9,28 @@
 //! - `crashes`: opens what a crash may leave of a journal.
 //! - `offices`: takes steps at desks, and opens reviews beside them.
 //! - `threads`: runs scripts in threads.
-//! - `drawn`: draws scripts, which the oracle answers too.
+//! - `openings`: opens journals, in memory and in files.
+//! - `callers`: runs the worked callers of `embedding`.
 //! - `lines`: what they need of lines.
 //! - `sheet`: reads rows, and compares.
 //! - `question`: the parts of a line of JSON.
-//! - `pool`: the lines of which scripts are drawn.
+//! - `pool`: the lines of which scripts for threads are drawn.
 //! - `draft`: a script that grows by what is drawn.
 //! - `devices`: runs scripts, and writes and judges histories, over memory.
 //!
-//! A word names the part that is wanted, one of `PARTS`; without a word it is all of them. `sheets`, `model` and `histories` are the files that a file of this name lists; those of `model` have answers that `tools/draw_rows` computed. `rounds` is of the pages of reports beside plain lists. A seed of what is drawn may follow `threads` and `drawn`, and then a number of sets or of scripts.
+//! A word names the part that is wanted, one of `PARTS`; without a word it is all of them. `sheets`, `model` and `histories` are the files that a file of this name lists; those of `model` have answers that `tools/draw_rows` computed. `rounds` is of the pages of reports beside plain lists. A seed of what is drawn may follow `threads`, and then a number of sets.
 #![tactic(auto)]
 
+mod callers;
 mod calls;
 mod crashes;
 mod devices;
 mod draft;
-mod drawn;
 mod in_parts;
 mod journals;
 mod lines;
 mod offices;
+mod openings;
 mod pages;
 mod pool;
 mod question;
@@ -38,21 +40,23 @@ mod threads;
 mod trials;
 
 use anyhow::{Result, anyhow};
+use callers::show_callers;
 use calls::compare_calls;
 use crashes::try_crashes;
-use drawn::compare_drawn;
 use offices::show_offices;
+use openings::show_openings;
 use pages::{Kind, compare_pages, compare_rounds};
 use scripts::{compare_listed, compare_stored};
 use std::env;
 use std::marker::Sync;
+use std::random::RandomSource;
 use std::rt::Files;
 use std::sync::Wait;
 use std::thread::Threads;
 use threads::compare_threads;
 use trials::try_devices;
 
-const PARTS: [&str; 12] = [
+const PARTS: [&str; 13] = [
     "sheets",
     "calls",
     "pages",
@@ -64,15 +68,13 @@ const PARTS: [&str; 12] = [
     "crashes",
     "offices",
     "threads",
-    "drawn",
+    "openings",
+    "callers",
 ];
 
-// So many sets of scripts are drawn for threads, and so many scripts for the oracle, where no number is named.
+// How many sets of scripts are drawn for threads, and by which seed, where neither is named.
 const SETS: u64 = 12;
 
-const SCRIPTS: u64 = 10_000;
-
-// The seed of both.
 const FIRST: u64 = 1;
 
 /// The number that a word is, where there is one.
@@ -98,7 +100,7 @@ fn compare_alone<R: Print + Files + AllocGlobal>(rt: &R, part: &str) -> Result<(
 }
 
 /// Compares the part of this name, if there is one. Threads are started by a handle of their own, which only `main` has.
-fn compare<T: Threads + Wait + Sync + Print + Files + AllocGlobal>(
+fn compare<T: Threads + Wait + Sync + RandomSource + Print + Files + AllocGlobal>(
     rt: &HostRuntime,
     handle: &T,
     part: &str,
@@ -108,7 +110,8 @@ fn compare<T: Threads + Wait + Sync + Print + Files + AllocGlobal>(
     match part {
         "offices" => show_offices(handle),
         "threads" => compare_threads(handle, seed, count.unwrap_or(SETS)),
-        "drawn" => compare_drawn(rt, seed, count.unwrap_or(SCRIPTS)),
+        "openings" => show_openings(rt),
+        "callers" => show_callers(handle),
         _ => compare_alone(rt, part),
     }
 }

@@ -1,4 +1,4 @@
-//! The lines of which scripts are drawn, as `drawn_lines.txt` and `meeting_lines.txt` have them: each behind the word of its kind and a space. A `%` in a line means the name of a session.
+//! The lines of which scripts are drawn, as `meeting_lines.txt` has them: each behind the word of its kind and a space. A `%` in a line means the name of a session.
 
 use crate::lines::is_end;
 use std::alloc::{AllocError, Global};
@@ -8,7 +8,6 @@ use std::alloc::{AllocError, Global};
 pub(crate) enum When {
     /// A load with which a script begins.
     First,
-    Load,
     Open,
     /// A commit or a closing.
     End,
@@ -16,23 +15,10 @@ pub(crate) enum When {
     Ask,
     /// An export, a line that is none, a blank one.
     Apart,
-    /// A load of hundreds of facts.
-    LargeLoad,
-    /// What is asked of such a report, or staged.
-    Large,
 }
 
 // The words of the kinds, in their order.
-const WORDS: [&[u8]; 8] = [
-    b"first ",
-    b"load ",
-    b"open ",
-    b"end ",
-    b"ask ",
-    b"apart ",
-    b"largeload ",
-    b"large ",
-];
+const WORDS: [&[u8]; 5] = [b"first ", b"open ", b"end ", b"ask ", b"apart "];
 
 /// The lines of each kind.
 #[derive(Drop)]
