@@ -24,6 +24,10 @@ def load(name, facts, allowed="all", info=INFO):
     return ["load", name, {"documentInfo": declared, "facts": facts}]
 
 
+def is_blank(line):
+    return not line.strip(" \t\r")
+
+
 class Script:
     """Lines with their replies."""
 
@@ -34,10 +38,22 @@ class Script:
         self.say_text(line if isinstance(line, str) else compact(line))
 
     def say_text(self, text):
-        self.rows += [text, "=> " + reply_text(self.repository.line(text))]
+        """Says a line, which is answered where it is not blank."""
+        self.rows += [text] if is_blank(text) else [text, "=> " + reply_text(self.repository.line(text))]
 
     def told(self):
         return self.rows[-1][3:]
+
+    def lines(self):
+        """What is said, with blank lines."""
+        return [row for row in self.rows[1:] if not row.startswith("=> ")]
+
+    def asked(self):
+        """What is answered."""
+        return [line for line in self.lines() if not is_blank(line)]
+
+    def replies(self):
+        return [row[3:] for row in self.rows if row.startswith("=> ")]
 
     def whole(self):
         """The rows, with the number of steps behind them."""
