@@ -1,4 +1,4 @@
-"""Lines of which `conformance` draws scripts: of every kind, good ones and such as are refused for each cause."""
+"""Lines of which scripts are drawn: of every kind, good ones and such as are refused for each cause."""
 import random
 import re
 
