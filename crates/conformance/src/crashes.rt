@@ -1,6 +1,8 @@
 //! Opens what a crash may leave of the journal of a worked script, at each call of its file.
 //!
-//! The script is stopped at each change and each sync. At a change the file is as it was, or has all of the change. At a sync it may be torn in any way since the sync before: that is each file which a crash at those changes may leave too. Each opens to a prefix of the history that has all that was answered, and so does what a crash leaves while it is opened.
+//! The script is stopped at each change and each sync. At a change the file is as it was, or has all of the change. At a sync it
+//! may be torn in any way since the sync before: that is each file which a crash at those changes may leave too. Each opens to a
+//! prefix of the history that has all that was answered, and so does what a crash leaves while it is opened.
 
 use crate::devices::{Done, Ended, Trial, Work, do_work};
 use crate::journals::{Keeping, engine_of};
@@ -16,7 +18,7 @@ use std::mem;
 use std::rt::Files;
 use std::sync::Arc;
 
-// The scripts that are stopped, and the one that goes on behind what is left of them. It has an entry for each line.
+// The scripts that are stopped, and the one that goes on after what is left of them. It has an entry for each line.
 const STOPPED: [&str; 2] = ["write_skew", "review"];
 
 const GOING_ON: &str = "run";
@@ -33,7 +35,7 @@ const PIECE: usize = 1;
 // No script makes so many calls.
 const CALLS: u64 = 1000;
 
-/// A script that keeps a journal, its replies and its history, and a script that goes on behind it.
+/// A script that keeps a journal, its replies and its history, and a script that goes on after it.
 #[derive(Clone, Copy)]
 struct Course<'a> {
     table: &'a Arc<NumericTable>,
@@ -103,7 +105,7 @@ struct Crashes<'a> {
     course: Course<'a>,
     /// What was in the file at the last sync.
     sure: Vec<u8>,
-    /// So many entries have to be there.
+    /// The number of entries that have to be there.
     least: usize,
     /// The lines from which the script went on last.
     gone_on: Option<Vec<u8>>,
@@ -147,7 +149,7 @@ fn stopped_at(alloc: Global, course: Course<'_>, call: u64) -> Result<Stop> {
     }
 }
 
-/// What stands behind the first line, where that is an entry with this reply.
+/// What stands after the first line, where that is an entry with this reply.
 fn behind_entry<'a>(lines: &'a [u8], reply: &[u8]) -> Option<&'a [u8]> {
     let end = lines.iter().position(|byte| *byte == b'\n')?;
     let entry = lines.get(..end)?.strip_suffix(b"]")?;
@@ -260,7 +262,8 @@ fn goes_on(alloc: Global, course: Course<'_>, found: &[u8], lines: &[u8]) -> Res
 }
 
 impl Crashes<'_> {
-    /// Whether a script goes on from a file that opens to these lines. What an opening leaves depends on the lines alone, so that is tried once for the same.
+    /// Whether a script goes on from a file that opens to these lines. What an opening leaves depends on the lines alone, so that
+    /// is tried once for the same.
     fn goes_on(&mut self, found: &[u8], lines: &[u8]) -> Result<bool> {
         if let Some(last) = &self.gone_on {
             if last.as_slice() == lines {
@@ -303,7 +306,7 @@ impl Crashes<'_> {
         Ok(())
     }
 
-    /// A write behind a place: a part of it, or of its end, is there, and anything in the place of the rest.
+    /// A write after a place: a part of it, or of its end, is there, and anything in the place of the rest.
     fn tear_write(&mut self, start: usize, written: &[u8]) -> Result<()> {
         for place in start..written.len().saturating_add(1) {
             for others in UNWRITTEN {

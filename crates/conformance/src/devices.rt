@@ -16,7 +16,7 @@ use std::marker::Brand;
 use std::sync::Arc;
 use std::sync::ledger::{Blank, Ledger};
 
-// So many bytes are written without a growth.
+// The bytes that a sink holds before it grows.
 const ROOM: usize = 65536;
 
 /// A work that reads or writes.
@@ -170,7 +170,7 @@ pub(crate) fn do_work(
     do_work_by::<Brand, Brand>(alloc, table, work, trial, Blank::new(3), Blank::new(1))
 }
 
-/// What is written where a work ends so: the lines of a history, or the line of a verdict with the status behind it, or the replies to a script.
+/// What is written where a work ends so: the lines of a history, or the line of a verdict with the status after it, or the replies to a script.
 pub(crate) fn written_in(
     alloc: Global,
     table: &Arc<NumericTable>,
@@ -206,7 +206,7 @@ pub(crate) fn verdict_on(
     }
 }
 
-/// Appends the line of a verdict, with the status behind it.
+/// Appends the line of a verdict, with the status after it.
 pub(crate) fn push_verdict(
     alloc: Global,
     table: &Arc<NumericTable>,

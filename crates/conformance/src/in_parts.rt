@@ -1,4 +1,5 @@
-//! The steps of a history, taken by a core. A load or a commit is made ready and dropped, then made ready once more and entered: that leaves the same history.
+//! The steps of a history, taken by a core. A load or a commit is made ready and dropped, then made ready once more and entered:
+//! that leaves the same history.
 
 ghost use Rattle.std.specs.Prelude.{◌≡◌, true};
 ghost use Rattle.filing_step.specs.Steps.{step_of};

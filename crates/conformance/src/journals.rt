@@ -12,7 +12,7 @@ use script_runs::{
 use std::alloc::{AllocError, Global};
 use std::sync::Arc;
 
-// So many bytes are moved at once: a script has several batches, and the file is not copied for each line.
+// The bytes that a call moves: few enough that a script has several batches, and enough that the file is not copied for each line.
 const PIECE: usize = 1000;
 
 /// How a script keeps a journal.
@@ -107,7 +107,7 @@ fn is_kept(
     }
 }
 
-/// The same where each reply waits for its entry, and where those of accepted loads and passed commits alone do.
+/// Whether a script is kept well, both where each reply waits for its entry and where those of accepted loads and passed commits alone do.
 pub(crate) fn is_kept_both_ways(
     alloc: Global,
     table: &Arc<NumericTable>,

@@ -18,7 +18,9 @@
 //! - `draft`: a script that grows by what is drawn.
 //! - `devices`: runs scripts, and writes and judges histories, over memory.
 //!
-//! A word names the part that is wanted, one of `PARTS`; without a word it is all of them. `sheets`, `model` and `histories` are the files that a file of this name lists; those of `model` have answers that `tools/draw_rows` computed. `rounds` is of the pages of reports beside plain lists. A seed of what is drawn may follow `threads`, and then a number of sets.
+//! A word names the part that is wanted, one of `PARTS`; without a word it is all of them. `sheets`, `model` and `histories` are
+//! the files that a file of this name lists; those of `model` have answers that `tools/draw_rows` computed. `rounds` is of the
+//! pages of reports beside plain lists. A seed of what is drawn may follow `threads`, and then a number of sets.
 #![tactic(auto)]
 
 mod callers;

@@ -1,6 +1,7 @@
 //! Lists in pages, alone and as the facts of a report, beside what is written of them and beside plain lists.
 //!
-//! `item` is an entry, and `lists` builds and changes lists of them; in `reports` they are the facts of a report. `rows` has worked rows of the lengths of pages and of ranges, `plain` pages as a list of lists, and `beside` compares lists with these.
+//! `item` is an entry, and `lists` builds and changes lists of them; in `reports` they are the facts of a report. `rows` has
+//! worked rows of the lengths of pages and of ranges, `plain` pages as a list of lists, and `beside` compares lists with these.
 
 mod beside;
 mod item;

@@ -1,6 +1,9 @@
 //! Scripts run over memory, their histories, and histories of others.
 //!
-//! A sheet's script gets its replies. Where a history is written with it, that has to be its own; then the number of its steps is reported, and how its entries and the lines are judged. For a sheet without a script it is reported how the lines of its history are judged; for a marked one also how each history is of which one reply is another. `in_parts` takes the steps of a history anew, and `journals` runs the script with a journal in memory.
+//! A sheet's script gets its replies. Where a history is written with it, that has to be its own; then the number of its steps is
+//! reported, and how its entries and the lines are judged. For a sheet without a script it is reported how the lines of its
+//! history are judged; for a marked one also how each history is of which one reply is another. `in_parts` takes the steps of a
+//! history anew, and `journals` runs the script with a journal in memory.
 
 use crate::devices::{Done, Ended, Trial, Work, do_work, push_verdict, verdict_on, written_in};
 use crate::in_parts::taken_in_parts;
@@ -36,7 +39,7 @@ fn replies_before(lines: &[u8], number: u128) -> usize {
     count
 }
 
-/// A fault is reported behind what is written, except where a script is out of memory and just the replies before that are written.
+/// A fault is reported after what is written, except where a script is out of memory and just the replies before that are written.
 fn push_fault(
     alloc: Global,
     sheet: &Sheet,

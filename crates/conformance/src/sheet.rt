@@ -1,6 +1,9 @@
 //! Sheets of a file NAME.rows: scripts under a title, with the answers to them written beside them.
 //!
-//! A line that begins with `# ` begins a sheet and is its title. `=> ` stands before a reply, `-> ` before a line of a history, and `= ` before what else is reported; `/` begins a script where there are several or none has a line, `: ` stands before the text of a numeric table of the sheet's own, as JSON, and `~` marks a sheet. Every other line is one of a script; behind `+ ` it has no end. `* [N,TEXT]` is so many times a text in a script, and `=* [N,TEXT]` in the replies.
+//! A line that begins with `# ` begins a sheet and is its title. `=> ` stands before a reply, `-> ` before a line of a history,
+//! and `= ` before what else is reported; `/` begins a script where there are several or none has a line, `: ` stands before the
+//! text of a numeric table of the sheet's own, as JSON, and `~` marks a sheet. Every other line is one of a script; after `+ ` it
+//! has no end. `* [N,TEXT]` is so many times a text in a script, and `=* [N,TEXT]` in the replies.
 
 use crate::lines::{ends_in, is_end, push_line, read_data, same_lines};
 use crate::question::{number_at, text_at};

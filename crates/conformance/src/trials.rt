@@ -1,4 +1,5 @@
-//! Runs a script, writes its history, judges that, and writes the verdict, over devices of memory that give and take one byte at a time, of which each call fails in turn.
+//! Runs a script, writes its history, judges that, and writes the verdict, over devices of memory that give and take one byte at
+//! a time, of which each call fails in turn.
 
 use crate::devices::{Done, Ended, Trial, Work, do_work};
 use crate::lines::{ends_in, is_end, read_data};
@@ -15,7 +16,7 @@ use std::sync::Arc;
 #[derive(Clone, Copy)]
 enum Wrong {
     ReadFails,
-    /// So many reads are made, and no more are allowed.
+    /// The bound of reads comes at the call: as many are made before, and no more are allowed.
     ReadsEnd,
     WriteFails,
     /// A write takes nothing.
@@ -77,7 +78,7 @@ impl Given {
     }
 }
 
-/// So many first lines of a text, or all of them.
+/// The first lines of a text, at most this many.
 fn first_lines(text: &[u8], count: usize) -> &[u8] {
     let mut left = count;
     for (place, byte) in text.iter().enumerate() {
@@ -138,7 +139,8 @@ fn wanted<'a>(course: Course<'a>, wrong: Wrong, number: usize) -> (Option<Script
     }
 }
 
-/// Has each call of a work go wrong in turn: one for each byte, and for reads the one that finds the end. One that is not made leaves all as it is. How many trials there were, and how many came to something else.
+/// Has each call of a work go wrong in turn: one for each byte, and for reads the one that finds the end. One that is not made
+/// leaves all as it is. How many trials there were, and how many came to something else.
 fn try_each(
     alloc: Global,
     given: &Given,

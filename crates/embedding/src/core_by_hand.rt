@@ -50,7 +50,8 @@ pub fn add_and_commit(
     core.step(alloc, Some(number), Step::Commit)
 }
 
-/// All that was answered, oldest first. In whatever order the steps of sessions came: each that committed was answered as if it had run alone at its commit, and each other as if it had at its opening.
+/// All that was answered, oldest first. In whatever order the steps of sessions came: each that committed was answered as if it
+/// had run alone at its commit, and each other as if it had at its opening.
 pub fn answered(core: &Core) -> &[Entry]
     ensures { IsSerial core.now.history }
 {

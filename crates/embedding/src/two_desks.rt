@@ -1,4 +1,5 @@
-//! An office: two desks take steps under its lock, and a reviewer reads what they made under none. Each desk may go to a thread of its own, as `filing_office::run_desks` has it.
+//! An office: two desks take steps under its lock, and a reviewer reads what they made under none. Each desk may go to a thread
+//! of its own, as `filing_office::run_desks` has it.
 
 ghost use Rattle.std.specs.Prelude.{◌≡◌, ◌+◌, length, map, sum, IfOk, OnOk};
 ghost use mathlib.Core.List.{IsPrefix};
@@ -86,7 +87,8 @@ fn work<L: Ledger + Naming, M: Ledger, R: Wait + AllocGlobal>(
     }
 }
 
-/// Runs an office of two desks and a reviewer to its end. The review goes on. Its keys are drawn, so that nobody can make the office slow by the names of facts.
+/// Runs an office of two desks and a reviewer to its end. The review goes on. Its keys are drawn, so that nobody can make the
+/// office slow by the names of facts.
 pub fn run_office<L: Ledger + Naming, M: Ledger, R: Wait + RandomSource + AllocGlobal>(
     rt: &R,
     blanks: Blanks,

@@ -18,7 +18,7 @@ pub(crate) fn numeral_answer(alloc: Global, text: &str) -> Result<String> {
     }
 }
 
-/// The interval of the numeral at a place, with the decimals behind it.
+/// The interval of the numeral at a place, with the decimals after it.
 fn interval_at(call: &Value, place: usize) -> Result<Interval> {
     let number = Decimal::read(text_at(call, place))?;
     let decimals = call.get(place.saturating_add(1)).and_then(Value::as_i64);

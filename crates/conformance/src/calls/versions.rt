@@ -91,7 +91,8 @@ fn stamp_of(version: &RepoVersion, thing: &Thing) -> u64 {
     }
 }
 
-/// Appends each thing that a session has read, as a conflict names it, with its stamp in the session's version, and each put of its change, with what is staged there.
+/// Appends each thing that a session has read, as a conflict names it, with its stamp in the session's version, and each put of
+/// its change, with what is staged there.
 fn push_state(alloc: Global, out: &mut String, session: &Session) -> Result<(), AllocError> {
     for thing in session.reads() {
         let stamp = stamp_of(session.base(), thing);

@@ -1,6 +1,8 @@
 //! Steps on what the lock of an office lends, without an office.
 //!
-//! An act `["step",SESSION,STEP]` is a step, as histories write it, of the session of that number, or of none. It gets the session of its entry, the reply, and the number of the receipt; or `["no-session"]`. At the end stands how many entries and versions there are.
+//! An act `["step",SESSION,STEP]` is a step, as histories write it, of the session of that number, or of none. It gets the
+//! session of its entry, the reply, and the number of the receipt; or `["no-session"]`. At the end stands how many entries and
+//! versions there are.
 
 ghost use Rattle.std.specs.Prelude.{◌≡◌, ◌<◌, ◌^◌};
 

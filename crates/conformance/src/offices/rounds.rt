@@ -17,19 +17,20 @@ pub(crate) enum Way {
     Once,
 }
 
-/// So many rounds each desk takes.
+/// The rounds that each desk takes.
 const ROUNDS: usize = 25;
 
-/// So many steps a round has.
+/// The steps of a round.
 const ROUND: usize = 7;
 
 // The fact of each addition, a name `x`, as histories write it.
 const FACT: &str = r#"{"dimensions":{"concept":"ex:Name"},"value":"x"}"#;
 
-/// So many steps an amendment has.
+/// The steps of an amendment.
 const AMENDMENT: usize = 3;
 
-/// The line of a step of rounds, at a turn of all of them: a session that reads, adds twice, reads, removes what is not there, and commits, under identifiers of the desk and the round.
+/// The line of a step of rounds, at a turn of all of them: a session that reads, adds twice, reads, removes what is not there,
+/// and commits, under identifiers of the desk and the round.
 fn round_line(alloc: Global, place: usize, turn: usize) -> Result<String, AllocError> {
     let round = turn / ROUND;
     match turn % ROUND {

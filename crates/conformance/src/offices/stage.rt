@@ -1,6 +1,11 @@
 //! Offices of two desks and two reviewers, from their opening to what goes on after their end.
 //!
-//! An act is a line of JSON, and each is answered. `["step",DESK,STEP]` has a desk take a step, as histories write it, in the session of the answer before: the reply. `["leave"]` sets the last desk aside until the end, and `["lose"]` drops it. `["learn",REVIEWER,RECEIPT]` has a reviewer learn the receipt of that number among all that desks were given, `["review",REVIEWER]` opens a review, and `["seen",REVIEWER]` does neither: the number of the version that the reviewer has seen then. `["ask",REVIEW,STEP]` asks the review of that number: its reply. `["end"]` ends the office: how many entries and versions it made, or how many desks came. After it reviewers and reviews go on. All numbers are from 0.
+//! An act is a line of JSON, and each is answered. `["step",DESK,STEP]` has a desk take a step, as histories write it, in the
+//! session of the answer before: the reply. `["leave"]` sets the last desk aside until the end, and `["lose"]` drops it.
+//! `["learn",REVIEWER,RECEIPT]` has a reviewer learn the receipt of that number among all that desks were given,
+//! `["review",REVIEWER]` opens a review, and `["seen",REVIEWER]` does neither: the number of the version that the reviewer has
+//! seen then. `["ask",REVIEW,STEP]` asks the review of that number: its reply. `["end"]` ends the office: how many entries and
+//! versions it made, or how many desks came. After it reviewers and reviews go on. All numbers are from 0.
 
 ghost use Rattle.std.specs.Prelude.{◌≡◌, ◌<◌, ◌^◌};
 

@@ -1,12 +1,13 @@
 //! Journals over files in memory.
 //!
-//! The bytes of a file stand with escapes behind `> `, or there are none behind `>`: it is opened. `+ ` puts a batch into a journal of that file, and `! ` does so with each call of the device failing in turn, and puts it again.
+//! The bytes of a file stand with escapes after `> `, or there are none after `>`: it is opened. `+ ` puts a batch into a journal
+//! of that file, and `! ` does so with each call of the device failing in turn, and puts it again.
 
 use crate::openings::rows::{bytes_of, show_bytes, show_title};
 use anyhow::{Result, anyhow};
 use journal::{Journal, MemoryFile, PutFault, are_entries, open, read_lines};
 
-// The calls that open a file at rest: a cut, a write, and a sync behind each.
+// The calls that open a file at rest: a cut, a write, and a sync after each.
 const OPENING_CALLS: u64 = 4;
 
 // The calls of one batch: two writes and a sync, a write and a sync.

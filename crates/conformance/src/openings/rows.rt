@@ -21,14 +21,14 @@ pub(crate) fn show_title(rt: &HostRuntime, row: &str) -> Result<()> {
     Ok(())
 }
 
-/// Prints bytes behind a word, as a text with escapes.
+/// Prints bytes after a word, as a text with escapes.
 pub(crate) fn show_bytes(rt: &HostRuntime, word: &str, bytes: &[u8]) -> Result<()> {
     let text = String::from_utf8_lossy(rt.alloc(), bytes)?;
     println!(rt; "{word} {text:?}")?;
     Ok(())
 }
 
-/// The byte that stands at the start of an escape without its backslash, and what is behind it.
+/// The byte that stands at the start of an escape without its backslash, and what is after it.
 fn escaped(piece: &str) -> Option<(u8, &str)> {
     if let Some(rest) = piece.strip_prefix("n") {
         return Some((b'\n', rest));

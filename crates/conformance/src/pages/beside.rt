@@ -7,10 +7,10 @@ use anyhow::{Result, anyhow};
 use sorted_pages::Edit;
 use std::alloc::{AllocError, Global};
 
-/// So many rounds of changes are made of one list.
+/// The rounds of changes of one list.
 const ROUNDS: u64 = 500;
 
-/// So many entries the list has before, which stand in more than one run of pages. Later it has some 6,000.
+/// The entries of the list at first: more than one run of pages holds. Later it has some 6,000.
 const FIRST: u64 = 4_000;
 
 /// So far their keys stand apart.
@@ -19,7 +19,7 @@ const GAP: u64 = 3;
 /// The keys that are put and removed are below this.
 const KEYS: u64 = 14_000;
 
-/// So many keys are gone over in a round.
+/// The keys that a round goes over.
 const CHANGES: u64 = 200;
 
 /// The next number of a fixed sequence.
@@ -29,7 +29,8 @@ fn next_number(state: u64) -> u64 {
         .wrapping_add(1_442_695_040_888_963_407)
 }
 
-/// Up to 200 puts and removals, with rising keys. In some rounds they lie close together; in one of four all are put, in another all removed, and in the others a third each.
+/// Up to 200 puts and removals, with rising keys. In some rounds they lie close together; in one of four all are put, in another
+/// all removed, and in the others a third each.
 fn some_changes(alloc: Global, round: u64) -> Result<Vec<Edit<Item>>, AllocError> {
     let mut changes = Vec::new(alloc);
     let mut state = next_number(next_number(round));

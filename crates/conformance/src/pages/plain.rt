@@ -1,16 +1,19 @@
 //! Items in pages as a list of lists, by the rule of pages written out slowly.
 //!
-//! A page holds up to 64 items. A list that is built fills its pages, and has the rest in a last one. A change makes new pages where it falls: a new key goes into the last page whose first key before the change is less, else into the first, which is made where there is none. A page that would hold more than 64 is cut after every 32, and a rest of fewer than 32 joins the last piece. An empty page is dropped, and pages are not merged otherwise.
+//! A page holds up to 64 items. A list that is built fills its pages, and has the rest in a last one. A change makes new pages
+//! where it falls: a new key goes into the last page whose first key before the change is less, else into the first, which is
+//! made where there is none. A page that would hold more than 64 is cut after every 32, and a rest of fewer than 32 joins the
+//! last piece. An empty page is dropped, and pages are not merged otherwise.
 
 use crate::pages::item::Item;
 use sorted_pages::Edit;
 use std::alloc::{AllocError, Global};
 use std::mem;
 
-// So many items a page holds.
+// The items that a page holds at most.
 const MOST: usize = 64;
 
-// So many a page has that is cut off.
+// The items of a page that is cut off from one too long.
 const PIECE: usize = 32;
 
 /// Items in pages.

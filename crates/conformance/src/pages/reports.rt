@@ -1,4 +1,5 @@
-//! The facts of a report as a list of items: each stands under an identifier that its key makes, and its value is its weight. Changes are sessions of a core.
+//! The facts of a report as a list of items: each stands under an identifier that its key makes, and its value is its weight.
+//! Changes are sessions of a core.
 
 use crate::offices::line_step;
 use crate::pages::item::Item;
@@ -12,7 +13,7 @@ use std::alloc::{AllocError, Global};
 // The name of the report.
 pub(crate) const NAME: &str = "r1";
 
-// What stands before its facts in a load, and behind them.
+// What stands before its facts in a load, and after them.
 const FRONT: &str =
     r#"["load","r1",{"documentInfo":{"documentType":"https://xbrl.org/2021/xbrl-json","namespaces":{"ex":"http://e.org/t"}},"facts":{"#;
 
@@ -25,7 +26,7 @@ pub(crate) struct Reported {
     sessions: u64,
 }
 
-/// The identifier of a key: digits behind a letter that tells how many they are, so that identifiers stand in the order of keys.
+/// The identifier of a key: digits after a letter that tells how many they are, so that identifiers stand in the order of keys.
 fn id_of(alloc: Global, key: u64) -> Result<String, AllocError> {
     match key {
         0..=99 => format!(in alloc; "f{key:02}"),

@@ -1,6 +1,9 @@
 //! Worked rows of lists in pages: the lengths of pages, which no contract says, and the entries of ranges.
 //!
-//! A line is JSON. `["spaced",FIRST,STEP,COUNT]` builds a list; `["change",["put",FROM,UNTIL],["remove",FROM,UNTIL]]` puts and removes the keys of such ranges at once, which have to rise; `["sizes"]` asks for the lengths of its pages. Of a list that is no report's `["range",FROM,UNTIL]` asks for the first key of a range, how many entries it has, how many of them do not rise from the first by one, and the greatest.
+//! A line is JSON. `["spaced",FIRST,STEP,COUNT]` builds a list; `["change",["put",FROM,UNTIL],["remove",FROM,UNTIL]]` puts and
+//! removes the keys of such ranges at once, which have to rise; `["sizes"]` asks for the lengths of its pages. Of a list that is
+//! no report's `["range",FROM,UNTIL]` asks for the first key of a range, how many entries it has, how many of them do not rise
+//! from the first by one, and the greatest.
 
 use crate::lines::is_end;
 use crate::pages::item::Item;
