@@ -8,37 +8,31 @@
 //! - `trials`: has each call of a device go wrong.
 //! - `crashes`: opens what a crash may leave of a journal.
 //! - `offices`: takes steps at desks, and opens reviews beside them.
-//! - `threads`: runs scripts in threads.
 //! - `openings`: opens journals, in memory and in files.
 //! - `callers`: runs the worked callers of `embedding`.
 //! - `lines`: what they need of lines.
 //! - `sheet`: reads rows, and compares.
 //! - `question`: the parts of a line of JSON.
-//! - `pool`: the lines of which scripts for threads are drawn.
-//! - `draft`: a script that grows by what is drawn.
 //! - `devices`: runs scripts, and writes and judges histories, over memory.
 //!
 //! A word names the part that is wanted, one of `PARTS`; without a word it is all of them. `sheets`, `model` and `histories` are
 //! the files that a file of this name lists; those of `model` have answers that `tools/draw_rows` computed. `rounds` is of the
-//! pages of reports beside plain lists. A seed of what is drawn may follow `threads`, and then a number of sets.
+//! pages of reports beside plain lists.
 #![tactic(auto)]
 
 mod callers;
 mod calls;
 mod crashes;
 mod devices;
-mod draft;
 mod in_parts;
 mod journals;
 mod lines;
 mod offices;
 mod openings;
 mod pages;
-mod pool;
 mod question;
 mod scripts;
 mod sheet;
-mod threads;
 mod trials;
 
 use anyhow::{Result, anyhow};
@@ -55,10 +49,9 @@ use std::random::RandomSource;
 use std::rt::Files;
 use std::sync::Wait;
 use std::thread::Threads;
-use threads::compare_threads;
 use trials::try_devices;
 
-const PARTS: [&str; 13] = [
+const PARTS: [&str; 12] = [
     "sheets",
     "calls",
     "pages",
@@ -69,23 +62,9 @@ const PARTS: [&str; 13] = [
     "devices",
     "crashes",
     "offices",
-    "threads",
     "openings",
     "callers",
 ];
-
-// How many sets of scripts are drawn for threads, and by which seed, where neither is named.
-const SETS: u64 = 12;
-
-const FIRST: u64 = 1;
-
-/// The number that a word is, where there is one.
-fn number_of(word: Option<String>) -> Result<Option<u64>> {
-    match word {
-        None => Ok(None),
-        Some(word) => Ok(Some(word.parse::<u64>()?)),
-    }
-}
 
 /// Compares the part of this name, if there is one, of those that start no threads.
 fn compare_alone<R: Print + Files + AllocGlobal>(rt: &R, part: &str) -> Result<()> {
@@ -106,12 +85,9 @@ fn compare<T: Threads + Wait + Sync + RandomSource + Print + Files + AllocGlobal
     rt: &HostRuntime,
     handle: &T,
     part: &str,
-    seed: u64,
-    count: Option<u64>,
 ) -> Result<()> {
     match part {
         "offices" => show_offices(handle),
-        "threads" => compare_threads(handle, seed, count.unwrap_or(SETS)),
         "openings" => show_openings(rt),
         "callers" => show_callers(handle),
         _ => compare_alone(rt, part),
@@ -122,11 +98,9 @@ fn main(rt: HostRuntime) -> Result<()> {
     let mut words = env::args(&rt)?.skip(1);
     let Some(part) = words.next() else {
         for part in PARTS {
-            compare(&rt, &rt, part, FIRST, None)?;
+            compare(&rt, &rt, part)?;
         }
         return Ok(());
     };
-    let seed = number_of(words.next())?.unwrap_or(FIRST);
-    let count = number_of(words.next())?;
-    compare(&rt, &rt, part.as_str(), seed, count)
+    compare(&rt, &rt, part.as_str())
 }
