@@ -61,3 +61,12 @@ class Draft:
             self.put(self.next_kind())
         self.put("end", self.random.randrange(2, 5))
         return self.script
+
+    def drawn_to_meet(self):
+        """A script for a thread: a load, openings, some lines, most of which ask, and ends of sessions."""
+        self.put("first")
+        self.put("open", 2)
+        for _ in range(self.random.randrange(3, 8)):
+            self.put(*self.random.choices(["open", "end", "apart", "ask"], [1, 2, 1, 8]))
+        self.put("end", 2)
+        return self.script
