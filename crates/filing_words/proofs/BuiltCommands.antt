@@ -1,15 +1,9 @@
--- Commands that are built of arguments and of other commands.
-use Rattle.std.proofs.Common.{◌≡◌, ◌∙◌, ap, ap₂, true, false, Result, Ok, Err, IfOk, IsOkAnd}
-use Rattle.clap.specs.Words.{AddsArg, AddsSubcommand, App, Rule, app_of, rule_of, with_rule, with_subcommand}
-use Rattle.clap.specs.declared.builder.arg.Arg.{Arg}
+-- Commands that are built of other commands.
+use Rattle.std.proofs.Common.{◌≡◌, ◌∙◌, ap, ap₂, true, Result, Ok, Err, IfOk, IsOkAnd}
+use Rattle.clap.specs.Words.{AddsSubcommand, App, app_of, with_subcommand}
 use Rattle.clap.specs.declared.builder.command.Command.{Command}
 use Rattle.clap.proofs.SimpleLemmas.{is_false}
 use Rattle.clap.proofs.WalkLemmas.{both}
-
--- one argument more
-pub with_argument : (app : App) (rule : Rule) (old new : Command) (a : Arg) → AddsArg old a new → app_of old ≡ app → rule_of a ≡ rule
-    → a.global ≡ false → app_of new ≡ with_rule app rule
-with_argument app rule old new a added is same local = added.shape local ∙ ap₂ with_rule is same
 
 -- one command below it more, none of whose arguments is one of all commands, since it is plain
 pub with_command : (app below : App) (old sub new : Command) → AddsSubcommand old sub new → app_of old ≡ app → app_of sub ≡ below

@@ -1,381 +1,205 @@
-//! The arguments of the commands, each by its rule.
+//! The arguments of the commands.
 
 ghost use Rattle.std.specs.Prelude.{◌≡◌, false};
 ghost use Rattle.clap.specs.Words.{rule_of};
-ghost use Rattle.filing_words.specs.Words.{option_rule, repeated_rule, flag_rule, word_rule, numeric, history, from, journal, every_reply, explain, strict, judged, viewed, report, at, earlier, later, svg, first, allowing, plain, reports, scripts, keeping, loaded};
+ghost use Rattle.filing_words.specs.Arguments.{rule_for};
 
 use clap::{Arg, ArgAction};
 use std::alloc::Global;
 
-/// An option that takes a value.
-fn value_option<'a>(
-    alloc: Global,
-    id: &'a str,
-    long: &'a str,
-    value: &'a str,
-    help: &'a str,
-) -> Arg<'a>
-    ensures rule { rule_of result ≡ option_rule id.entry.now long.entry.now }
-    ensures local { result.global ≡ false }
-{
-    Arg::new(alloc, id)
-        .long(long)
-        .value_name(value)
-        .help(help)
-        .action(ArgAction::Set)
+/// An argument: its identifier, how it is written, and what help says of it.
+#[derive(Clone, Copy)]
+pub(crate) struct Argument {
+    pub(crate) id: &'static str,
+    pub(crate) form: Form,
+    pub(crate) help: &'static str,
 }
 
-/// An option that takes a value each time it is given.
-fn repeated_option<'a>(
-    alloc: Global,
-    id: &'a str,
-    long: &'a str,
-    value: &'a str,
-    help: &'a str,
-) -> Arg<'a>
-    ensures rule { rule_of result ≡ repeated_rule id.entry.now long.entry.now }
-    ensures local { result.global ≡ false }
-{
-    Arg::new(alloc, id)
-        .long(long)
-        .value_name(value)
-        .help(help)
-        .action(ArgAction::Append)
+/// How an argument is written: by its long word, where it has one, and then by what help calls its value.
+#[derive(Clone, Copy)]
+pub(crate) enum Form {
+    Flag(&'static str),
+    /// An option that takes a value.
+    Optional(&'static str, &'static str),
+    /// One that takes a value each time it is given.
+    Repeated(&'static str, &'static str),
+    /// One that has to be there.
+    Needed(&'static str, &'static str),
+    /// A word that may be missing.
+    OptionalWord(&'static str),
+    /// A word that has to be there.
+    Word(&'static str),
+    /// Words of which there has to be one.
+    Words(&'static str),
 }
 
-/// A flag.
-fn flag<'a>(alloc: Global, id: &'a str, long: &'a str, help: &'a str) -> Arg<'a>
-    ensures rule { rule_of result ≡ flag_rule id.entry.now long.entry.now }
+/// The argument as `clap` takes it.
+pub(crate) fn made<'a>(alloc: Global, argument: Argument) -> Arg<'a>
+    ensures rule { rule_of result ≡ rule_for argument }
     ensures local { result.global ≡ false }
 {
-    Arg::new(alloc, id)
-        .long(long)
-        .help(help)
-        .action(ArgAction::SetTrue)
+    let arg = Arg::new(alloc, argument.id).help(argument.help);
+    match argument.form {
+        Form::Flag(long) => arg.long(long).action(ArgAction::SetTrue),
+        Form::Optional(long, value) => arg.long(long).value_name(value).action(ArgAction::Set),
+        Form::Repeated(long, value) => arg.long(long).value_name(value).action(ArgAction::Append),
+        Form::Needed(long, value) => arg
+            .long(long)
+            .value_name(value)
+            .action(ArgAction::Set)
+            .required(true),
+        Form::OptionalWord(value) => arg.value_name(value).action(ArgAction::Set),
+        Form::Word(value) => arg.value_name(value).action(ArgAction::Set).required(true),
+        Form::Words(value) => arg
+            .value_name(value)
+            .action(ArgAction::Append)
+            .required(true),
+    }
 }
 
-/// A word that has to be there, or words of which there has to be one.
-fn needed<'a>(
-    alloc: Global,
-    id: &'a str,
-    value: &'a str,
-    help: &'a str,
-    action: ArgAction,
-) -> Arg<'a>
-    ensures rule { rule_of result ≡ word_rule id.entry.now action }
-    ensures local { result.global ≡ false }
-{
-    Arg::new(alloc, id)
-        .value_name(value)
-        .help(help)
-        .action(action)
-        .required(true)
-}
+/// The files of numeric tables.
+pub(crate) const NUMERIC: Argument = Argument {
+    id: "numeric",
+    form: Form::Repeated("numeric", "FILE"),
+    help: "Numeric concepts, one a line: URI, space, local name",
+};
 
-/// The option that names numeric tables.
-#[tactic(auto, unfolding(crate::specs::Words::numeric))]
-pub(crate) fn numeric_option<'a>(alloc: Global) -> Arg<'a>
-    ensures rule { rule_of result ≡ numeric }
-    ensures local { result.global ≡ false }
-{
-    repeated_option(
-        alloc,
-        "numeric",
-        "numeric",
-        "FILE",
-        "Numeric concepts, one a line: URI, space, local name",
-    )
-}
+/// The file to which a history is to be written.
+pub(crate) const HISTORY: Argument = Argument {
+    id: "history",
+    form: Form::Optional("history", "FILE"),
+    help: "Where the history goes once the script has ended",
+};
 
-/// The option that names the file to which a history is to be written.
-#[tactic(auto, unfolding(crate::specs::Words::history))]
-pub(crate) fn history_option<'a>(alloc: Global) -> Arg<'a>
-    ensures rule { rule_of result ≡ history }
-    ensures local { result.global ≡ false }
-{
-    value_option(
-        alloc,
-        "history",
-        "history",
-        "FILE",
-        "Where the history goes once the script has ended",
-    )
-}
+/// The file of a history to go on from.
+pub(crate) const FROM: Argument = Argument {
+    id: "from",
+    form: Form::Optional("from", "HISTORY"),
+    help: "A history to go on from, which stays as it is",
+};
 
-/// The option that names the file of a history to go on from.
-#[tactic(auto, unfolding(crate::specs::Words::from))]
-pub(crate) fn from_option<'a>(alloc: Global) -> Arg<'a>
-    ensures rule { rule_of result ≡ from }
-    ensures local { result.global ≡ false }
-{
-    value_option(
-        alloc,
-        "from",
-        "from",
-        "HISTORY",
-        "A history to go on from, which stays as it is",
-    )
-}
+/// The file of a journal.
+pub(crate) const JOURNAL: Argument = Argument {
+    id: "journal",
+    form: Form::Optional("journal", "FILE"),
+    help: "A journal to go on from: what is committed is kept in it",
+};
 
-/// The option that names the file of a journal.
-#[tactic(auto, unfolding(crate::specs::Words::journal))]
-pub(crate) fn journal_option<'a>(alloc: Global) -> Arg<'a>
-    ensures rule { rule_of result ≡ journal }
-    ensures local { result.global ≡ false }
-{
-    value_option(
-        alloc,
-        "journal",
-        "journal",
-        "FILE",
-        "A journal to go on from: what is committed is kept in it",
-    )
-}
-
-/// The option that names the file of a journal, where there has to be one.
-#[tactic(auto, unfolding(crate::specs::Words::keeping))]
-pub(crate) fn keeping_option<'a>(alloc: Global) -> Arg<'a>
-    ensures rule { rule_of result ≡ keeping }
-    ensures local { result.global ≡ false }
-{
-    value_option(
-        alloc,
-        "keeping",
-        "journal",
-        "FILE",
-        "The journal in which the reports are kept",
-    )
-    .required(true)
-}
+/// The file of a journal, where there has to be one.
+pub(crate) const KEEPING: Argument = Argument {
+    id: "keeping",
+    form: Form::Needed("journal", "FILE"),
+    help: "The journal in which the reports are kept",
+};
 
 /// The reports that are to be loaded.
-#[tactic(auto, unfolding(crate::specs::Words::loaded))]
-pub(crate) fn loaded_argument<'a>(alloc: Global) -> Arg<'a>
-    ensures rule { rule_of result ≡ loaded }
-    ensures local { result.global ≡ false }
-{
-    needed(
-        alloc,
-        "loaded",
-        "NAME=REPORT",
-        "A name and the file of a report, - for standard input; or a folder",
-        ArgAction::Append,
-    )
-}
+pub(crate) const LOADED: Argument = Argument {
+    id: "loaded",
+    form: Form::Words("NAME=REPORT"),
+    help: "A name and the file of a report, - for standard input; or a folder",
+};
 
-/// The flag by which each reply waits until its entry is in the journal.
-#[tactic(auto, unfolding(crate::specs::Words::every_reply))]
-pub(crate) fn every_reply_flag<'a>(alloc: Global) -> Arg<'a>
-    ensures rule { rule_of result ≡ every_reply }
-    ensures local { result.global ≡ false }
-{
-    flag(
-        alloc,
-        "every_reply",
-        "every-reply",
-        "With a journal: each reply waits for its entry",
-    )
-}
+/// Each reply waits until its entry is in the journal.
+pub(crate) const EVERY_REPLY: Argument = Argument {
+    id: "every_reply",
+    form: Form::Flag("every-reply"),
+    help: "With a journal: each reply waits for its entry",
+};
 
-/// The flag that asks for reasons.
-#[tactic(auto, unfolding(crate::specs::Words::explain))]
-pub(crate) fn explain_flag<'a>(alloc: Global) -> Arg<'a>
-    ensures rule { rule_of result ≡ explain }
-    ensures local { result.global ≡ false }
-{
-    flag(
-        alloc,
-        "explain",
-        "explain",
-        "Says on standard error why, line by line",
-    )
-}
+/// Asks for reasons.
+pub(crate) const EXPLAIN: Argument = Argument {
+    id: "explain",
+    form: Form::Flag("explain"),
+    help: "Says on standard error why, line by line",
+};
+
+/// A run ends with a status of its own where a line was refused that should not have been.
+pub(crate) const STRICT: Argument = Argument {
+    id: "strict",
+    form: Form::Flag("strict"),
+    help: "Status 5 where a line was malformed or out of place",
+};
 
 /// The file of the history that is to be judged.
-#[tactic(auto, unfolding(crate::specs::Words::judged))]
-pub(crate) fn judged_argument<'a>(alloc: Global) -> Arg<'a>
-    ensures rule { rule_of result ≡ judged }
-    ensures local { result.global ≡ false }
-{
-    needed(
-        alloc,
-        "judged",
-        "HISTORY",
-        "The history to be judged, as `run --history` writes it",
-        ArgAction::Set,
-    )
-}
+pub(crate) const JUDGED: Argument = Argument {
+    id: "judged",
+    form: Form::Word("HISTORY"),
+    help: "The history to be judged, as `run --history` writes it",
+};
 
 /// The file of the history of which something is to be shown.
-#[tactic(auto, unfolding(crate::specs::Words::viewed))]
-pub(crate) fn viewed_argument<'a>(alloc: Global) -> Arg<'a>
-    ensures rule { rule_of result ≡ viewed }
-    ensures local { result.global ≡ false }
-{
-    needed(
-        alloc,
-        "viewed",
-        "HISTORY",
-        "A history, as `run --history` writes it, or a journal",
-        ArgAction::Set,
-    )
-}
+pub(crate) const VIEWED: Argument = Argument {
+    id: "viewed",
+    form: Form::Word("HISTORY"),
+    help: "A history, as `run --history` writes it, or a journal",
+};
 
 /// The name of a report that is to be shown.
-#[tactic(auto, unfolding(crate::specs::Words::report))]
-pub(crate) fn report_argument<'a>(alloc: Global) -> Arg<'a>
-    ensures rule { rule_of result ≡ report }
-    ensures local { result.global ≡ false }
-{
-    Arg::new(alloc, "report")
-        .value_name("REPORT")
-        .help("The name of a report; without it, of all")
-        .action(ArgAction::Set)
-}
+pub(crate) const REPORT: Argument = Argument {
+    id: "report",
+    form: Form::OptionalWord("REPORT"),
+    help: "The name of a report; without it, of all",
+};
 
-/// The option that names a version by its number.
-#[tactic(auto, unfolding(crate::specs::Words::at))]
-pub(crate) fn at_option<'a>(alloc: Global) -> Arg<'a>
-    ensures rule { rule_of result ≡ at }
-    ensures local { result.global ≡ false }
-{
-    value_option(
-        alloc,
-        "at",
-        "at",
-        "VERSION",
-        "The version by its number; without it the last one",
-    )
-}
-
-/// The files of the scripts that are to be run in threads.
-#[tactic(auto, unfolding(crate::specs::Words::scripts))]
-pub(crate) fn scripts_argument<'a>(alloc: Global) -> Arg<'a>
-    ensures rule { rule_of result ≡ scripts }
-    ensures local { result.global ≡ false }
-{
-    needed(
-        alloc,
-        "scripts",
-        "SCRIPT",
-        "A script of JSON lines, for a thread of its own; up to 16",
-        ArgAction::Append,
-    )
-}
-
-/// The flag by which a run ends with a status of its own where a line was refused that should not have been.
-#[tactic(auto, unfolding(crate::specs::Words::strict))]
-pub(crate) fn strict_flag<'a>(alloc: Global) -> Arg<'a>
-    ensures rule { rule_of result ≡ strict }
-    ensures local { result.global ≡ false }
-{
-    flag(
-        alloc,
-        "strict",
-        "strict",
-        "Status 5 where a line was malformed or out of place",
-    )
-}
+/// A version by its number.
+pub(crate) const AT: Argument = Argument {
+    id: "at",
+    form: Form::Optional("at", "VERSION"),
+    help: "The version by its number; without it the last one",
+};
 
 /// The number of the version from which a difference leads.
-#[tactic(auto, unfolding(crate::specs::Words::earlier))]
-pub(crate) fn earlier_argument<'a>(alloc: Global) -> Arg<'a>
-    ensures rule { rule_of result ≡ earlier }
-    ensures local { result.global ≡ false }
-{
-    needed(
-        alloc,
-        "earlier",
-        "FROM",
-        "The number of a version",
-        ArgAction::Set,
-    )
-}
+pub(crate) const EARLIER: Argument = Argument {
+    id: "earlier",
+    form: Form::Word("FROM"),
+    help: "The number of a version",
+};
 
 /// The number of the version to which a difference leads.
-#[tactic(auto, unfolding(crate::specs::Words::later))]
-pub(crate) fn later_argument<'a>(alloc: Global) -> Arg<'a>
-    ensures rule { rule_of result ≡ later }
-    ensures local { result.global ≡ false }
-{
-    needed(
-        alloc,
-        "later",
-        "TO",
-        "The number of a version that it is compared with",
-        ArgAction::Set,
-    )
-}
+pub(crate) const LATER: Argument = Argument {
+    id: "later",
+    form: Form::Word("TO"),
+    help: "The number of a version that it is compared with",
+};
 
-/// The flag by which the log of sessions is drawn.
-#[tactic(auto, unfolding(crate::specs::Words::svg))]
-pub(crate) fn svg_flag<'a>(alloc: Global) -> Arg<'a>
-    ensures rule { rule_of result ≡ svg }
-    ensures local { result.global ≡ false }
-{
-    flag(
-        alloc,
-        "svg",
-        "svg",
-        "Writes a picture of at most 200 sessions, as SVG",
-    )
-}
+/// The log of sessions is drawn.
+pub(crate) const SVG: Argument = Argument {
+    id: "svg",
+    form: Form::Flag("svg"),
+    help: "Writes a picture of at most 200 sessions, as SVG",
+};
 
-/// The option that names the first session of a picture by its number.
-#[tactic(auto, unfolding(crate::specs::Words::first))]
-pub(crate) fn first_option<'a>(alloc: Global) -> Arg<'a>
-    ensures rule { rule_of result ≡ first }
-    ensures local { result.global ≡ false }
-{
-    value_option(
-        alloc,
-        "first",
-        "first",
-        "SESSION",
-        "The first session of the picture, by its number",
-    )
-}
-
-/// The option that names which duplicates are allowed, whatever a report declares.
-#[tactic(auto, unfolding(crate::specs::Words::allowing))]
-pub(crate) fn allowing_option<'a>(alloc: Global) -> Arg<'a>
-    ensures rule { rule_of result ≡ allowing }
-    ensures local { result.global ≡ false }
-{
-    value_option(
-        alloc,
-        "allowing",
-        "as",
-        "DUPLICATES",
-        "What is allowed: none, complete, consistent or all",
-    )
-}
-
-/// The flag by which lines for people are written.
-#[tactic(auto, unfolding(crate::specs::Words::plain))]
-pub(crate) fn text_flag<'a>(alloc: Global) -> Arg<'a>
-    ensures rule { rule_of result ≡ plain }
-    ensures local { result.global ≡ false }
-{
-    flag(
-        alloc,
-        "plain",
-        "text",
-        "Writes lines for people, and not JSON",
-    )
-}
+/// The first session of a picture by its number.
+pub(crate) const FIRST: Argument = Argument {
+    id: "first",
+    form: Form::Optional("first", "SESSION"),
+    help: "The first session of the picture, by its number",
+};
 
 /// The files of the reports that are to be inspected.
-#[tactic(auto, unfolding(crate::specs::Words::reports))]
-pub(crate) fn reports_argument<'a>(alloc: Global) -> Arg<'a>
-    ensures rule { rule_of result ≡ reports }
-    ensures local { result.global ≡ false }
-{
-    needed(
-        alloc,
-        "reports",
-        "REPORT",
-        "The file of a report in xBRL-JSON; - is standard input",
-        ArgAction::Append,
-    )
-}
+pub(crate) const REPORTS: Argument = Argument {
+    id: "reports",
+    form: Form::Words("REPORT"),
+    help: "The file of a report in xBRL-JSON; - is standard input",
+};
+
+/// Which duplicates are allowed, whatever a report declares.
+pub(crate) const ALLOWING: Argument = Argument {
+    id: "allowing",
+    form: Form::Optional("as", "DUPLICATES"),
+    help: "What is allowed: none, complete, consistent or all",
+};
+
+/// Lines for people are written.
+pub(crate) const PLAIN: Argument = Argument {
+    id: "plain",
+    form: Form::Flag("text"),
+    help: "Writes lines for people, and not JSON",
+};
+
+/// The files of the scripts that are to be run in threads.
+pub(crate) const SCRIPTS: Argument = Argument {
+    id: "scripts",
+    form: Form::Words("SCRIPT"),
+    help: "A script of JSON lines, for a thread of its own; up to 16",
+};

@@ -1,48 +1,40 @@
 //! The commands of the program, as `clap` takes them.
+#![tactic(auto, unfolding(crate::proofs::OnLiterals::filing_words_on_literals))]
 
-ghost use Rattle.std.specs.Prelude.{◌≡◌, false, IfOk, IsOkAnd};
-ghost use Rattle.clap.specs.Words.{AddsSubcommand, app_of, new_app, rule_of, with_rule};
-ghost use Rattle.filing_words.specs.Words.{numeric, run, load, check, show, diff, log, inspect, threads, words, program};
+ghost use Rattle.std.specs.Prelude.{◌≡◌, IfOk, IsOkAnd, map};
+ghost use Rattle.clap.specs.Words.{AddsSubcommand, app_of};
+ghost use Rattle.filing_words.specs.Arguments.{rule_for};
+ghost use Rattle.filing_words.specs.Words.{taking, run, load, check, show, diff, log, inspect, threads, words, program};
 
 use crate::arguments::{
-    allowing_option, at_option, earlier_argument, every_reply_flag, explain_flag, first_option,
-    from_option, history_option, journal_option, judged_argument, keeping_option, later_argument,
-    loaded_argument, numeric_option, report_argument, reports_argument, scripts_argument,
-    strict_flag, svg_flag, text_flag, viewed_argument,
+    ALLOWING, AT, Argument, EARLIER, EVERY_REPLY, EXPLAIN, FIRST, FROM, HISTORY, JOURNAL, JUDGED,
+    KEEPING, LATER, LOADED, NUMERIC, PLAIN, REPORT, REPORTS, SCRIPTS, STRICT, SVG, VIEWED, made,
 };
 use crate::help::{
     BEGINNING, DIFFERENCES, INSPECTIONS, LINES, LOADS, REFUSALS, SESSIONS, THREADS, VERDICTS,
     VERSIONS,
 };
-use clap::{Arg, Command};
+use clap::Command;
 use std::alloc::{AllocError, Global};
 
 /// What `filing --version` tells. There was no release yet.
 const VERSION: &str = "0.1.0";
 
-/// A command that takes a numeric table, and another argument after it.
+/// A command that takes these arguments.
 fn command_of<'a>(
     alloc: Global,
     name: &'a str,
     about: &'a str,
     help: &'a str,
-    argument: Arg<'a>,
+    arguments: &[Argument],
 ) -> Result<Command<'a>, AllocError>
-    requires local { argument.global ≡ false }
-    ensures { IfOk result (λ c. app_of c
-        ≡ with_rule (with_rule (new_app name.entry.now) numeric) (rule_of argument.entry)) }
+    ensures { IfOk result (λ c. app_of c ≡ taking name.entry.now (map rule_for arguments.now)) }
 {
-    let started = Command::new(alloc, name)
-        .about(about)
-        .after_long_help(help)
-        .arg(numeric_option(alloc));
-    match started {
-        Ok(command) => command.arg(argument),
-        Err(error) => {
-            drop(argument);
-            Err(error)
-        }
+    let mut command = Command::new(alloc, name).about(about).after_long_help(help);
+    for argument in arguments {
+        command = command.arg(made(alloc, *argument))?;
     }
+    Ok(command)
 }
 
 /// The command that runs a script.
@@ -50,12 +42,16 @@ fn run_command<'a>(alloc: Global) -> Result<Command<'a>, AllocError>
     ensures { IfOk result (λ c. app_of c ≡ run) }
 {
     let about = "Runs a script of JSON lines from standard input";
-    command_of(alloc, "run", about, LINES, history_option(alloc))?
-        .arg(from_option(alloc))?
-        .arg(journal_option(alloc))?
-        .arg(every_reply_flag(alloc))?
-        .arg(explain_flag(alloc))?
-        .arg(strict_flag(alloc))
+    let arguments = [
+        NUMERIC,
+        HISTORY,
+        FROM,
+        JOURNAL,
+        EVERY_REPLY,
+        EXPLAIN,
+        STRICT,
+    ];
+    command_of(alloc, "run", about, LINES, &arguments)
 }
 
 /// The command that loads reports into a journal.
@@ -63,7 +59,7 @@ fn load_command<'a>(alloc: Global) -> Result<Command<'a>, AllocError>
     ensures { IfOk result (λ c. app_of c ≡ load) }
 {
     let about = "Loads reports from files into a journal";
-    command_of(alloc, "load", about, LOADS, loaded_argument(alloc))?.arg(keeping_option(alloc))
+    command_of(alloc, "load", about, LOADS, &[NUMERIC, LOADED, KEEPING])
 }
 
 /// The command that judges a history.
@@ -71,7 +67,7 @@ fn check_command<'a>(alloc: Global) -> Result<Command<'a>, AllocError>
     ensures { IfOk result (λ c. app_of c ≡ check) }
 {
     let about = "Judges a history: whether each reply is the one that may be";
-    command_of(alloc, "check", about, VERDICTS, judged_argument(alloc))?.arg(explain_flag(alloc))
+    command_of(alloc, "check", about, VERDICTS, &[NUMERIC, JUDGED, EXPLAIN])
 }
 
 /// The command that shows reports of a history.
@@ -79,9 +75,8 @@ fn show_command<'a>(alloc: Global) -> Result<Command<'a>, AllocError>
     ensures { IfOk result (λ c. app_of c ≡ show) }
 {
     let about = "Shows a report, or all names, as a version of a history has them";
-    command_of(alloc, "show", about, VERSIONS, viewed_argument(alloc))?
-        .arg(report_argument(alloc))?
-        .arg(at_option(alloc))
+    let arguments = [NUMERIC, VIEWED, REPORT, AT];
+    command_of(alloc, "show", about, VERSIONS, &arguments)
 }
 
 /// The command that compares two versions of a history.
@@ -89,10 +84,8 @@ fn diff_command<'a>(alloc: Global) -> Result<Command<'a>, AllocError>
     ensures { IfOk result (λ c. app_of c ≡ diff) }
 {
     let about = "Prints what differs between two versions of a history";
-    command_of(alloc, "diff", about, DIFFERENCES, viewed_argument(alloc))?
-        .arg(earlier_argument(alloc))?
-        .arg(later_argument(alloc))?
-        .arg(report_argument(alloc))
+    let arguments = [NUMERIC, VIEWED, EARLIER, LATER, REPORT];
+    command_of(alloc, "diff", about, DIFFERENCES, &arguments)
 }
 
 /// The command that prints the sessions of a history.
@@ -100,9 +93,8 @@ fn log_command<'a>(alloc: Global) -> Result<Command<'a>, AllocError>
     ensures { IfOk result (λ c. app_of c ≡ log) }
 {
     let about = "Prints each session of a history, and who met whom";
-    command_of(alloc, "log", about, SESSIONS, viewed_argument(alloc))?
-        .arg(svg_flag(alloc))?
-        .arg(first_option(alloc))
+    let arguments = [NUMERIC, VIEWED, SVG, FIRST];
+    command_of(alloc, "log", about, SESSIONS, &arguments)
 }
 
 /// The command that inspects reports.
@@ -110,15 +102,8 @@ fn inspect_command<'a>(alloc: Global) -> Result<Command<'a>, AllocError>
     ensures { IfOk result (λ c. app_of c ≡ inspect) }
 {
     let about = "Prints every fault and every duplicate of reports in files";
-    command_of(
-        alloc,
-        "inspect",
-        about,
-        INSPECTIONS,
-        reports_argument(alloc),
-    )?
-    .arg(allowing_option(alloc))?
-    .arg(text_flag(alloc))
+    let arguments = [NUMERIC, REPORTS, ALLOWING, PLAIN];
+    command_of(alloc, "inspect", about, INSPECTIONS, &arguments)
 }
 
 /// The command that runs scripts in threads.
@@ -126,21 +111,16 @@ fn threads_command<'a>(alloc: Global) -> Result<Command<'a>, AllocError>
     ensures { IfOk result (λ c. app_of c ≡ threads) }
 {
     let about = "Runs scripts of JSON lines from files, each in its own thread";
-    command_of(alloc, "threads", about, THREADS, scripts_argument(alloc))?
-        .arg(history_option(alloc))?
-        .arg(from_option(alloc))?
-        .arg(journal_option(alloc))?
-        .arg(explain_flag(alloc))?
-        .arg(strict_flag(alloc))
+    let arguments = [NUMERIC, SCRIPTS, HISTORY, FROM, JOURNAL, EXPLAIN, STRICT];
+    command_of(alloc, "threads", about, THREADS, &arguments)
 }
 
 /// The command that tells the words of refusals.
-fn words_command<'a>(alloc: Global) -> Command<'a>
-    ensures { app_of result ≡ words }
+fn words_command<'a>(alloc: Global) -> Result<Command<'a>, AllocError>
+    ensures { IfOk result (λ c. app_of c ≡ words) }
 {
-    Command::new(alloc, "words")
-        .about("Prints the words of refusals, each with its meaning")
-        .after_long_help(REFUSALS)
+    let about = "Prints the words of refusals, each with its meaning";
+    command_of(alloc, "words", about, REFUSALS, &[])
 }
 
 /// A command with another below it, where that could be made.
@@ -177,5 +157,5 @@ pub(crate) fn command<'a>(alloc: Global) -> Result<Command<'a>, AllocError>
     let with_diff = with_below(with_show, diff_command(alloc))?;
     let with_log = with_below(with_diff, log_command(alloc))?;
     let with_inspect = with_below(with_log, inspect_command(alloc))?;
-    with_inspect.subcommand(words_command(alloc))
+    with_below(with_inspect, words_command(alloc))
 }

@@ -1,11 +1,9 @@
 //! What the words that `clap` has taken ask for.
 
-ghost use Rattle.std.specs.Prelude.{◌≡◌, IfOk, Some, map, option_map};
-ghost use Rattle.clap.specs.Words.{found_of, rows_of, subcommand_rows_of};
-ghost use Rattle.filing_words.specs.Words.{IsOrdered, is_given, tables_of};
-ghost use Rattle.filing_words.specs.Words.{ToRun, ToLoad, ToCheck, ToShow, ToCompare, ToLog, ToInspect, ToThread};
-ghost use Rattle.filing_words.specs.Words.{run_asked, load_asked, check_asked, show_asked, diff_asked, log_asked, inspect_asked, threads_asked};
-ghost use Rattle.filing_words.specs.Words.{run_of, loaded_of, judged_of, shown_of, compared_of, logged_of, inspected_of, threads_of};
+ghost use Rattle.std.specs.Prelude.{◌≡◌, IfOk, Some};
+ghost use Rattle.clap.specs.Walk.{texts};
+ghost use Rattle.clap.specs.Words.{all_of, first_of, found_of, rows_of, subcommand_rows_of};
+ghost use Rattle.filing_words.specs.Words.{HoldsRun, HoldsLoad, HoldsCheck, HoldsShow, HoldsDiff, HoldsLog, HoldsInspect, HoldsThreads, IsOrdered, is_given, tables_of, text_of};
 
 use crate::fault::WordsFault;
 use crate::invocation::{
@@ -15,19 +13,50 @@ use crate::invocation::{
 use clap::ArgMatches;
 use std::alloc::{AllocError, Global};
 
-/// Whether the value of a flag says that it was given.
-fn is_given(value: Option<&str>) -> bool
-    ensures { result ≡ is_given (option_map (λ s. s.now) value.entry) }
+/// The value of an argument, where it has one.
+fn value_of<'a>(command: &ArgMatches<'a>, id: &str) -> Option<&'a str>
+    ensures { text_of result ≡ first_of id.now (rows_of (found_of command.now)) }
 {
-    match value {
+    command.get_str(id)
+}
+
+/// Whether a flag was given.
+fn is_given(command: &ArgMatches<'_>, id: &str) -> bool
+    ensures { result ≡ is_given id.now (rows_of (found_of command.now)) }
+{
+    match value_of(command, id) {
         Some(text) => text == "true",
         None => false,
     }
 }
 
+/// The value of an argument without which `clap` takes no words.
+fn needed<'a>(command: &ArgMatches<'a>, id: &str) -> Result<&'a str, WordsFault>
+    ensures { IfOk result (λ word. Some word.now ≡ first_of id.now (rows_of (found_of command.now))) }
+{
+    match value_of(command, id) {
+        Some(word) => Ok(word),
+        None => Err(WordsFault::Refused),
+    }
+}
+
+/// The values of an argument without which `clap` takes no words.
+fn all_needed<'a>(
+    alloc: Global,
+    command: &ArgMatches<'a>,
+    id: &str,
+) -> Result<Vec<&'a str>, WordsFault>
+    ensures { IfOk result (λ given. Some (texts given.items) ≡ all_of id.now (rows_of (found_of command.now))) }
+{
+    match command.get_strs(id) {
+        Some(words) => Ok(words.to_vec(alloc)?),
+        None => Err(WordsFault::Refused),
+    }
+}
+
 /// The files of numeric tables that a command was given.
 fn tables_given<'a>(alloc: Global, command: &ArgMatches<'a>) -> Result<Vec<&'a str>, AllocError>
-    ensures { IfOk result (λ files. map (λ s. s.now) files.items ≡ tables_of (rows_of (found_of command.now))) }
+    ensures { IfOk result (λ files. texts files.items ≡ tables_of (rows_of (found_of command.now))) }
 {
     match command.get_strs("numeric") {
         Some(files) => files.to_vec(alloc),
@@ -37,141 +66,131 @@ fn tables_given<'a>(alloc: Global, command: &ArgMatches<'a>) -> Result<Vec<&'a s
 
 /// What `run` was given.
 fn run_words<'a>(alloc: Global, run: &ArgMatches<'a>) -> Result<RunWords<'a>, WordsFault>
-    ensures { IfOk result (λ given. run_asked (rows_of (found_of run.now)) ≡ Some (ToRun (run_of given))) }
+    ensures { IfOk result (λ given. HoldsRun given (rows_of (found_of run.now))) }
 {
     Ok(RunWords {
         numeric: tables_given(alloc, run)?,
-        history: run.get_str("history"),
-        from: run.get_str("from"),
-        journal: run.get_str("journal"),
-        every_reply: is_given(run.get_str("every_reply")),
-        explain: is_given(run.get_str("explain")),
-        strict: is_given(run.get_str("strict")),
+        history: value_of(run, "history"),
+        from: value_of(run, "from"),
+        journal: value_of(run, "journal"),
+        every_reply: is_given(run, "every_reply"),
+        explain: is_given(run, "explain"),
+        strict: is_given(run, "strict"),
     })
 }
 
-/// What `load` was given. `clap` takes none without a report and a journal.
+/// What `load` was given.
 fn load_words<'a>(alloc: Global, load: &ArgMatches<'a>) -> Result<LoadWords<'a>, WordsFault>
-    ensures { IfOk result (λ given. load_asked (rows_of (found_of load.now)) ≡ Some (ToLoad (loaded_of given))) }
+    ensures { IfOk result (λ given. HoldsLoad given (rows_of (found_of load.now))) }
 {
-    let Some(reports) = load.get_strs("loaded") else {
-        return Err(WordsFault::Refused);
-    };
-    let Some(journal) = load.get_str("keeping") else {
-        return Err(WordsFault::Refused);
-    };
     Ok(LoadWords {
         numeric: tables_given(alloc, load)?,
-        journal,
-        reports: reports.to_vec(alloc)?,
+        journal: needed(load, "keeping")?,
+        reports: all_needed(alloc, load, "loaded")?,
     })
 }
 
-/// What `check` was given. `clap` takes none without its file.
+/// What `check` was given.
 fn check_words<'a>(alloc: Global, check: &ArgMatches<'a>) -> Result<CheckWords<'a>, WordsFault>
-    ensures { IfOk result (λ given. check_asked (rows_of (found_of check.now)) ≡ Some (ToCheck (judged_of given))) }
+    ensures { IfOk result (λ given. HoldsCheck given (rows_of (found_of check.now))) }
 {
-    let Some(history) = check.get_str("judged") else {
-        return Err(WordsFault::Refused);
-    };
     Ok(CheckWords {
         numeric: tables_given(alloc, check)?,
-        history,
-        explain: is_given(check.get_str("explain")),
+        history: needed(check, "judged")?,
+        explain: is_given(check, "explain"),
     })
 }
 
-/// What `show` was given. `clap` takes none without its file.
+/// What `show` was given.
 fn show_words<'a>(alloc: Global, show: &ArgMatches<'a>) -> Result<ShowWords<'a>, WordsFault>
-    ensures { IfOk result (λ given. show_asked (rows_of (found_of show.now)) ≡ Some (ToShow (shown_of given))) }
+    ensures { IfOk result (λ given. HoldsShow given (rows_of (found_of show.now))) }
 {
-    let Some(history) = show.get_str("viewed") else {
-        return Err(WordsFault::Refused);
-    };
     Ok(ShowWords {
         numeric: tables_given(alloc, show)?,
-        version: show.get_str("at"),
-        history,
-        report: show.get_str("report"),
+        version: value_of(show, "at"),
+        history: needed(show, "viewed")?,
+        report: value_of(show, "report"),
     })
 }
 
-/// What `diff` was given. `clap` takes none without its file and two numbers.
+/// What `diff` was given.
 fn diff_words<'a>(alloc: Global, diff: &ArgMatches<'a>) -> Result<DiffWords<'a>, WordsFault>
-    ensures { IfOk result (λ given. diff_asked (rows_of (found_of diff.now)) ≡ Some (ToCompare (compared_of given))) }
+    ensures { IfOk result (λ given. HoldsDiff given (rows_of (found_of diff.now))) }
 {
-    let Some(history) = diff.get_str("viewed") else {
-        return Err(WordsFault::Refused);
-    };
-    let Some(from) = diff.get_str("earlier") else {
-        return Err(WordsFault::Refused);
-    };
-    let Some(to) = diff.get_str("later") else {
-        return Err(WordsFault::Refused);
-    };
     Ok(DiffWords {
         numeric: tables_given(alloc, diff)?,
-        history,
-        from,
-        to,
-        report: diff.get_str("report"),
+        history: needed(diff, "viewed")?,
+        from: needed(diff, "earlier")?,
+        to: needed(diff, "later")?,
+        report: value_of(diff, "report"),
     })
 }
 
-/// What `log` was given. `clap` takes none without its file.
+/// What `log` was given.
 fn log_words<'a>(alloc: Global, log: &ArgMatches<'a>) -> Result<LogWords<'a>, WordsFault>
-    ensures { IfOk result (λ given. log_asked (rows_of (found_of log.now)) ≡ Some (ToLog (logged_of given))) }
+    ensures { IfOk result (λ given. HoldsLog given (rows_of (found_of log.now))) }
 {
-    let Some(history) = log.get_str("viewed") else {
-        return Err(WordsFault::Refused);
-    };
     Ok(LogWords {
         numeric: tables_given(alloc, log)?,
-        history,
-        svg: is_given(log.get_str("svg")),
-        first: log.get_str("first"),
+        history: needed(log, "viewed")?,
+        svg: is_given(log, "svg"),
+        first: value_of(log, "first"),
     })
 }
 
-/// What `inspect` was given. `clap` takes none without a report.
+/// What `inspect` was given.
 fn inspect_words<'a>(
     alloc: Global,
     inspect: &ArgMatches<'a>,
 ) -> Result<InspectWords<'a>, WordsFault>
-    ensures { IfOk result (λ given. inspect_asked (rows_of (found_of inspect.now))
-        ≡ Some (ToInspect (inspected_of given))) }
+    ensures { IfOk result (λ given. HoldsInspect given (rows_of (found_of inspect.now))) }
 {
-    let Some(reports) = inspect.get_strs("reports") else {
-        return Err(WordsFault::Refused);
-    };
     Ok(InspectWords {
         numeric: tables_given(alloc, inspect)?,
-        allowing: inspect.get_str("allowing"),
-        text: is_given(inspect.get_str("plain")),
-        reports: reports.to_vec(alloc)?,
+        reports: all_needed(alloc, inspect, "reports")?,
+        allowing: value_of(inspect, "allowing"),
+        text: is_given(inspect, "plain"),
     })
 }
 
-/// What `threads` was given. `clap` takes none without a script.
+/// What `threads` was given.
 fn threads_words<'a>(
     alloc: Global,
     threads: &ArgMatches<'a>,
 ) -> Result<ThreadsWords<'a>, WordsFault>
-    ensures { IfOk result (λ given. threads_asked (rows_of (found_of threads.now))
-        ≡ Some (ToThread (threads_of given))) }
+    ensures { IfOk result (λ given. HoldsThreads given (rows_of (found_of threads.now))) }
 {
-    let Some(scripts) = threads.get_strs("scripts") else {
-        return Err(WordsFault::Refused);
-    };
     Ok(ThreadsWords {
         numeric: tables_given(alloc, threads)?,
-        history: threads.get_str("history"),
-        from: threads.get_str("from"),
-        journal: threads.get_str("journal"),
-        explain: is_given(threads.get_str("explain")),
-        strict: is_given(threads.get_str("strict")),
-        scripts: scripts.to_vec(alloc)?,
+        history: value_of(threads, "history"),
+        from: value_of(threads, "from"),
+        journal: value_of(threads, "journal"),
+        scripts: all_needed(alloc, threads, "scripts")?,
+        explain: is_given(threads, "explain"),
+        strict: is_given(threads, "strict"),
     })
+}
+
+/// What the command of this name asks for.
+fn command_given<'a>(
+    alloc: Global,
+    name: &str,
+    command: &ArgMatches<'a>,
+) -> Result<Invocation<'a>, WordsFault>
+    ensures { IfOk result (IsOrdered (Some (name.now, rows_of (found_of command.now)))) }
+{
+    match name {
+        "run" => Ok(Invocation::Run(run_words(alloc, command)?)),
+        "load" => Ok(Invocation::Load(load_words(alloc, command)?)),
+        "check" => Ok(Invocation::Check(check_words(alloc, command)?)),
+        "show" => Ok(Invocation::Show(show_words(alloc, command)?)),
+        "diff" => Ok(Invocation::Diff(diff_words(alloc, command)?)),
+        "log" => Ok(Invocation::Log(log_words(alloc, command)?)),
+        "inspect" => Ok(Invocation::Inspect(inspect_words(alloc, command)?)),
+        "threads" => Ok(Invocation::Threads(threads_words(alloc, command)?)),
+        "words" => Ok(Invocation::Explain),
+        _ => Err(WordsFault::Refused),
+    }
 }
 
 /// What the words that `clap` has taken ask for. It takes none without a command.
@@ -182,15 +201,7 @@ pub(crate) fn ordered<'a>(
     ensures { IfOk result (IsOrdered (subcommand_rows_of matches.now)) }
 {
     match matches.subcommand() {
-        Some(("run", run)) => Ok(Invocation::Run(run_words(alloc, run)?)),
-        Some(("load", load)) => Ok(Invocation::Load(load_words(alloc, load)?)),
-        Some(("check", check)) => Ok(Invocation::Check(check_words(alloc, check)?)),
-        Some(("show", show)) => Ok(Invocation::Show(show_words(alloc, show)?)),
-        Some(("diff", diff)) => Ok(Invocation::Diff(diff_words(alloc, diff)?)),
-        Some(("log", log)) => Ok(Invocation::Log(log_words(alloc, log)?)),
-        Some(("inspect", inspect)) => Ok(Invocation::Inspect(inspect_words(alloc, inspect)?)),
-        Some(("threads", threads)) => Ok(Invocation::Threads(threads_words(alloc, threads)?)),
-        Some(("words", _)) => Ok(Invocation::Explain),
-        _ => Err(WordsFault::Refused),
+        Some((name, command)) => command_given(alloc, name, command),
+        None => Err(WordsFault::Refused),
     }
 }

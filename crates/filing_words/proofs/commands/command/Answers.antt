@@ -2,12 +2,12 @@ use Rattle.std.proofs.Common.{ap, codes, true, false, refl, ◌≡◌, ◌∙◌
 use Rattle.std.proofs.lemmas.Result.{IfOk-weaker}
 use Rattle.clap.specs.Words.{App, app_of, new_app}
 use Rattle.clap.specs.Simple.{app_of_fields}
-use Rattle.filing_words.specs.Words.{allowing, at, check, diff, earlier, every_reply, explain, first, from, history, inspect, journal, judged, keeping, later, load, loaded, log, numeric, plain, program, report, reports, run, scripts, show, strict, svg, threads, viewed, words}
-use Rattle.filing_words.proofs.BuiltCommands.{with_command, with_made}
+use Rattle.filing_words.specs.Words.{check, diff, inspect, load, log, program, run, show, threads, words}
+use Rattle.filing_words.proofs.BuiltCommands.{with_made}
 use Rattle.filing_words.proofs.commands.command.Goals as goal
 
 pub returns : goal.returns
-unfolding numeric history from journal every_reply explain strict judged viewed report at earlier later svg first allowing plain reports scripts keeping loaded run load check show diff log inspect threads words program
+unfolding run load check show diff log inspect threads words program
 returns c =
     let dated = λ (a : App). record a { top = record a.top { has_version = true } } in
     let wants = λ (a : App). record a { top = record a.top { subcommand_required = true } } in
@@ -25,5 +25,5 @@ returns c =
     let comparing = with_made _ diff _ _ _ c.in_ok-with_diff.ensures showing c.diff_command.ensures refl in
     let logging = with_made _ log _ _ _ c.in_ok-with_log.ensures comparing c.log_command.ensures refl in
     let inspecting = with_made _ inspect _ _ _ c.in_ok-with_inspect.ensures logging c.inspect_command.ensures refl in
-    IfOk-weaker c.subcommand.result _ _ (λ r added. with_command _ words _ _ r added inspecting c.words_command.ensures refl)
-    c.subcommand.ensures
+    IfOk-weaker c.with_below-9.result _ _ (λ r added. with_made _ words _ r _ added inspecting c.words_command.ensures refl)
+    c.with_below-9.ensures

@@ -1,14 +1,23 @@
-use Rattle.std.proofs.Common.{◌≡◌, ◌∙◌, ap, refl}
-use Rattle.std.proofs.lemmas.Result.{IfOk-weaker}
-use Rattle.clap.specs.Words.{app_of, new_app}
+use Rattle.std.proofs.Common.{◌∙◌, List, ap, ap₂, map, sym}
+use Rattle.std.proofs.lemmas.List.{map_more, take_all}
+use Rattle.clap.specs.Words.{with_rule}
 use Rattle.clap.specs.Simple.{app_of_fields}
-use Rattle.filing_words.proofs.BuiltCommands.{with_argument}
+use Rattle.filing_words.specs.Arguments.{rule_for}
+use Rattle.filing_words.specs.Words.{taking}
+use Rattle.filing_words.specs.declared.arguments.Argument.{Argument}
 use Rattle.filing_words.proofs.commands.command_of.Goals as goal
 
-pub returns-in-Ok : goal.returns-in-Ok
-returns-in-Ok c =
-    let named : app_of c.after_long_help.result ≡ new_app c.args.name.now =
-    ap app_of_fields c.after_long_help.ensures ∙ ap app_of_fields c.about.ensures ∙ c.new.ensures.app in
-    let by_table = with_argument _ _ _ _ _ c.in-Ok.ensures named c.numeric_option.ensures.rule c.numeric_option.ensures.local in
-    IfOk-weaker c.arg.result _ _ (λ r added. with_argument _ _ _ r _ added by_table refl c.requires.local)
-    c.arg.ensures
+pub loop-argument-init : goal.loop-argument-init
+loop-argument-init c =
+    ap app_of_fields c.after_long_help-command.ensures ∙ ap app_of_fields c.about.ensures ∙ c.new.ensures.app
+
+pub loop-argument-preserved : goal.loop-argument-preserved
+loop-argument-preserved c =
+    let at = c.loop-argument in
+    c.in_ok-command.ensures.shape c.made.ensures.local ∙ ap₂ with_rule at.invariant c.made.ensures.rule
+    ∙ ap (taking c.args.name.now) (sym (map_more rule_for c.args.arguments.now at.argument-index _ c.loop-argument-test.true))
+
+pub returns : goal.returns
+returns c =
+    c.loop-argument.invariant
+    ∙ ap (λ (l : List Argument). taking c.args.name.now (map rule_for l)) (take_all _ _ c.loop-argument-test.false)
