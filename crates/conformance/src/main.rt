@@ -8,6 +8,7 @@
 //! - `trials`: has each call of a device go wrong.
 //! - `crashes`: opens what a crash may leave of a journal.
 //! - `offices`: takes steps at desks, and opens reviews beside them.
+//! - `threads`: runs stored scripts in threads.
 //! - `openings`: opens journals, in memory and in files.
 //! - `callers`: runs the worked callers of `embedding`.
 //! - `lines`: what they need of lines.
@@ -33,6 +34,7 @@ mod pages;
 mod question;
 mod scripts;
 mod sheet;
+mod threads;
 mod trials;
 
 use anyhow::{Result, anyhow};
@@ -49,9 +51,10 @@ use std::random::RandomSource;
 use std::rt::Files;
 use std::sync::Wait;
 use std::thread::Threads;
+use threads::compare_in_threads;
 use trials::try_devices;
 
-const PARTS: [&str; 12] = [
+const PARTS: [&str; 13] = [
     "sheets",
     "calls",
     "pages",
@@ -62,6 +65,7 @@ const PARTS: [&str; 12] = [
     "devices",
     "crashes",
     "offices",
+    "threads",
     "openings",
     "callers",
 ];
@@ -88,6 +92,7 @@ fn compare<T: Threads + Wait + Sync + RandomSource + Print + Files + AllocGlobal
 ) -> Result<()> {
     match part {
         "offices" => show_offices(handle),
+        "threads" => compare_in_threads(handle),
         "openings" => show_openings(rt),
         "callers" => show_callers(handle),
         _ => compare_alone(rt, part),

@@ -1,7 +1,7 @@
 //! Sheets of a file NAME.rows: scripts under a title, with the answers to them written beside them.
 //!
 //! A line that begins with `# ` begins a sheet and is its title. `=> ` stands before a reply, `-> ` before a line of a history,
-//! and `= ` before what else is reported; `/` begins a script where there are several or none has a line, `: ` stands before the
+//! and `= ` before what else is reported; `/` begins a script, which may then have no line, `: ` stands before the
 //! text of a numeric table of the sheet's own, as JSON, and `~` marks a sheet. Every other line is one of a script; after `+ ` it
 //! has no end. `* [N,TEXT]` is so many times a text in a script, and `=* [N,TEXT]` in the replies.
 
@@ -180,14 +180,14 @@ pub(crate) struct Seen {
 }
 
 impl Seen {
-    pub(crate) const NOTHING: Seen = Seen {
+    const NOTHING: Seen = Seen {
         sheets: 0,
         answers: 0,
         differing: 0,
     };
 
     /// Compares the answer to a sheet with what is written, and reports where it differs.
-    pub(crate) fn compare<R: Print + AllocGlobal>(
+    fn compare<R: Print + AllocGlobal>(
         &mut self,
         rt: &R,
         sheet: &Sheet,
@@ -226,7 +226,7 @@ pub(crate) fn compare_sheets<A: Answers, R: Print + AllocGlobal>(
 }
 
 /// The sheets of the file NAME.rows.
-pub(crate) fn read_sheets<R: Files + AllocGlobal>(rt: &R, name: &str) -> Result<Vec<Sheet>> {
+fn read_sheets<R: Files + AllocGlobal>(rt: &R, name: &str) -> Result<Vec<Sheet>> {
     let file = read_data(rt, name, "rows")?;
     Ok(sheets_in(rt.alloc(), &file)?)
 }
