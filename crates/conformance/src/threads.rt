@@ -2,7 +2,7 @@
 
 ghost use Rattle.std.specs.Prelude.{◌≡◌, ◌≤◌, ◌<◌, length};
 
-use crate::lines::{read_data, read_numeric, read_text};
+use crate::lines::{ends_in, is_end, read_data, read_numeric, read_text};
 use anyhow::Result;
 use filing_threads::run_threads;
 use line_io::MemoryOut;
@@ -37,31 +37,38 @@ fn written_in_threads<K: Ledger, R: AllocGlobal + Threads + Wait + Sync>(
     Ok(Vec::from_slice(rt.alloc(), sink.written())?)
 }
 
-/// Whether a script in a thread gets these replies.
-fn is_answered_so<R: AllocGlobal + Threads + Wait + Sync>(
+/// The replies to a script in a thread.
+fn replies_in_thread<R: AllocGlobal + Threads + Wait + Sync>(
     rt: &R,
     table: &Arc<NumericTable>,
     script: Vec<u8>,
-    replies: &[u8],
-) -> Result<bool> {
+) -> Result<Vec<u8>> {
     let scripts = [script];
-    let written = written_in_threads::<Brand, R>(rt, table, &scripts, Blank::new(1))?;
-    Ok(written.as_slice() == replies)
+    written_in_threads::<Brand, R>(rt, table, &scripts, Blank::new(1))
 }
 
-/// Compares the replies to the scripts that `stored.txt` names with those that are stored.
+/// How many lines are the same at their places.
+fn same_at_places(one: &[u8], other: &[u8]) -> usize {
+    let mut same = 0usize;
+    for (line, against) in one.split(is_end).zip(other.split(is_end)) {
+        if line == against && !line.is_empty() {
+            same = same.saturating_add(1);
+        }
+    }
+    same
+}
+
+/// Compares the replies to the scripts that `stored.txt` names with those that are stored. In threads an export is a bad line.
 pub(crate) fn compare_in_threads<R: Print + AllocGlobal + Files + Threads + Wait + Sync>(
     rt: &R,
 ) -> Result<()> {
     let names = read_text(rt, "stored")?;
     let table = &read_numeric(rt, "numeric")?;
     for name in names.lines() {
-        let (script, replies) = (
-            read_data(rt, name, "jsonl")?,
-            read_data(rt, name, "replies")?,
-        );
-        let is_so = is_answered_so(rt, table, script, &replies)?;
-        println!(rt; "{name} in a thread gets the stored replies: {is_so}")?;
+        let replies = read_data(rt, name, "replies")?;
+        let told = replies_in_thread(rt, table, read_data(rt, name, "jsonl")?)?;
+        let (all, same) = (ends_in(&told), same_at_places(&told, &replies));
+        println!(rt; "{name} in a thread: {all} replies, {same} as stored")?;
     }
     Ok(())
 }
