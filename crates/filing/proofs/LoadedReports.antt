@@ -24,7 +24,7 @@ use Rattle.script_runs.specs.JournaledRun.{IsKeptWhole, JournalsScript, TookFron
 use Rattle.script_runs.specs.declared.journaled.JournaledRun.{JournaledRun}
 use Rattle.filing.specs.Loads.{AreLoaded, LoadsAndKeeps, MeansLoad, load_line, load_script}
 use Rattle.filing.specs.Runs.{Over}
-use Rattle.filing.specs.declared.load.NamedText.{NamedText}
+use Rattle.filing.specs.declared.commands.load.NamedText.{NamedText}
 
 -- ---- what a line means
 

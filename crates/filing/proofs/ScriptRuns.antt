@@ -3,7 +3,7 @@ use Rattle.std.proofs.Common.{◌≡◌, sym, subst, List, ℕ, Option, Result, 
 use Rattle.line_io.specs.Devices.{SourceState, SinkState, new_source, new_sink}
 use Rattle.filing.specs.Mistakes.{NotesMistakes}
 use Rattle.filing.specs.Runs.{Over, OverWriter}
-use Rattle.filing.specs.declared.explained.Explainer.{Explainer}
+use Rattle.filing.specs.declared.reasons.explainer.Explainer.{Explainer}
 
 pub over : {S T : Type 0} (source_state : S → SourceState) (sink_state : T → SinkState) (rest rest' written written' : Option (List ℕ))
     (done : S → S → SinkState → SinkState → Type 0) (source source' : S) (sink sink' : T) → source_state source ≡ new_source rest

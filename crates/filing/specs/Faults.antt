@@ -10,12 +10,12 @@ use Rattle.filing_threads.specs.declared.fault.ThreadsFault.{ThreadsFault}
 use Rattle.filing_threads.specs.declared.fault.ThreadsFault.TheVariants as threads
 use Rattle.journal_file.specs.declared.fault.FileFault.{FileFault}
 use Rattle.journal_file.specs.declared.fault.FileFault.TheVariants as file
-use Rattle.filing_words.specs.declared.fault.WordsFault.{WordsFault}
-use Rattle.filing_words.specs.declared.fault.WordsFault.TheVariants as words
+use Rattle.filing_args.specs.declared.fault.WordsFault.{WordsFault}
+use Rattle.filing_args.specs.declared.fault.WordsFault.TheVariants as words
 use Rattle.filing.specs.declared.fault.Fault.{Fault}
 use Rattle.filing.specs.declared.fault.Fault.TheVariants.{Words, TooManyScripts, Read, Write, TableLine, TableNotText, HistoryLine, JournalInUse, JournalLine, TooDeep, NoMemory}
-use Rattle.filing.specs.declared.misplaced.Misplaced.{Misplaced}
-use Rattle.filing.specs.declared.misplaced.Misplaced.TheVariants as misplaced
+use Rattle.filing.specs.declared.files.misplaced.Misplaced.{Misplaced}
+use Rattle.filing.specs.declared.files.misplaced.Misplaced.TheVariants as misplaced
 
 -- words that were refused were told as such
 abbrev pub words_fault_of : WordsFault → Fault

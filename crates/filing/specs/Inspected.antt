@@ -6,7 +6,7 @@ use Rattle.filing_model.specs.Oim.Facts.{Table}
 use Rattle.report_inspection.specs.Inspections.{IsInspection}
 use Rattle.report_inspection.specs.Lines.{inspection_text}
 use Rattle.report_inspection.specs.declared.inspection.Inspection.{Inspection}
-use Rattle.filing.specs.declared.inspect.Manner.{Manner}
+use Rattle.filing.specs.declared.commands.inspect.Manner.{Manner}
 
 -- the status of a report, by whether a load would be accepted, as if it declared the asked value, if any
 abbrev pub inspected_status : Bool → ℕ

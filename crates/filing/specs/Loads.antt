@@ -17,7 +17,7 @@ use Rattle.filing_core.specs.Engines.{EngineState, IsEngineOf}
 use Rattle.script_runs.specs.JournaledRun.{IsJournaled}
 use Rattle.script_runs.specs.Resumed.{history_on, output_on}
 use Rattle.script_runs.specs.declared.journaled.JournaledRun.{JournaledRun}
-use Rattle.filing.specs.declared.load.NamedText.{NamedText}
+use Rattle.filing.specs.declared.commands.load.NamedText.{NamedText}
 
 -- the line of a script that loads the text of a report under a name
 abbrev pub load_line : Text → Text → Text

@@ -4,7 +4,7 @@ use Rattle.std.specs.List.{list_any}
 use Rattle.std.specs.Io.KnownBytes.{Appends}
 use Rattle.line_io.specs.Lines.{lines_text}
 use Rattle.script_reasons.specs.Refusals.{tells_mistake}
-use Rattle.filing.specs.declared.explained.Explainer.{Explainer}
+use Rattle.filing.specs.declared.reasons.explainer.Explainer.{Explainer}
 
 -- what an explainer notes of a line and its reply: whether the reply tells of a mistake
 abbrev pub notes : Explainer → List ℕ → List ℕ → Explainer → Type 0

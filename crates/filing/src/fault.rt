@@ -2,10 +2,10 @@ ghost use Rattle.std.specs.Prelude.{◌≡◌};
 ghost use Rattle.std.specs.Process.{exit_status};
 ghost use Rattle.filing.specs.Faults.{status_of};
 
-use crate::misplaced::Misplaced;
+use crate::files::misplaced::Misplaced;
+use filing_args::WordsFault;
 use filing_cli::{ScriptFault, ThreadsFault};
 use filing_model::TableFault;
-use filing_words::WordsFault;
 use journal::DeviceFailed;
 use journal_file::FileFault;
 use std::alloc::{AllocError, AllocFailed};

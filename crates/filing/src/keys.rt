@@ -1,7 +1,7 @@
 //! The keys of the hashes by which sessions find what they have read.
 
 use crate::fault::{Fault, read_fault};
-use crate::named::Reasons;
+use crate::files::named::Reasons;
 use filing_core::HashKeys;
 
 /// Keys that are drawn anew, since whoever wrote a script or a history may have chosen its names by their hashes.

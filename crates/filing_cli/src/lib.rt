@@ -6,7 +6,7 @@
 //! - `filing_threads` runs several scripts at once;
 //! - `line_io` has what they read from and write to.
 //!
-//! It knows nothing of files, or of the words of a command line, which `filing_words` reads.
+//! It knows nothing of files, or of the words of a command line, which `filing_args` reads.
 #![tactic(auto)]
 
 pub use filing_threads::{

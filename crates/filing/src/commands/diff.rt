@@ -1,0 +1,122 @@
+//! What differs between two versions of a history.
+
+ghost use Rattle.std.specs.Prelude.{◌≡◌, ◌≤◌, ◌<◌, IfOk, option_map};
+ghost use Rattle.std.specs.Arc.{arc_value};
+ghost use Rattle.history_views.specs.Differing.{difference_asked};
+ghost use Rattle.filing.specs.Runs.{ShowsFound};
+
+use crate::fault::Fault;
+use crate::files::history::opened;
+use crate::files::named::{Named, OUTPUT, Reasons};
+use crate::files::table::numeric_table;
+use crate::keys::drawn_keys;
+use crate::reasons::departure::explained;
+use crate::runs::beginning::departure;
+use filing_args::{DiffWords, number_of};
+use filing_cli::{FromReader, ToWriter};
+use filing_core::{HashKeys, Verdict};
+use history_views::{FoundDifference, Shown, difference_of_history};
+use oim_fact::NumericTable;
+use std::alloc::Global;
+use std::io::{Read, Write};
+use std::marker::Brand;
+use std::mem::forget;
+use std::sync::Arc;
+use std::sync::ledger::{Blank, Ledger};
+
+/// The number of the version that is not there, if one is not.
+fn missing(found: &FoundDifference, from: u64, to: u64) -> Option<u64> {
+    if found.from.is_none() {
+        Some(from)
+    } else if found.to.is_none() {
+        Some(to)
+    } else {
+        None
+    }
+}
+
+/// Writes what differs between two versions of the history that a reader gives, in all reports or in one, to a writer, if both are there.
+/// It gives both back, and the number of the version that is not there.
+fn write_difference<R: Read + Drop, W: Write + Drop, L: Ledger, K: Ledger>(
+    alloc: Global,
+    keys: HashKeys,
+    reader: R,
+    writer: W,
+    table: &Arc<NumericTable>,
+    from: u64,
+    to: u64,
+    report: Option<&str>,
+    source_blank: Blank,
+    sink_blank: Blank,
+) -> Result<(R, W, Shown, Option<u64>), Fault>
+    requires source_name { source_blank.name ≡ L.name }
+    requires source_parts { source_blank.parts ≡ L.parts }
+    requires source_three { 3 ≤ source_blank.parts }
+    requires sink_name { sink_blank.name ≡ K.name }
+    requires sink_parts { sink_blank.parts ≡ K.parts }
+    requires sink_some { 0 < sink_blank.parts }
+    ensures { IfOk result (λ back. ShowsFound (arc_value table.now) (difference_asked from to (option_map (λ t. t.now) report.entry))
+        (R.remaining reader) (R.remaining back.0) (W.contents writer) (W.contents back.1) back.2) }
+{
+    let mut source: FromReader<R, L> = FromReader::new(reader, source_blank);
+    let mut sink: ToWriter<W, K> = ToWriter::new(writer, sink_blank);
+    let found = difference_of_history(alloc, keys, &mut source, table, from, to, report)?;
+    match found.verdict {
+        Verdict::Lawful => {
+            let shown = found.write(&mut sink);
+            let missing = missing(&found, from, to);
+            // The process ends soon, as after a script.
+            forget(found);
+            let shown = shown?;
+            Ok((source.into_inner(), sink.into_inner(), shown, missing))
+        }
+        Verdict::Departs(place) => {
+            forget(found);
+            Err(departure(place))
+        }
+    }
+}
+
+/// Tells what is not there, and gives the status.
+fn told(
+    rt: &impl Eprint,
+    given: &DiffWords<'_>,
+    shown: Shown,
+    missing: Option<u64>,
+) -> Result<u8, Fault> {
+    let name = given.report.unwrap_or("");
+    let number = missing.unwrap_or(0);
+    let _ = match shown {
+        Shown::Written => return Ok(0),
+        Shown::NoVersion => eprintln!(rt; "filing: no version {number}"),
+        Shown::NoReport => eprintln!(rt; "filing: no report \"{name}\""),
+    };
+    Err(Fault::Words)
+}
+
+/// Shows what differs between the versions that the words name.
+pub(crate) fn show_difference(rt: &HostRuntime, given: &DiffWords<'_>) -> Result<u8, Fault> {
+    let from = number_of(rt, "<FROM>", given.from)?;
+    let to = number_of(rt, "<TO>", given.to)?;
+    let reasons = Reasons::new(rt, false);
+    let table = Arc::new(
+        rt.alloc(),
+        numeric_table(rt, given.numeric.as_slice(), reasons)?,
+    )?;
+    let found = write_difference::<_, _, Brand, Brand>(
+        rt.alloc(),
+        drawn_keys(rt, reasons)?,
+        opened(rt, given.history, reasons)?,
+        Named::new(rt.stdout(), OUTPUT, reasons),
+        &table,
+        from,
+        to,
+        given.report,
+        Blank::new(3),
+        Blank::new(1),
+    );
+    match found {
+        Ok((_, _, shown, missing)) => told(rt, given, shown, missing),
+        Err(fault) => Err(explained(rt, given.history, reasons, &table, fault)),
+    }
+}

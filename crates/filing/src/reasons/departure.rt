@@ -1,0 +1,233 @@
+//! Why a history departs.
+
+ghost use Rattle.std.specs.Prelude.{◌≡◌, ◌≤◌};
+
+use crate::fault::Fault;
+use crate::files::history::opened;
+use crate::files::named::Reasons;
+use crate::keys::drawn_keys;
+use crate::progress::length_in;
+use filing_cli::{FromReader, Machine, Nowhere, READS, entry_of, run};
+use filing_core::{Engine, EngineFault, HashKeys};
+use filing_step::{Entry, Reply, Step};
+use oim_fact::NumericTable;
+use oim_report::json_value;
+use script_format::{reply_text, text_at};
+use script_reasons::reading_stop;
+use std::alloc::{AllocError, Global};
+use std::fs;
+use std::io::Read;
+use std::marker::Brand;
+use std::mem::forget;
+use std::sync::Arc;
+use std::sync::ledger::{Blank, Ledger};
+
+/// Follows the lines of a history, and keeps in words why the first that departs does.
+#[derive(Drop)]
+struct Follower {
+    table: Arc<NumericTable>,
+    engine: Engine,
+    /// The number of the last line that was followed.
+    last: u128,
+    reason: Option<String>,
+}
+
+/// Whether an entry has the number that its session has, or has none where none is to be.
+fn misnumbered(
+    alloc: Global,
+    engine: &Engine,
+    entry: &Entry,
+) -> Result<Option<String>, AllocError> {
+    match (&entry.step, entry.session) {
+        (Step::Load(_, _), Some(_)) => {
+            let told = String::from_str(
+                alloc,
+                "a load is of no session, and has null in its place",
+            )?;
+            Ok(Some(told))
+        }
+        (Step::Open(_), session) => {
+            let due = engine.opened().saturating_add(1);
+            if session == Some(due) {
+                return Ok(None);
+            }
+            let told = format!(in alloc; "this opening is that of session {due}")?;
+            Ok(Some(told))
+        }
+        _ => Ok(None),
+    }
+}
+
+/// What is reported where another reply was due.
+fn other_reply(
+    alloc: Global,
+    number: u128,
+    due: &Reply,
+    stands: &Reply,
+) -> Result<Option<String>, AllocError> {
+    let due = reply_text(alloc, due)?;
+    let stands = reply_text(alloc, stands)?;
+    if due == stands {
+        return Ok(None);
+    }
+    let told = format!(in alloc;
+        "line {number}: the reply that is due is {due}, and {stands} stands there"
+    )?;
+    Ok(Some(told))
+}
+
+/// Whether a line has a load where its step is to be.
+fn is_load(alloc: Global, line: &[u8]) -> Result<bool, AllocError> {
+    let Some(value) = json_value(alloc, line)? else {
+        return Ok(false);
+    };
+    match value.get(1) {
+        Some(step) => Ok(text_at(step, 0) == Some("load")),
+        None => Ok(false),
+    }
+}
+
+impl Follower {
+    fn new(
+        alloc: Global,
+        keys: HashKeys,
+        table: &Arc<NumericTable>,
+    ) -> Result<Follower, AllocError> {
+        Ok(Follower {
+            table: table.clone()?,
+            engine: Engine::with_keys(alloc, keys)?,
+            last: 0,
+            reason: None,
+        })
+    }
+
+    /// Takes an entry, and tells why it may not follow, if it may not.
+    fn take_entry(
+        &mut self,
+        alloc: Global,
+        number: u128,
+        entry: Entry,
+    ) -> Result<Option<String>, AllocError> {
+        if let Some(told) = misnumbered(alloc, &self.engine, &entry)? {
+            return Ok(Some(format!(in alloc; "line {number}: {told}")?));
+        }
+        let Entry {
+            session,
+            step,
+            reply,
+        } = entry;
+        match self.engine.step(alloc, session, step) {
+            Ok(due) => other_reply(alloc, number, &due, &reply),
+            Err(EngineFault::NoSession) => {
+                let told = format!(in alloc; "line {number}: its session is not open")?;
+                Ok(Some(told))
+            }
+            Err(EngineFault::NoMemory | EngineFault::Full) => Err(AllocError),
+        }
+    }
+
+    /// What is reported of a line that is no entry.
+    fn no_entry(&self, alloc: Global, number: u128, line: &[u8]) -> Result<String, AllocError> {
+        match reading_stop(alloc, line)? {
+            Some((column, said)) => { format!(in alloc; "line {number}, column {column}: {said}") }
+            None if is_load(alloc, line)? => format!(in alloc;
+                "line {number}: its report is refused, or is not as a run writes it: is the numeric table that of the run?"
+            ),
+            None => format!(in alloc;
+                "line {number}: it is no entry, which is [session,step,reply] as a run writes it"
+            ),
+        }
+    }
+
+    /// Follows a line, unless one before it departs.
+    fn follow(&mut self, alloc: Global, number: u128, line: &[u8]) -> Result<(), AllocError> {
+        if self.reason.is_some() {
+            return Ok(());
+        }
+        self.last = number;
+        self.reason = match entry_of(alloc, &self.table, &self.engine, line)? {
+            Some(entry) => self.take_entry(alloc, number, entry)?,
+            None => Some(self.no_entry(alloc, number, line)?),
+        };
+        Ok(())
+    }
+}
+
+impl Machine for Follower {
+    ghost replies = { λ _ _ _ _. Unit {0} };
+
+    fn answer(&mut self, alloc: Global, number: u128, line: &[u8]) -> Result<String, AllocError> {
+        self.follow(alloc, number, line)?;
+        Ok(String::new(alloc))
+    }
+}
+
+/// Why the history that a reader gives departs, in words; none where it does not, or cannot be read.
+fn reason_of<R: Read + Drop, L: Ledger>(
+    alloc: Global,
+    keys: HashKeys,
+    reader: R,
+    table: &Arc<NumericTable>,
+    blank: Blank,
+) -> Result<Option<String>, AllocError>
+    requires name { blank.name ≡ L.name }
+    requires parts { blank.parts ≡ L.parts }
+    requires three { 3 ≤ blank.parts }
+{
+    let mut source: FromReader<R, L> = FromReader::new(reader, blank);
+    let mut follower = Follower::new(alloc, keys, table)?;
+    let ended = run(alloc, &mut follower, &mut source, &mut Nowhere, READS);
+    let Follower { engine, reason, .. } = follower;
+    forget(engine);
+    match ended {
+        Ok(()) => Ok(reason),
+        Err(_) => Ok(None),
+    }
+}
+
+/// Reads the history at a path once more, and tells on standard error why it departs.
+/// Only a regular file is explained: a pipe has given all that it had, and to open it again would wait for another writer.
+pub(crate) fn explain_departure(
+    rt: &HostRuntime,
+    path: &str,
+    reasons: Reasons,
+    table: &Arc<NumericTable>,
+) {
+    if length_in(&fs::metadata(rt, path)).is_none() {
+        return;
+    }
+    let Ok(keys) = drawn_keys(rt, reasons) else {
+        return;
+    };
+    let Ok(reader) = opened(rt, path, reasons) else {
+        return;
+    };
+    if let Ok(Some(reason)) = reason_of::<_, Brand>(
+        rt.alloc(),
+        keys,
+        reader,
+        table,
+        Blank::new(3),
+    ) {
+        let _ = eprintln!(rt; "{reason}");
+    }
+}
+
+/// Tells why a history or a journal departs, where this is its fault and reasons are wanted, and gives the fault back.
+pub(crate) fn explained(
+    rt: &HostRuntime,
+    path: &str,
+    reasons: Reasons,
+    table: &Arc<NumericTable>,
+    fault: Fault,
+) -> Fault
+    ensures { result ≡ fault }
+{
+    match fault {
+        Fault::HistoryLine(_) | Fault::JournalLine(_) if reasons.are_told() => {
+            explain_departure(rt, path, reasons, table);
+        }
+        _ => {}
+    }
+    fault
+}

@@ -1,0 +1,109 @@
+//! Histories to begin with.
+
+ghost use Rattle.std.specs.Prelude.{◌≡◌, ◌+◌, ◌≤◌, ◌↔◌, [], true, is_some, option_map, IfOk, MatchResult};
+ghost use Rattle.std.specs.Arc.{arc_value};
+ghost use Rattle.line_io.specs.Devices.{new_source};
+ghost use Rattle.filing.specs.Runs.{BeginsOn, IsNotBegun};
+
+use crate::fault::Fault;
+use crate::files::history::{HistoryFile, opened};
+use crate::files::named::Reasons;
+use crate::reasons::departure::explained;
+use filing_cli::{FromReader, Source, view_history};
+use filing_core::{Engine, HashKeys, Verdict};
+use oim_fact::NumericTable;
+use script_runs::View;
+use std::alloc::Global;
+use std::io::Read;
+use std::mem::forget;
+use std::sync::Arc;
+use std::sync::ledger::{Blank, Ledger};
+
+/// The fault of a history that departs at a place, from 0.
+pub(crate) fn departure(place: usize) -> Fault
+    ensures { result ≡ Fault.HistoryLine (place + 1) }
+{
+    Fault::HistoryLine(place as u128 + 1)
+}
+
+/// The engine of the lawful history that a source gives to its end, and what a view sees of it; with no source, an engine that took no step, and the view as it was.
+/// The source is given back.
+pub(crate) fn begin_from<V: View + Drop, H: Source + Drop>(
+    alloc: Global,
+    keys: HashKeys,
+    from: Option<H>,
+    table: &Arc<NumericTable>,
+    first: V,
+) -> (Option<H>, Result<(Engine, V), Fault>)
+    requires { V.sees first first [] }
+    ensures { MatchResult result.1
+        (λ found. BeginsOn H.state (arc_value table.now) (V.sees first) from result.0 found.0 found.1)
+        (IsNotBegun H.state (arc_value table.now) from result.0) }
+{
+    let Some(mut source) = from else {
+        return match Engine::with_keys(alloc, keys) {
+            Ok(engine) => (None, Ok((engine, first))),
+            Err(_) => {
+                drop(first);
+                (None, Err(Fault::NoMemory))
+            }
+        };
+    };
+    match view_history(alloc, keys, &mut source, table, first) {
+        Ok(found) => match found.verdict {
+            Verdict::Lawful => (Some(source), Ok((found.engine, found.view))),
+            Verdict::Departs(place) => {
+                // The process ends soon, and the system takes the memory back at once.
+                forget(found);
+                (Some(source), Err(departure(place)))
+            }
+        },
+        Err(fault) => (Some(source), Err(Fault::from(fault))),
+    }
+}
+
+/// A source of what a reader gives, if there is one.
+pub(crate) fn source_of<H: Read + Drop, M: Ledger>(
+    reader: Option<H>,
+    blank: Blank,
+) -> Option<FromReader<H, M>>
+    requires name { blank.name ≡ M.name }
+    requires parts { blank.parts ≡ M.parts }
+    requires three { 3 ≤ blank.parts }
+    ensures { option_map ⟦<FromReader<H, M> as Source>⟧.state result ≡ option_map (λ r. new_source (H.remaining r)) reader }
+{
+    match reader {
+        Some(reader) => Some(FromReader::new(reader, blank)),
+        None => None,
+    }
+}
+
+/// The file of the history to begin with, if one is given.
+pub(crate) fn history_given<'a>(
+    rt: &HostRuntime,
+    from: Option<&'a str>,
+    reasons: Reasons,
+) -> Result<Option<HistoryFile<'a>>, Fault>
+    ensures { IfOk result (λ file. is_some file ≡ is_some from.entry) }
+{
+    match from {
+        Some(path) => Ok(Some(opened(rt, path, reasons)?)),
+        None => Ok(None),
+    }
+}
+
+/// Tells why the history to begin with departs, where that is its fault, and gives the fault back.
+pub(crate) fn begin_fault(
+    rt: &HostRuntime,
+    from: Option<&str>,
+    reasons: Reasons,
+    table: &Arc<NumericTable>,
+    fault: Fault,
+) -> Fault
+    ensures { result ≡ fault }
+{
+    match from {
+        Some(path) => explained(rt, path, reasons, table, fault),
+        None => fault,
+    }
+}

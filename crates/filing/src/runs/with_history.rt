@@ -1,0 +1,188 @@
+//! Scripts whose history goes to a file.
+
+ghost use Rattle.std.specs.Prelude.{◌≡◌, ◌≤◌, ◌<◌, [], false, option_map, OnOk};
+ghost use Rattle.std.specs.Arc.{arc_value};
+ghost use Rattle.line_io.specs.Devices.{new_source};
+ghost use Rattle.filing_core.specs.Engines.{IsEngineOf};
+ghost use Rattle.script_runs.specs.Recorded.{HasLines};
+ghost use Rattle.filing.specs.Mistakes.{NotesMistakes};
+ghost use Rattle.filing.specs.Runs.{Over, RunsFrom};
+
+use crate::fault::Fault;
+use crate::files::errors::FileErrors;
+use crate::files::history::begin_history;
+use crate::files::named::{INPUT, Named, OUTPUT, Reasons};
+use crate::keys::drawn_keys;
+use crate::progress::{Watched, input_length};
+use crate::reasons::explainer::Explainer;
+use crate::runs::beginning::{begin_fault, begin_from, history_given, source_of};
+use filing_args::RunWords;
+use filing_cli::{
+    EntryFile, FromReader, RecordedRun, Sink, Source, ToWriter, record_script_observed,
+};
+use filing_core::{Engine, HashKeys};
+use journal::Device;
+use journal_file::JournalFile;
+use oim_fact::NumericTable;
+use std::alloc::Global;
+use std::io::{Read, Write};
+use std::marker::Brand;
+use std::mem::forget;
+use std::sync::Arc;
+use std::sync::ledger::{Blank, Ledger};
+
+/// Runs a script from a source, writes its replies to a sink, and has lines and replies explained. It goes on from the history that another source gives, or from none.
+/// The lines of all entries are written to a file. That source and the explainer are given back.
+fn record_script<D: Device + Drop, H: Source + Drop, R: Source, W: Sink>(
+    alloc: Global,
+    keys: HashKeys,
+    from: Option<H>,
+    entries: EntryFile<D>,
+    explainer: Explainer,
+    source: &mut R,
+    sink: &mut W,
+    table: &Arc<NumericTable>,
+) -> (Option<H>, Explainer, Result<(Engine, EntryFile<D>), Fault>)
+    requires { HasLines D.seen entries [] }
+    ensures ran { RunsFrom H.state R.state (arc_value table.now) (λ t h. IsEngineOf h t.0 × HasLines D.seen t.1 h)
+        from result.0 result.2 source.old source.new (W.state sink.old) (W.state sink.new) }
+    ensures noted { OnOk result.2 (NotesMistakes (W.state sink.old).written (W.state sink.new).written explainer result.1) }
+{
+    let (from, found) = begin_from(alloc, keys, from, table, entries);
+    let (engine, entries) = match found {
+        Ok(found) => found,
+        Err(fault) => return (from, explainer, Err(fault)),
+    };
+    let (run, explainer) = record_script_observed(
+        alloc, engine, entries, explainer, source, sink, table,
+    );
+    let RecordedRun {
+        ended,
+        engine,
+        entries,
+    } = run;
+    match ended {
+        Ok(()) => (from, explainer, Ok((engine, entries))),
+        Err(fault) => {
+            forget(engine);
+            drop(entries);
+            (from, explainer, Err(Fault::from(fault)))
+        }
+    }
+}
+
+/// Runs a script as `record_script` does, from a reader to a writer. Both are given back.
+fn record_between<
+    D: Device + Drop,
+    H: Read + Drop,
+    R: Read + Drop,
+    W: Write + Drop,
+    M: Ledger,
+    L: Ledger,
+    K: Ledger,
+>(
+    alloc: Global,
+    keys: HashKeys,
+    from: Option<H>,
+    entries: EntryFile<D>,
+    explainer: Explainer,
+    reader: R,
+    writer: W,
+    table: &Arc<NumericTable>,
+    from_blank: Blank,
+    source_blank: Blank,
+    sink_blank: Blank,
+) -> (R, W, Explainer, Result<(Engine, EntryFile<D>), Fault>)
+    requires empty { HasLines D.seen entries [] }
+    requires from_name { from_blank.name ≡ M.name }
+    requires from_parts { from_blank.parts ≡ M.parts }
+    requires from_three { 3 ≤ from_blank.parts }
+    requires source_name { source_blank.name ≡ L.name }
+    requires source_parts { source_blank.parts ≡ L.parts }
+    requires source_three { 3 ≤ source_blank.parts }
+    requires sink_name { sink_blank.name ≡ K.name }
+    requires sink_parts { sink_blank.parts ≡ K.parts }
+    requires sink_some { 0 < sink_blank.parts }
+    ensures ran { (first : _) × ((first' : _)
+        × ((option_map ⟦<FromReader<H, M> as Source>⟧.state first ≡ option_map (λ r. new_source (H.remaining r)) from)
+        × Over ⟦<FromReader<R, L> as Source>⟧.state ⟦<ToWriter<W, K> as Sink>⟧.state
+        (R.remaining reader) (R.remaining result.0) (W.contents writer) (W.contents result.1)
+        (RunsFrom ⟦<FromReader<H, M> as Source>⟧.state ⟦<FromReader<R, L> as Source>⟧.state (arc_value table.now)
+        (λ t h. IsEngineOf h t.0 × HasLines D.seen t.1 h) first first' result.3))) }
+    ensures noted { OnOk result.3 (NotesMistakes (W.contents writer) (W.contents result.1) explainer result.2) }
+{
+    let from: Option<FromReader<H, M>> = source_of(from, from_blank);
+    let mut source: FromReader<R, L> = FromReader::new(reader, source_blank);
+    let mut sink: ToWriter<W, K> = ToWriter::new(writer, sink_blank);
+    let (_, explainer, ended) = record_script(
+        alloc,
+        keys,
+        from,
+        entries,
+        explainer,
+        &mut source,
+        &mut sink,
+        table,
+    );
+    (source.into_inner(), sink.into_inner(), explainer, ended)
+}
+
+/// Runs the script on standard input, and gives the file with the whole history, and the status. That a write to it failed is a fault at the end.
+fn history_of_input(
+    rt: &HostRuntime,
+    table: &Arc<NumericTable>,
+    given: &RunWords<'_>,
+    reasons: Reasons,
+    device: JournalFile<FileErrors>,
+) -> Result<(JournalFile<FileErrors>, u8), Fault>
+    requires empty { ⟦<JournalFile<FileErrors> as Device>⟧.seen device ≡ [] }
+    requires works { ⟦<JournalFile<FileErrors> as Device>⟧.has_failed device ≡ false }
+{
+    let keys = drawn_keys(rt, reasons)?;
+    let explainer = Explainer::new(rt, table, reasons.are_told())?;
+    let from = history_given(rt, given.from, reasons)?;
+    let (_, _, explainer, ended) = record_between::<_, _, _, _, Brand, Brand, Brand>(
+        rt.alloc(),
+        keys,
+        from,
+        EntryFile::new(rt.alloc(), device),
+        explainer,
+        Watched::new(rt, Named::new(rt.stdin(), INPUT, reasons), input_length(rt)),
+        Named::new(rt.stdout(), OUTPUT, reasons),
+        table,
+        Blank::new(3),
+        Blank::new(3),
+        Blank::new(1),
+    );
+    let (engine, entries) = match ended {
+        Ok(ran) => ran,
+        Err(fault) => return Err(begin_fault(rt, given.from, reasons, table, fault)),
+    };
+    forget(engine);
+    explainer.tell_end();
+    match entries.into_device() {
+        Some(device) => Ok((device, explainer.status(given.strict))),
+        None => Err(Fault::Write),
+    }
+}
+
+/// Runs the script on standard input, from a history or from nothing, and puts the whole history to where a path leads once it has ended.
+pub(crate) fn run_recorded(
+    rt: &HostRuntime,
+    table: &Arc<NumericTable>,
+    given: &RunWords<'_>,
+    path: &str,
+    reasons: Reasons,
+) -> Result<u8, Fault> {
+    let (draft, device) = begin_history(rt, path, reasons)?;
+    match history_of_input(rt, table, given, reasons, device) {
+        Ok((device, status)) => {
+            draft.keep(rt, device.into_file())?;
+            Ok(status)
+        }
+        Err(fault) => {
+            draft.give_up(rt);
+            Err(fault)
+        }
+    }
+}

@@ -1,8 +1,0 @@
--- What a proof unfolds to compute what the program makes of words that are written out.
-use Rattle.std.specs.Prelude.{⊤}
-use Rattle.clap.proofs.OnLiterals.{clap_on_literals}
-use Rattle.filing_words.specs.Words.{check, diff, inspect, load, log, program, run, show, threads, words}
-
-unfoldable pub filing_words_on_literals : ⊤
-unfolding clap_on_literals program run load check show diff log inspect threads words
-filing_words_on_literals = tt
