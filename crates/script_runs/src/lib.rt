@@ -50,6 +50,7 @@ pub use reading::entry_of;
 pub use recorded::{RecordedRun, record_script_observed};
 pub use reopened::{
     KeptEntries, OpenHistoryFault, engine_of_history, entries_of_history, journals_are_read_back,
+    runs_are_read_back,
 };
 pub use script::{READS, resume_script_observed, run_script, run_script_within};
 pub use serial_laws::each_script_is_serial;
