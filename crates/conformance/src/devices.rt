@@ -1,7 +1,5 @@
 //! Works over devices of memory, of which one call may go wrong: scripts are run, histories written and judged, and verdicts written.
 
-ghost use Rattle.std.specs.Prelude.{◌≡◌, ◌≤◌, ◌<◌};
-
 use crate::journals::{Keeping, keep_script};
 use anyhow::{Result, anyhow};
 use filing_core::{Core, Verdict};
@@ -12,9 +10,7 @@ use script_runs::{
     READS, judge_history, run_script, run_script_within, write_history, write_verdict,
 };
 use std::alloc::{AllocError, Global};
-use std::marker::Brand;
 use std::sync::Arc;
-use std::sync::ledger::{Blank, Ledger};
 
 // The bytes that a sink holds before it grows.
 const ROOM: usize = 65536;
@@ -107,32 +103,22 @@ fn run_trial<R: Source, W: Sink>(
     }
 }
 
-fn do_work_by<L: Ledger, K: Ledger>(
+/// Does a work, of which one call may go wrong.
+pub(crate) fn do_work(
     alloc: Global,
     table: &Arc<NumericTable>,
     work: Work<'_>,
     trial: Trial,
-    source_blank: Blank,
-    sink_blank: Blank,
-) -> Result<Done, AllocError>
-    requires source_name { source_blank.name ≡ L.name }
-    requires source_parts { source_blank.parts ≡ L.parts }
-    requires source_three { 3 ≤ source_blank.parts }
-    requires sink_name { sink_blank.name ≡ K.name }
-    requires sink_parts { sink_blank.parts ≡ K.parts }
-    requires sink_some { 0 < sink_blank.parts }
-{
+) -> Result<Done, AllocError> {
     let piece = trial.piece.max(1);
     let read = match work {
         Work::Script(bytes) | Work::Journal(bytes, _) | Work::Judging(bytes) => bytes,
         Work::History(_) | Work::Verdict(_) => b"",
     };
-    let sink: MemoryOut<K> = MemoryOut::new(alloc, ROOM, piece, sink_blank)?;
-    let mut sink = sink
+    let mut sink = MemoryOut::new(alloc, ROOM, piece)?
         .failing_at(trial.failing_write)
         .idle_at(trial.idle_write);
-    let source: MemoryIn<'_, L> = MemoryIn::new(read, piece, source_blank);
-    let mut source = source.failing_at(trial.failing_read);
+    let mut source = MemoryIn::new(read, piece).failing_at(trial.failing_read);
     let ended = match work {
         Work::Script(_) => {
             match run_trial(alloc, &mut source, &mut sink, table, trial.reads) {
@@ -155,19 +141,9 @@ fn do_work_by<L: Ledger, K: Ledger>(
         },
     };
     drop(source);
-    let written = Vec::from_slice(alloc, sink.written());
+    let written = Vec::from_slice(alloc, sink.contents());
     drop(sink);
     ended_with(ended, written)
-}
-
-/// Does a work, of which one call may go wrong.
-pub(crate) fn do_work(
-    alloc: Global,
-    table: &Arc<NumericTable>,
-    work: Work<'_>,
-    trial: Trial,
-) -> Result<Done, AllocError> {
-    do_work_by::<Brand, Brand>(alloc, table, work, trial, Blank::new(3), Blank::new(1))
 }
 
 /// What is written where a work ends so: the lines of a history, or the line of a verdict with the status after it, or the replies to a script.

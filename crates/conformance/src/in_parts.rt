@@ -34,10 +34,10 @@ pub(crate) fn asked(
             let PartialEntry {
                 session,
                 step,
-                told,
+                reply,
                 text,
             } = entry;
-            drop(told);
+            drop(reply);
             drop(text);
             Ok(Some((session, step)))
         }

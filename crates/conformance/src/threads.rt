@@ -1,15 +1,14 @@
 //! The stored scripts, each run in a thread.
 
-ghost use Rattle.std.specs.Prelude.{◌≡◌, ◌≤◌, ◌<◌, length};
+ghost use Rattle.std.specs.Prelude.{◌≤◌, ◌<◌, length};
 
 use crate::lines::{ends_in, is_end, read_data, read_numeric, read_text};
 use anyhow::Result;
 use filing_threads::run_threads;
 use line_io::MemoryOut;
 use oim_fact::NumericTable;
-use std::marker::{Brand, Sync};
+use std::marker::Sync;
 use std::rt::Files;
-use std::sync::ledger::{Blank, Ledger};
 use std::sync::{Arc, Wait};
 use std::thread::Threads;
 
@@ -20,21 +19,17 @@ const ROOM: usize = 65536;
 const PIECE: usize = 4096;
 
 /// What is written for scripts that run at once.
-fn written_in_threads<K: Ledger, R: AllocGlobal + Threads + Wait + Sync>(
+fn written_in_threads<R: AllocGlobal + Threads + Wait + Sync>(
     rt: &R,
     table: &Arc<NumericTable>,
     scripts: &[Vec<u8>],
-    blank: Blank,
 ) -> Result<Vec<u8>>
     requires some { 0 < length scripts.now }
     requires few { length scripts.now ≤ 16 }
-    requires sink_name { blank.name ≡ K.name }
-    requires sink_parts { blank.parts ≡ K.parts }
-    requires sink_some { 0 < blank.parts }
 {
-    let mut sink: MemoryOut<K> = MemoryOut::new(rt.alloc(), ROOM, PIECE, blank)?;
+    let mut sink = MemoryOut::new(rt.alloc(), ROOM, PIECE)?;
     run_threads(rt, rt.alloc(), scripts, &mut sink, table)?;
-    Ok(Vec::from_slice(rt.alloc(), sink.written())?)
+    Ok(Vec::from_slice(rt.alloc(), sink.contents())?)
 }
 
 /// The replies to a script in a thread.
@@ -44,7 +39,7 @@ fn replies_in_thread<R: AllocGlobal + Threads + Wait + Sync>(
     script: Vec<u8>,
 ) -> Result<Vec<u8>> {
     let scripts = [script];
-    written_in_threads::<Brand, R>(rt, table, &scripts, Blank::new(1))
+    written_in_threads(rt, table, &scripts)
 }
 
 /// How many lines are the same at their places.

@@ -6,7 +6,7 @@ ghost use Rattle.filing_model.specs.Sessions.Repository.{nothing, with_report};
 ghost use Rattle.filing_model.specs.Sessions.Sessions.{solo_replies};
 ghost use Rattle.filing_model.specs.declared.kind.Kind.TheVariants.{Amend};
 ghost use Rattle.filing_step.specs.Steps.{call_of, reply_of};
-ghost use Rattle.filing_version.specs.Filed.{repository_in};
+ghost use Rattle.filing_version.specs.StampedReports.{repository_in};
 ghost use Rattle.filing_session.specs.States.{replies_to};
 
 use filing_session::{Call, Kind, Reply, Session};

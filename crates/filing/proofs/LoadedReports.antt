@@ -1,5 +1,6 @@
 -- The script that loads reports is read to its end, and its lines mean these loads.
-use Rattle.std.proofs.Common.{◌≡◌, ◌∙◌, ◌++◌, refl, sym, ap, subst, append-nil, arith, cond, false, List, ℕ, Option, Some, None, Result, Ok, Err, OnOk, IsUtf8, option_and_then}
+use Rattle.std.proofs.Common.{◌≡◌, ◌∙◌, ◌++◌, refl, sym, ap, subst, append-nil, arith, cond, false, List, ℕ}
+use Rattle.std.proofs.Common.{Option, Some, None, Result, Ok, Err, OnOk, IsUtf8, option_and_then}
 use Rattle.std.specs.Prelude.{codes}
 use Rattle.std.specs.Io.KnownBytes.{Consumes, IsAtEnd}
 use Rattle.std.proofs.lemmas.Str.{IsUtf8-append}
@@ -21,7 +22,7 @@ use Rattle.script_format.specs.ScriptLines.{Load, line_of}
 use Rattle.filing_core.specs.Engines.{EngineState}
 use Rattle.script_runs.specs.Resumed.{history_on, output_on}
 use Rattle.script_runs.specs.JournaledRun.{IsKeptWhole, JournalsScript, TookFront}
-use Rattle.script_runs.specs.declared.journaled.JournaledRun.{JournaledRun}
+use Rattle.script_runs.specs.declared.run.with_journal.JournaledRun.{JournaledRun}
 use Rattle.filing.specs.Loads.{AreLoaded, LoadsAndKeeps, MeansLoad, load_line, load_script}
 use Rattle.filing.specs.Runs.{Over}
 use Rattle.filing.specs.declared.commands.load.NamedText.{NamedText}
@@ -67,11 +68,13 @@ all_given : (script : List ℕ) (rest : Option (List ℕ)) (given : List ℕ) �
 all_given script None given gave at_end = absurd gave
 all_given script (Some left) given gave at_end = sym (gave ∙ ap (λ l. given ++ l) at_end ∙ append-nil given)
 
-reports_written : {D S : Type 0} (seen : D → List ℕ) (state : S → SourceState) (table : Table) (h : History) (reports : List NamedText) (engine : EngineState) (device : D)
-    (source source' : S) (sink sink' : SinkState) (written : Option (List ℕ)) → state source ≡ new_source (Some (load_script reports)) → sink ≡ new_sink written
+reports_written : {D S : Type 0} (seen : D → List ℕ) (state : S → SourceState) (table : Table) (h : History) (reports : List NamedText)
+    (engine : EngineState) (device : D) (source source' : S) (sink sink' : SinkState) (written : Option (List ℕ))
+    → state source ≡ new_source (Some (load_script reports)) → sink ≡ new_sink written
     → IsKeptWhole seen state table h engine device source source' sink sink' → AreLoaded seen table h reports engine device (new_sink written) sink'
 reports_written seen state table h reports engine device source source' sink sink' written begins begun whole =
-    let all : whole.given ≡ load_script reports = all_given _ _ _ (subst (λ (s : SourceState). Consumes s.rest (state source').rest whole.given) begins whole.gave.bytes) whole.at_end in record {
+    let gave = subst (λ (s : SourceState). Consumes s.rest (state source').rest whole.given) begins whole.gave.bytes in
+    let all : whole.given ≡ load_script reports = all_given _ _ _ gave whole.at_end in record {
       after = history_on table h (lines_of whole.given);
       after_is = ap (λ g. history_on table h (lines_of g)) all;
       took =
@@ -85,8 +88,9 @@ on_ok_map : {T E P Q : Type 0} (r : Result T E) → (P → Q) → OnOk r P → O
 on_ok_map (Ok x) f p = f p
 on_ok_map (Err e) f p = tt
 
-pub reports_loaded : {D S T : Type 0} (seen : D → List ℕ) (may_leave : D → List ℕ → Type 0) (moment : D → ℕ) (left_since : D → ℕ → List ℕ → Type 0)
-    (state : S → SourceState) (sink_state : T → SinkState) (table : Table) (h : History) (reports : List NamedText) (script : List ℕ) (rest written written' : Option (List ℕ))
+pub reports_loaded : {D S T : Type 0} (seen : D → List ℕ) (may_leave : D → List ℕ → Type 0) (moment : D → ℕ)
+    (left_since : D → ℕ → List ℕ → Type 0) (state : S → SourceState) (sink_state : T → SinkState) (table : Table) (h : History)
+    (reports : List NamedText) (script : List ℕ) (rest written written' : Option (List ℕ))
     (before : D) (run : JournaledRun D) → script ≡ load_script reports
     → Over state sink_state (Some script) rest written written' (JournalsScript seen may_leave moment left_since state table h false before run)
     → LoadsAndKeeps seen may_leave moment left_since table h reports before run written written'
@@ -110,6 +114,7 @@ reports_loaded seen may_leave moment left_since state sink_state table h reports
       };
       loaded =
           on_ok_map run.ended
-          (λ whole. reports_written seen state table h reports run.engine (device_of run.journal) kept.source kept.source' (sink_state kept.sink) (sink_state kept.sink') written begins kept.begun whole)
+          (λ whole. reports_written seen state table h reports run.engine (device_of run.journal) kept.source kept.source'
+          (sink_state kept.sink) (sink_state kept.sink') written begins kept.begun whole)
           kept.does.whole;
     }

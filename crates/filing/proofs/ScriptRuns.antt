@@ -27,7 +27,7 @@ over_writer state written written' done sink sink' begins ends does =
     record { sink = sink; sink' = sink'; begins = begins; ends = ends; does = does }
 
 -- what is noted of the replies that a writer has
-pub noted_over : {T E : Type 0} (r : Result T E) (before after : Explainer) (first last written written' : Option (List ℕ)) → first ≡ written → written' ≡ last
-    → OnOk r (NotesMistakes first last before after) → OnOk r (NotesMistakes written written' before after)
+pub noted_over : {T E : Type 0} (r : Result T E) (before after : Explainer) (first last written written' : Option (List ℕ))
+    → first ≡ written → written' ≡ last → OnOk r (NotesMistakes first last before after) → OnOk r (NotesMistakes written written' before after)
 noted_over r before after first last written written' begins ends noted =
     subst (λ w. OnOk r (NotesMistakes written w before after)) (sym ends) (subst (λ w. OnOk r (NotesMistakes w last before after)) begins noted)

@@ -83,7 +83,8 @@ abbrev pub AddsTable : List ℕ → List ℕ → List ℕ → Result (Unit {0}) 
 AddsTable bytes before after (Ok x) = (after ≡ before ++ (bytes ++ (10 ∷ []))) × ((t : Table) × IsTableOf bytes (Ok t))
 AddsTable bytes before after (Err fault) = IsTableOf bytes (Err fault)
 
--- 1 after a read or write fault, 2 where the words, the number of scripts or the numeric table were wrong, 3 where memory ran out, 4 where a history or a journal departs
+-- 1 after a read or write fault, 2 where the words, the number of scripts or the numeric table were wrong,
+-- 3 where memory ran out, 4 where a history or a journal departs
 abbrev pub status_of : Fault → ℕ
 status_of Read = 1
 status_of Write = 1

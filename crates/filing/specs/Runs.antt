@@ -23,13 +23,16 @@ use Rattle.script_runs.specs.HistoryRun.{IsHistoryFollowed, IsHistoryJudged, IsH
 use Rattle.script_runs.specs.Reopened.{AreLinesOf, DepartsAt}
 use Rattle.script_runs.specs.Resumed.{GoesOn, IsStoppedOn}
 use Rattle.script_runs.specs.ScriptRun.{most_reads}
-use Rattle.script_runs.specs.declared.reopened.OpenHistoryFault.{OpenHistoryFault}
-use Rattle.script_runs.specs.declared.reopened.OpenHistoryFault.TheVariants as opening
+use Rattle.script_runs.specs.declared.history.reopen.OpenHistoryFault.{OpenHistoryFault}
+use Rattle.script_runs.specs.declared.history.reopen.OpenHistoryFault.TheVariants as opening
 use Rattle.filing_threads.specs.FoundHistories.{RunsAndWritesOn, ThreadsWriteOn}
 use Rattle.filing_threads.specs.declared.fault.ThreadsFault.{ThreadsFault}
+use Rattle.history_views.specs.Log.{sessions_of}
 use Rattle.history_views.specs.Versions.{version_asked}
 use Rattle.history_views.specs.declared.shown.Shown.{Shown}
 use Rattle.history_views.specs.declared.shown.Shown.TheVariants.{Written, NoReport, NoVersion}
+use Rattle.session_pictures.specs.Picture.{Shows, picture_in, text_in}
+use Rattle.session_pictures.specs.declared.drawing.Drawing.{Drawing}
 use Rattle.filing.specs.Faults.{fault_of, threads_fault_of}
 use Rattle.filing.specs.declared.fault.Fault.{Fault}
 use Rattle.filing.specs.declared.fault.Fault.TheVariants.{HistoryLine, JournalLine, NoMemory, Write}
@@ -37,8 +40,8 @@ use Rattle.filing.specs.declared.fault.Fault.TheVariants.{HistoryLine, JournalLi
 -- ---- readers and writers
 
 -- a source was made of a reader, and a sink of a writer: this was done between them, so much is left of the one, and the other has this
-pub record Over {S T : Type 0} (source_state : S → SourceState) (sink_state : T → SinkState) (rest rest' written written' : Option (List ℕ))
-    (done : S → S → SinkState → SinkState → Type 0) : Type 0 where
+pub record Over {S T : Type 0} (source_state : S → SourceState) (sink_state : T → SinkState)
+    (rest rest' written written' : Option (List ℕ)) (done : S → S → SinkState → SinkState → Type 0) : Type 0 where
   pub source : S
   pub source' : S
   pub sink : T
@@ -50,7 +53,8 @@ pub record Over {S T : Type 0} (source_state : S → SourceState) (sink_state : 
   pub does : done source source' (sink_state sink) (sink_state sink')
 
 -- so of a writer alone: this was done to a sink that was made of it, and it has this then
-pub record OverWriter {T : Type 0} (state : T → SinkState) (written written' : Option (List ℕ)) (done : SinkState → SinkState → Type 0) : Type 0 where
+pub record OverWriter {T : Type 0} (state : T → SinkState) (written written' : Option (List ℕ))
+    (done : SinkState → SinkState → Type 0) : Type 0 where
   pub sink : T
   pub sink' : T
   pub begins : state sink ≡ new_sink written
@@ -63,7 +67,8 @@ module _ {S : Type 0} (state : S → SourceState) (table : Table) where
   -- the source was read to its end, and its lines depart at the one of this number, from 1
   abbrev pub DepartsAtLine : S → S → Fault → Type 0
   DepartsAtLine source source' fault =
-      (place : ℕ) × ((fault ≡ HistoryLine (place + 1)) × IsHistoryJudged table (state source) (state source') (Departs place))
+      (place : ℕ) × ((fault ≡ HistoryLine (place + 1))
+      × IsHistoryJudged table (state source) (state source') (Departs place))
 
   -- no history was read: the lines depart, or the run over them ended early for a cause
   abbrev pub IsNotRead : S → S → Fault → Type 0
@@ -99,8 +104,10 @@ module _ {S : Type 0} (state : S → SourceState) (table : Table) where
 -- ---- scripts
 
 module _ {H S : Type 0} (history : H → SourceState) (state : S → SourceState) (table : Table) where
-  -- a script went on from the history that the one source gave to its end, and what took its steps is left; or there was no such history, and nothing else was done; or the script ended early for a cause
-  abbrev pub RunsFrom : {T : Type 0} → (T → History → Type 0) → Option H → Option H → Result T Fault → S → S → SinkState → SinkState → Type 0
+  -- a script went on from the history that the one source gave to its end, and what took its steps is left;
+  -- or there was no such history, and nothing else was done; or the script ended early for a cause
+  abbrev pub RunsFrom : {T : Type 0} → (T → History → Type 0) → Option H → Option H → Result T Fault → S → S
+      → SinkState → SinkState → Type 0
   RunsFrom has_taken from from' (Ok taker) source source' sink sink' =
       (h : History) × (BeginsWith history table from from' h
       × GoesOn state most_reads table h has_taken taker (Ok tt) source source' sink sink')
@@ -113,11 +120,13 @@ module _ {H : Type 0} (history : H → SourceState) (J : Type 0) (table : Table)
   -- so of scripts in threads, and of the core that has the whole history
   abbrev pub ThreadsFrom : Option H → Option H → Result CoreState Fault → SinkState → SinkState → Type 0
   ThreadsFrom from from' (Ok core) sink sink' =
-      (h : History) × (BeginsWith history table from from' h × RunsAndWritesOn J table scripts h core.history (Ok tt) sink sink')
+      (h : History) × (BeginsWith history table from from' h
+      × RunsAndWritesOn J table scripts h core.history (Ok tt) sink sink')
   ThreadsFrom from from' (Err fault) sink sink' =
       (IsNotBegun history table from from' fault × (sink' ≡ sink))
-      ⊎ ((h : History) × (BeginsWith history table from from' h × ((cause : ThreadsFault) × ((fault ≡ threads_fault_of cause)
-      × ((whole : Option History) × ThreadsWriteOn J table scripts h whole (Err cause) sink sink')))))
+      ⊎ ((h : History) × (BeginsWith history table from from' h
+      × ((cause : ThreadsFault) × ((fault ≡ threads_fault_of cause) × ((whole : Option History)
+      × ThreadsWriteOn J table scripts h whole (Err cause) sink sink')))))
 
 -- ---- journals
 
@@ -152,7 +161,8 @@ module _ {D : Type 0} (seen : D → List ℕ) (may_leave : D → List ℕ → Ty
 
 -- ---- what is told of histories
 
--- the reader was read to its end, and the line of the verdict on its lines is what was written and nothing else, as far as the bytes of either are known; the status is that of the verdict
+-- the reader was read to its end, and the line of the verdict on its lines is what was written and nothing else,
+-- as far as the bytes of either are known; the status is that of the verdict
 pub record WritesVerdict (table : Table) (rest rest' written written' : Option (List ℕ)) (status : ℕ) : Type 0 where
   pub given : List ℕ
   pub gave : Consumes rest rest' given
@@ -162,7 +172,8 @@ pub record WritesVerdict (table : Table) (rest rest' written written' : Option (
   pub took : Appends written written' (verdict_text verdict)
   pub status_is : status ≡ verdict_status verdict
 
--- of the text that a version may have, where there is that version: it is written and nothing else, as far as the bytes are known; or there is none, or no such version, and nothing is written
+-- of the text that a version may have, where there is that version: it is written and nothing else,
+-- as far as the bytes are known; or there is none, or no such version, and nothing is written
 abbrev pub IsShown : Option (Option Text) → Option (List ℕ) → Option (List ℕ) → Shown → Type 0
 IsShown found written written' Written = (text : Text) × ((found ≡ Some (Some text)) × Appends written written' text)
 IsShown found written written' NoReport = (found ≡ Some None) × (written' ≡ written)
@@ -188,3 +199,14 @@ abbrev pub AreShown : Table → (History → Text) → Option (List ℕ) → Opt
     → Option (List ℕ) → Option (List ℕ) → Type 0
 AreShown table text_of rest rest' written written' =
     ShowsFound table (λ h. Some (Some (text_of h))) rest rest' written written' Written
+
+-- the reader was read to its end, its lines are a lawful history, and a drawing of at most 200 of its sessions,
+-- from the one of this number on, is written
+pub record ShowsPicture (table : Table) (first : ℕ) (rest rest' written written' : Option (List ℕ)) : Type 0 where
+  pub given : List ℕ
+  pub gave : Consumes rest rest' given
+  pub at_end : IsAtEnd rest'
+  pub lawful : AreLawful table (spoken (lines_of given))
+  pub drawing : Drawing
+  pub shows : Shows first (sessions_of (reverse (entries_on table (spoken (lines_of given))))) (picture_in drawing)
+  pub took : Appends written written' (text_in drawing)

@@ -20,7 +20,7 @@ const BETWEEN: u64 = 10;
 const LONG: u64 = 16 << 20;
 
 /// The share of what is done in all of it, in %.
-fn share(done: u64, whole: u64) -> u128 {
+fn percent_of(done: u64, whole: u64) -> u128 {
     if whole == 0 {
         return 100;
     }
@@ -86,7 +86,7 @@ impl Progress {
         };
         let _ = match whole {
             Some(whole) => {
-                let share = share(done, whole);
+                let share = percent_of(done, whole);
                 eprintln!(&self.rt; "filing: {done} {what}, {share} %, {seconds} s")
             }
             None => eprintln!(&self.rt; "filing: {done} {what}, {seconds} s"),

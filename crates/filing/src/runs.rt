@@ -1,6 +1,7 @@
 //! Runs of scripts: alone, with a history, with a journal, in threads.
 //!
 //! - `beginning`: histories to begin with.
+//! - `between`: what runs and commands give back.
 //! - `opening`: journals that are opened.
 //! - `plain`: scripts that begin with an empty repository, or go on from a history.
 //! - `threads`: scripts in threads.
@@ -8,6 +9,7 @@
 //! - `with_journal`: scripts that keep a journal.
 
 pub(crate) mod beginning;
+pub(crate) mod between;
 pub(crate) mod opening;
 pub(crate) mod plain;
 pub(crate) mod threads;

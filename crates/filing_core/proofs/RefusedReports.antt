@@ -40,7 +40,8 @@ accepted c name r none least =
 
 -- how a report is refused whose least disallowed cell, if any, is this
 abbrev told : Text → Report → Option Dims → Reply
-told name r least = option_map_or (λ dims. reply.Disallowed name (class_of (cell_facts dims r.facts)) (cell_ids dims r.facts)) least (reply.Disallowed name Empty [])
+told name r least = option_map_or (λ dims. reply.Disallowed name (class_of (cell_facts dims r.facts)) (cell_ids dims r.facts)) least
+    (reply.Disallowed name Empty [])
 
 -- one is
 pub refused : (c next : Repository) (name : Text) (r : Report) (dims : Dims) → report_at c name ≡ None → report_at next name ≡ Some r
@@ -49,7 +50,8 @@ refused c next name r dims none there least =
     free c name r none ∙ by (report_obeys r) refl ∙ ap (told name r) least
     ∙ sym (ap (λ o. option_map_or (λ (r : Report). reply.Disallowed name (class_of (cell_facts dims r.facts)) (cell_ids dims r.facts)) o reply.NoReport) there)
   where
-    by : (b : Bool) → report_obeys r ≡ b → cond b (reply.Loaded (c.count + 1)) (disallowed_cell name r) ≡ told name r (least_disallowed r.allowed r.facts.entries)
+    by : (b : Bool) → report_obeys r ≡ b
+        → cond b (reply.Loaded (c.count + 1)) (disallowed_cell name r) ≡ told name r (least_disallowed r.allowed r.facts.entries)
     by true obeys =
         let apart : None ≡ Some dims = sym ((obeys_where_no_cell_is_disallowed r.allowed r.facts.entries).0 obeys) ∙ least in
         absurd cc
@@ -59,6 +61,7 @@ refused c next name r dims none there least =
 pub refusal_at_is_quiet : (c : Repository) (d : Text × Dims) → counts (refusal_at c d) ≡ false
 refusal_at_is_quiet c d = by (report_at c d.0)
   where
-    by : (o : Option Report) → counts (option_map_or (λ (r : Report). reply.Disallowed d.0 (class_of (cell_facts d.1 r.facts)) (cell_ids d.1 r.facts)) o reply.NoReport) ≡ false
+    by : (o : Option Report)
+        → counts (option_map_or (λ (r : Report). reply.Disallowed d.0 (class_of (cell_facts d.1 r.facts)) (cell_ids d.1 r.facts)) o reply.NoReport) ≡ false
     by None = refl
     by (Some r) = refl

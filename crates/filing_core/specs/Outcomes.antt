@@ -10,7 +10,7 @@ use Rattle.filing_model.specs.Histories.Stamps.{Version, next_number}
 use Rattle.filing_model.specs.declared.kind.Kind.{Kind}
 use Rattle.filing_model.specs.declared.kind.Kind.TheVariants.{Review, Amend}
 use Rattle.filing_laws.specs.Stamping.StampedVersions.{first_stamped}
-use Rattle.filing_version.specs.Filed.{StampedReports, version_in}
+use Rattle.filing_version.specs.StampedReports.{StampedReports, version_in}
 use Rattle.filing_session.specs.States.{SessionState}
 
 -- a reply, and the version that it leaves, where it leaves another

@@ -3,7 +3,7 @@
 ghost use Rattle.std.specs.Prelude.{◌≡◌, max, option_map};
 ghost use Rattle.filing_model.specs.Sessions.Things as thing;
 ghost use Rattle.filing_step.specs.Steps.{thing_of};
-ghost use Rattle.filing_version.specs.Filed.{version_in};
+ghost use Rattle.filing_version.specs.StampedReports.{version_in};
 ghost use Rattle.filing_laws.specs.Stamping.StampedVersions.{first_stamped};
 
 use filing_session::{Session, period_of};

@@ -3,7 +3,7 @@
 ghost use Rattle.std.specs.Prelude.{◌≡◌, IfOk};
 ghost use Rattle.filing_step.specs.Steps.{reply_of};
 ghost use Rattle.filing_laws.specs.Updating.NetChange.{refusal_at};
-ghost use Rattle.filing_version.specs.Filed.{repository_in};
+ghost use Rattle.filing_version.specs.StampedReports.{repository_in};
 
 use filing_session::texts_of;
 use filing_step::Reply;
@@ -12,7 +12,7 @@ use oim_fact::DimSet;
 use std::alloc::{AllocError, Global};
 
 /// The reply that reports a cell of a version: its report, its class, and its identifiers in byte order.
-pub(crate) fn disallowed(
+pub(crate) fn disallowed_reply(
     alloc: Global,
     version: &RepoVersion,
     name: &str,

@@ -3,7 +3,7 @@
 //!
 //! - `engine`: what takes a step and keeps none.
 //! - `engine_fault`: why an engine did not take a step.
-//! - `kept_core`: the core, an engine with its history.
+//! - `core_with_history`: the core, an engine with its history.
 //! - `fault`: why a step was not taken.
 //! - `prepared`: a load or a commit that is ready to be entered.
 //! - `sessions`: the open sessions by their numbers.
@@ -23,22 +23,22 @@
 mod check;
 mod compared_replies;
 mod conflict;
+mod core_with_history;
 mod disallowed;
 mod engine;
 mod engine_fault;
 mod fault;
-mod kept_core;
 mod outcome;
 mod prepared;
 mod sessions;
 mod verdict;
 
 pub use check::check_run;
+pub use core_with_history::Core;
 pub use engine::Engine;
 pub use engine_fault::EngineFault;
 pub use fault::CoreFault;
 pub use filing_session::HashKeys;
 pub use filing_step::{Entry, Kind, Reply, Step};
-pub use kept_core::Core;
 pub use prepared::Prepared;
 pub use verdict::Verdict;

@@ -1,29 +1,30 @@
 //! `Outcome`: the reply to a load or a commit, and the version that it makes.
 
-ghost use Rattle.std.specs.Prelude.{◌≡◌, ◌+◌, ◌<◌, ◌^◌, None, true, IfOk};
+ghost use Rattle.std.specs.Prelude.{◌≡◌, ◌+◌, ◌<◌, ◌^◌, None, Some, true, IfOk};
 ghost use Rattle.filing_model.specs.Common.Text.{Text};
 ghost use Rattle.filing_model.specs.Common.TextMap.{get as value_at};
 ghost use Rattle.filing_model.specs.Sessions.Repository.{report_at};
 ghost use Rattle.filing_model.specs.Sessions.Sessions.{repository_obeys};
 ghost use Rattle.filing_step.specs.Steps.{reply_of};
-ghost use Rattle.filing_version.specs.Filed.{repository_in, version_in};
+ghost use Rattle.filing_version.specs.StampedReports.{repository_in, version_in};
 ghost use Rattle.filing_core.specs.Outcomes.{Makes, change_told, commit_told};
 ghost use Rattle.filing_model.specs.Histories.Lawful.{load_reply};
 ghost use Rattle.filing_model.specs.Histories.Stamps.{version_after, version_with};
 
 use crate::conflict::conflict;
-use crate::disallowed::disallowed;
+use crate::disallowed::disallowed_reply;
 use filing_session::Session;
 use filing_step::{Kind, Reply};
 use filing_version::{Change, IndexedReport, RepoVersion};
 use std::alloc::{AllocError, Global};
 use std::marker::Model;
+use std::sync::Arc;
 
-/// A reply, and the version that it leaves, where it leaves another.
+/// A reply, and the version that it leaves, where it leaves another. All memory for both is taken, and to drop it changes nothing.
 #[derive(Drop)]
 pub(crate) struct Outcome {
     pub(crate) reply: Reply,
-    pub(crate) next: Option<RepoVersion>,
+    pub(crate) next: Option<Arc<RepoVersion>>,
 }
 
 impl Model for Outcome {
@@ -31,9 +32,11 @@ impl Model for Outcome {
 
     ghost Value = { PlainOutcome };
 
+    ghost use Rattle.std.specs.Prelude.{option_map};
+    ghost use Rattle.std.specs.Arc.{arc_value};
     ghost use Rattle.filing_step.specs.Steps.{reply_of};
 
-    ghost view = { λ o. record { reply = reply_of o.reply; next = o.next } };
+    ghost view = { λ o. record { reply = reply_of o.reply; next = option_map arc_value o.next } };
 }
 
 /// A reply that leaves the version as it is.
@@ -41,6 +44,23 @@ fn reply_alone(reply: Reply) -> Outcome
     ensures { result ≡ record { reply = reply_of reply; next = None } }
 {
     Outcome { reply, next: None }
+}
+
+/// A reply that leaves this version.
+fn reply_with(alloc: Global, reply: Reply, next: RepoVersion) -> Result<Outcome, AllocError>
+    ensures { IfOk result (λ o. o ≡ record { reply = reply_of reply; next = Some next }) }
+{
+    match Arc::new(alloc, next) {
+        Ok(next) => Ok(Outcome {
+            reply,
+            next: Some(next),
+        }),
+        Err(fault) => {
+            drop(reply);
+            drop(fault);
+            Err(AllocError)
+        }
+    }
 }
 
 /// The outcome of a load. A name that is taken comes first. A version that it makes shares the report's facts.
@@ -59,12 +79,12 @@ pub(crate) fn load_outcome(
     }
     let next = current.with_indexed_report(alloc, String::from_str(alloc, name)?, report)?;
     match next.disallowed_in(name) {
-        None => Ok(Outcome {
-            reply: Reply::Loaded(next.number()),
-            next: Some(next),
-        }),
+        None => {
+            let reply = Reply::Loaded(next.number());
+            reply_with(alloc, reply, next)
+        }
         Some(dims) => {
-            let reply = disallowed(alloc, &next, name, dims);
+            let reply = disallowed_reply(alloc, &next, name, dims);
             drop(next);
             Ok(reply_alone(reply?))
         }
@@ -86,12 +106,12 @@ fn change_outcome(
 {
     let next = current.after(alloc, change)?;
     match next.first_disallowed(change) {
-        None => Ok(Outcome {
-            reply: Reply::Committed(next.number()),
-            next: Some(next),
-        }),
+        None => {
+            let reply = Reply::Committed(next.number());
+            reply_with(alloc, reply, next)
+        }
         Some((name, dims)) => {
-            let reply = disallowed(alloc, &next, name, dims);
+            let reply = disallowed_reply(alloc, &next, name, dims);
             drop(next);
             Ok(reply_alone(reply?))
         }

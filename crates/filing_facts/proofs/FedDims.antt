@@ -1,5 +1,6 @@
 -- A hasher that is fed one dimension more.
-use Rattle.std.proofs.Common.{◌≡◌, ◌∙◌, ap, sym, arith, ℕ, suc, ◌+◌, ◌<◌, List, [], ◌∷◌, ◌++◌, length, get_or, take, Option, option_map, String, Global, string_bytes}
+use Rattle.std.proofs.Common.{◌≡◌, ◌∙◌, ap, sym, arith, ℕ, suc, ◌+◌, ◌<◌, List, [], ◌∷◌, ◌++◌, length, get_or, take, Option, option_map}
+use Rattle.std.proofs.Common.{String, Global, string_bytes}
 use Rattle.std.proofs.Math.Seq.{take-suc}
 use Rattle.std.proofs.lemmas.List.{append-nil, append_assoc}
 use Rattle.std.proofs.lemmas.List.Sums.{fold-append}
@@ -18,9 +19,11 @@ of_one pair = fed_text (string_bytes pair.0) ++ fed_value (option_map string_byt
 fed_at_end : (pairs : List Held) (pair : Held) → fed_dims (dims_view (pairs ++ pair ∷ [])) ≡ fed_dims (dims_view pairs) ++ of_one pair
 unfolding fed_dims
 fed_at_end [] pair = append-nil (of_one pair)
-fed_at_end (first ∷ pairs) pair = ap (λ writes. of_one first ++ writes) (fed_at_end pairs pair) ∙ sym (append_assoc (of_one first) (fed_dims (dims_view pairs)) (of_one pair))
+fed_at_end (first ∷ pairs) pair =
+    ap (λ writes. of_one first ++ writes) (fed_at_end pairs pair) ∙ sym (append_assoc (of_one first) (fed_dims (dims_view pairs)) (of_one pair))
 
-pub fed_one_more : (state : DefaultHasher) (pairs : List Held) (at : ℕ) (pair : Held) (named done : DefaultHasher) → at < length pairs → pair ≡ get_or pairs at pair
+pub fed_one_more : (state : DefaultHasher) (pairs : List Held) (at : ℕ) (pair : Held) (named done : DefaultHasher) → at < length pairs
+    → pair ≡ get_or pairs at pair
     → named ≡ fed_with (fed_with state (fed_dims (dims_view (take at pairs)))) (fed_text (string_bytes pair.0))
     → done ≡ fed_with named (fed_value (option_map string_bytes pair.1)) → done ≡ fed_with state (fed_dims (dims_view (take (at + 1) pairs)))
 fed_one_more state pairs at pair named done in_range is name value =
@@ -30,4 +33,5 @@ fed_one_more state pairs at pair named done in_range is name value =
     ∙ sym (fold-append write (fed_with state front) (fed_text (string_bytes pair.0)) (fed_value (option_map string_bytes pair.1)))
     ∙ sym (fold-append write state front (of_one pair))
     ∙ ap (fed_with state) (sym (fed_at_end (take at pairs) pair))
-    ∙ ap (λ ps. fed_with state (fed_dims (dims_view ps))) (sym (ap (λ k. take k pairs) next ∙ take-suc pairs at pair in_range ∙ ap (λ p. take at pairs ++ p ∷ []) (sym is)))
+    ∙ ap (λ ps. fed_with state (fed_dims (dims_view ps)))
+    (sym (ap (λ k. take k pairs) next ∙ take-suc pairs at pair in_range ∙ ap (λ p. take at pairs ++ p ∷ []) (sym is)))

@@ -35,14 +35,14 @@ pub data Part : Type 0 where
 
 -- whether a fact passes, before or after
 abbrev pub passes : (Fact → Bool) → FactChange → Bool
-passes test move = option_map_or test move.old false || option_map_or test move.new false
+passes test change = option_map_or test change.old false || option_map_or test change.new false
 
--- whether a fact change touches a part: its identifier where a fact stands there, and each cell and range in which one lies
+-- whether a fact change touches a part: its identifier if a fact is there, and each cell and range in which one lies
 abbrev pub is_touched_by : Part → FactChange → Bool
-is_touched_by (Id id) move = text_eq id move.id && passes (λ fact. true) move
-is_touched_by (Cell dims) move = passes (has_dims dims) move
-is_touched_by (Range query upto) move =
-    is_within query.after upto move.id && passes (answers_query query.concept query.period) move
+is_touched_by (Id id) change = text_eq id change.id && passes (λ fact. true) change
+is_touched_by (Cell dims) change = passes (has_dims dims) change
+is_touched_by (Range query upto) change =
+    is_within query.after upto change.id && passes (answers_query query.concept query.period) change
 
 abbrev pub is_touched : List FactChange → Part → Bool
 is_touched fact_changes part = list_any (is_touched_by part) fact_changes

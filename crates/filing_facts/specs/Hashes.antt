@@ -1,5 +1,7 @@
--- The hashes by which look-ups find the facts of one report: those that one look-up finds have one hash. The project's own; the hash is SipHash-1-3 with both keys 0, as std's `DefaultHasher` makes it.
-use Rattle.std.specs.Prelude.{ℕ, ◌*◌, ◌/◌, [], ◌∷◌, ◌++◌, length, take, drop, replicate, fold, Option, Some, None, unwrap_or}
+-- The hashes by which look-ups find the facts of one report: those that one look-up finds have one hash.
+-- The project's own; the hash is SipHash-1-3 with both keys 0, which is that of std's `DefaultHasher`.
+use Rattle.std.specs.Prelude.{ℕ, ◌*◌, ◌/◌, [], ◌∷◌, ◌++◌, length, take, drop, replicate, fold, Option, Some, None}
+use Rattle.std.specs.Prelude.{unwrap_or}
 use Rattle.std.specs.List.{flat_map}
 use Rattle.std.specs.Hash.{HashWrites}
 use Rattle.std.specs.Hash.DefaultHasher as sip

@@ -105,7 +105,7 @@ impl KeyCache {
     }
 
     /// What is kept under this hash.
-    fn kept(&self, hash: u64) -> Option<&Arc<ConceptPeriod>> {
+    fn find(&self, hash: u64) -> Option<&Arc<ConceptPeriod>> {
         match &self.first {
             Some(first) if first.of_period() == hash => Some(first),
             _ => self.others.get(&hash),
@@ -113,7 +113,7 @@ impl KeyCache {
     }
 
     /// Another owner of what is under this hash, where it is this concept and this period.
-    fn met(
+    fn find_same(
         &self,
         hash: u64,
         concept: &str,
@@ -122,7 +122,7 @@ impl KeyCache {
         ensures { IfOk result (λ o. IfSome o (λ keys. arc_value keys
             ≡ keys_of concept.now (option_map (λ t. t.now) period.entry))) }
     {
-        match self.kept(hash) {
+        match self.find(hash) {
             Some(keys) if keys.are_of(concept, period) => Ok(Some(Arc::try_clone(keys)?)),
             _ => Ok(None),
         }
@@ -139,7 +139,7 @@ impl KeyCache {
     }
 
     /// A concept and a period, or none, shared with facts so far.
-    fn shared(
+    fn share_keys(
         &mut self,
         alloc: Global,
         concept: &str,
@@ -148,7 +148,7 @@ impl KeyCache {
         ensures { IfOk result (λ keys. arc_value keys ≡ keys_of concept.now (option_map (λ t. t.now) period.entry)) }
     {
         let hash = hash_of_period(concept, period);
-        if let Some(keys) = self.met(hash, concept, period)? {
+        if let Some(keys) = self.find_same(hash, concept, period)? {
             return Ok(keys);
         }
         let keys = ConceptPeriod::of(alloc, concept, period, hash)?;
@@ -165,6 +165,6 @@ impl KeyCache {
     ) -> Result<Arc<ConceptPeriod>, AllocError>
         ensures { IfOk result (λ keys. IsConceptPeriodOf dims.now (arc_value keys)) }
     {
-        self.shared(alloc, dims.concept(), dims.period())
+        self.share_keys(alloc, dims.concept(), dims.period())
     }
 }

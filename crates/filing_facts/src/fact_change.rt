@@ -22,14 +22,14 @@ impl Model for FactChange {
 
     ghost Value = { PlainFactChange };
 
-    ghost view = { λ m.
+    ghost view = { λ c.
         record {
-          id = id_of m.old m.new;
-          old = option_map (λ r. r.1) m.old;
-          new = option_map (λ r. r.1) m.new;
+          id = id_of c.old c.new;
+          old = option_map (λ r. r.1) c.old;
+          new = option_map (λ r. r.1) c.new;
         } };
 
-    ghost invariant = { λ m. AreOfOneId m.old m.new };
+    ghost invariant = { λ c. AreOfOneId c.old c.new };
 }
 
 impl FactChange {

@@ -13,7 +13,8 @@ use std::marker::Model;
 use std::sync::Arc;
 use text_map::PagedValue;
 
-/// A shared fact, with what it is compared by next to the pointer, so that most comparisons do not follow it. Contracts see the fact.
+/// A shared fact, with what it is compared by next to the pointer, so that most comparisons do not follow it.
+/// Contracts see the fact.
 #[derive(Drop)]
 pub struct IndexedFact {
     fact: Arc<Fact>,
@@ -42,7 +43,7 @@ impl PagedValue for IndexedFact {
 
 impl IndexedFact {
     /// A fact whose concept and period are shared with those before it that have the same.
-    pub fn among(
+    pub fn of(
         alloc: Global,
         key_cache: &mut KeyCache,
         fact: Arc<Fact>,
@@ -109,7 +110,7 @@ impl IndexedFact {
         self.keys.of_concept()
     }
 
-    /// Its concept and its period, shared with another fact where that has the same.
+    /// Its concept and its period, shared with another fact if that has the same ones.
     #[tactic(auto, using(crate::proofs::KeptTexts::same_keys))]
     fn keys_beside(&self, other: &IndexedFact) -> Result<Arc<ConceptPeriod>, AllocError>
         ensures { IfOk result (λ keys. IsConceptPeriodOf self.now.dims (arc_value keys)) }
@@ -121,7 +122,7 @@ impl IndexedFact {
         Arc::try_clone(&self.keys)
     }
 
-    /// Another owner of the fact, for one more map. It shares its concept and its period with another fact where that has the same.
+    /// Another owner of the fact, for one more map. If another fact has its concept and its period, it shares them.
     pub fn share_beside(&self, other: &IndexedFact) -> Result<IndexedFact, AllocError>
         ensures { IfOk result (λ h. h ≡ self.now) }
     {

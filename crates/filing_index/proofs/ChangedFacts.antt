@@ -1,5 +1,6 @@
 -- What the fact changes of a change make of the indexes of facts: those of the facts after the change.
-use Rattle.std.proofs.Common.{◌≡◌, ◌∙◌, ap, sym, subst, refl, ℕ, Bool, true, false, cond, ◌&&◌, T, List, [], ◌∷◌, ◌++◌, map, Option, None, Some, is_eq, is_lt, true≢false, IsPermutation}
+use Rattle.std.proofs.Common.{◌≡◌, ◌∙◌, ap, sym, subst, refl, ℕ, Bool, true, false, cond, ◌&&◌, T, List, [], ◌∷◌, ◌++◌, map, Option, None}
+use Rattle.std.proofs.Common.{Some, is_eq, is_lt, true≢false, IsPermutation}
 use Rattle.std.specs.Prelude.{◌==◌, unwrap_or, option_and_then}
 use Rattle.std.specs.Ordering.{eq_by_cmp}
 use Rattle.std.specs.Cmp.{IsStrictWeakOrder, nat_eq_equiv, unsigned_Decides, eq_by_cmp_equiv}
@@ -45,7 +46,8 @@ get-with_changes ((key, Some fact) ∷ es) facts id =
 get-with_changes ((key, None) ∷ es) facts id =
     get-remove (with_changes es facts) key id
     ∙ ap (λ o. cond (text_eq id key) None o) (get-with_changes es facts id)
-    ∙ elim (text_eq id key) as (λ b. cond b None (unwrap_or (find text_cmp id es) (get facts id)) ≡ unwrap_or (cond b (Some None) (find text_cmp id es)) (get facts id)) [ true ↦ refl | false ↦ refl ]
+    ∙ elim (text_eq id key) as (λ b. cond b None (unwrap_or (find text_cmp id es) (get facts id))
+    ≡ unwrap_or (cond b (Some None) (find text_cmp id es)) (get facts id)) [ true ↦ refl | false ↦ refl ]
 
 -- the fact changes that are left out change nothing
 module _ {C : Type 0} (change : Text → Option Fact → Option Fact → List C) (unmoved : (id : Text) → change id None None ≡ []) where
@@ -53,7 +55,8 @@ module _ {C : Type 0} (change : Text → Option Fact → Option Fact → List C)
   all fact_changes = flat_map (λ m. change m.id m.old m.new) fact_changes
 
   left_out : (id : Text) (old new : Option Fact) (ms ns : List FactChange) → all ms ≡ all ns
-      → all (cond (passes (λ fact. true) (record { id = id; old = old; new = new })) (record { id = id; old = old; new = new } ∷ ms) ms) ≡ change id old new ++ all ns
+      → all (cond (passes (λ fact. true) (record { id = id; old = old; new = new })) (record { id = id; old = old; new = new } ∷ ms) ms)
+      ≡ change id old new ++ all ns
   left_out id None None ms ns same = same ∙ ap (λ cs. cs ++ all ns) (sym (unmoved id))
   left_out id None (Some new) ms ns same = ap (λ cs. change id None (Some new) ++ cs) same
   left_out id (Some old) new ms ns same = ap (λ cs. change id (Some old) new ++ cs) same
@@ -100,7 +103,8 @@ module _ (hash_of : Fact → ℕ) where
   block_apart k id None (Some new) cs h rest = (other_id k (hash_of new) id h, rest)
   block_apart k id (Some old) None cs h rest = (other_id k (hash_of old) id h, rest)
   block_apart k id (Some old) (Some new) cs h rest =
-      elim (hash_of old == hash_of new) as (λ b. AllByRecursion (IsApart k) ((cond b [] (Remove (hashed hash_of (id, old)) ∷ []) ++ added hash_of id (Some new)) ++ cs)) [
+      elim (hash_of old == hash_of new)
+      as (λ b. AllByRecursion (IsApart k) ((cond b [] (Remove (hashed hash_of (id, old)) ∷ []) ++ added hash_of id (Some new)) ++ cs)) [
         | true ↦ (other_id k (hash_of new) id h, rest)
         | false ↦ (other_id k (hash_of old) id h, (other_id k (hash_of new) id h, rest))
       ]
@@ -187,12 +191,14 @@ module _ (hash_of : Fact → ℕ) where
       (λ i. unwrap_or (cond (tied_hash hash id key old same i) (Some None) (none i)) (at hash (Some old))) ∙ removed_alone (hash_of old == hash) old
   found_here hash id key (Some old) (Some new) cs same none =
       elim (hash_of old == hash_of new) as (λ b. (hash_of old == hash_of new) ≡ b
-      → unwrap_or (found (hash, id) ((cond b [] (Remove (hashed hash_of (key, old)) ∷ []) ++ added hash_of key (Some new)) ++ cs)) (at hash (Some old)) ≡ at hash (Some new)) [
+      → unwrap_or (found (hash, id) ((cond b [] (Remove (hashed hash_of (key, old)) ∷ []) ++ added hash_of key (Some new)) ++ cs)) (at hash (Some old))
+      ≡ at hash (Some new)) [
         | true ↦ λ one.
             (λ i. unwrap_or (cond (tied_hash hash id key new same i) (Some (Some new)) (none i)) (at hash (Some old)))
             ∙ replaced (hash_of old == hash) (hash_of new == hash) old new (ap (λ n. n == hash) ((unsigned_Decides (hash_of old) (hash_of new)).0 one))
         | false ↦ λ differ.
-            (λ i. unwrap_or (cond (tied_hash hash id key old same i) (Some None) (cond (tied_hash hash id key new same i) (Some (Some new)) (none i))) (at hash (Some old)))
+            (λ i. unwrap_or (cond (tied_hash hash id key old same i) (Some None) (cond (tied_hash hash id key new same i) (Some (Some new)) (none i)))
+            (at hash (Some old)))
             ∙ moved (hash_of old == hash) (hash_of new == hash) old new (one_hash (hash_of old) (hash_of new) hash differ)
       ] refl
 
@@ -207,7 +213,8 @@ module _ (hash_of : Fact → ℕ) where
       found (hash, id) ((cond b [] (Remove (hashed hash_of (key, old)) ∷ []) ++ added hash_of key (Some new)) ++ cs) ≡ found (hash, id) cs) [
         | true ↦ ap (λ b. cond b (Some (Some new)) (found (hash, id) cs)) (other_id (hash, id) (hash_of new) key h)
         | false ↦
-            (λ i. cond (other_id (hash, id) (hash_of old) key h i) (Some None) (cond (other_id (hash, id) (hash_of new) key h i) (Some (Some new)) (found (hash, id) cs)))
+            (λ i. cond (other_id (hash, id) (hash_of old) key h i) (Some None)
+            (cond (other_id (hash, id) (hash_of new) key h i) (Some (Some new)) (found (hash, id) cs)))
       ]
 
   found_after : (hash : ℕ) (id : Text) (es : Changes) (facts : TextMap Fact) → T (is_sorted text_cmp es)
@@ -251,7 +258,8 @@ module _ (hash_of : Fact → ℕ) where
 
   -- sorted, they rise
   pub sorted_changes_rise : (changes : TextMap (Option Fact)) (facts : TextMap Fact) (cs : List (Edit IndexEntry))
-      → IsPermutation (hashed_changes hash_of (fact_changes_in changes.entries facts)) cs → IsSortedBy is_change_before cs → IsRising hashed_cmp (map entry_of cs)
+      → IsPermutation (hashed_changes hash_of (fact_changes_in changes.entries facts)) cs → IsSortedBy is_change_before cs
+      → IsRising hashed_cmp (map entry_of cs)
   sorted_changes_rise changes facts cs p sorted =
       subst (λ es. T (is_sorted hashed_cmp es)) (sym (map-map (λ e. (e, e)) entry_of cs))
       (sorted_rise hashed_cmp (λ c. (entry_of c, entry_of c)) hashed_cmp_total cs sorted (still_distinct changes facts cs p))
@@ -281,7 +289,8 @@ ids_rise id (Some old) (Some new) cs b h = both_hold _ _ b h
 all_rise : (es : Changes) (facts : TextMap Fact) → T (is_sorted text_cmp es) → T (is_sorted text_cmp (map entry_of (id_changes (fact_changes_of es facts))))
 all_rise [] facts h = tt
 all_rise (e ∷ es) facts h =
-    ids_rise e.0 (get facts e.0) e.1 (id_changes (fact_changes_of es facts)) (all_below e.0 es facts (first_holds _ _ h)) (all_rise es facts (second_holds _ _ h))
+    ids_rise e.0 (get facts e.0) e.1 (id_changes (fact_changes_of es facts)) (all_below e.0 es facts (first_holds _ _ h))
+    (all_rise es facts (second_holds _ _ h))
 
 same_ids : (es : Changes) (facts : TextMap Fact) → id_changes (fact_changes_in es facts) ≡ id_changes (fact_changes_of es facts)
 same_ids = changes_of_all id_change (λ id. refl)
@@ -305,7 +314,8 @@ abbrev with_one : Text → Option Fact → TextMap Fact → TextMap Fact
 with_one id None m = remove m id
 with_one id (Some fact) m = insert m id fact
 
-one_change : (id : Text) (new : Option Fact) (es : Changes) (facts : TextMap Fact) → with_one id new (with_changes es facts) ≡ with_changes ((id, new) ∷ es) facts
+one_change : (id : Text) (new : Option Fact) (es : Changes) (facts : TextMap Fact)
+    → with_one id new (with_changes es facts) ≡ with_changes ((id, new) ∷ es) facts
 one_change id None es facts = refl
 one_change id (Some fact) es facts = refl
 
@@ -316,7 +326,8 @@ id_after id (Some old) None cs facts after rest there = ap (λ m. remove m id) r
 id_after id None (Some new) cs facts after rest there = ap (λ m. insert m id new) rest
 id_after id (Some old) (Some new) cs facts after rest there = ap (λ m. insert m id new) rest
 
-ids_after : (es : Changes) (facts : TextMap Fact) → T (is_sorted text_cmp es) → map_with_changes (id_changes (fact_changes_of es facts)) facts ≡ with_changes es facts
+ids_after : (es : Changes) (facts : TextMap Fact) → T (is_sorted text_cmp es)
+    → map_with_changes (id_changes (fact_changes_of es facts)) facts ≡ with_changes es facts
 ids_after [] facts h = refl
 ids_after ((id, new) ∷ es) facts h =
     id_after id (get facts id) new (id_changes (fact_changes_of es facts)) facts (with_changes es facts) (ids_after es facts (second_holds _ _ h))

@@ -127,7 +127,8 @@ module _ (hash : ℕ) (dims : Dims) where
           let own = and_parts (e.0.0 == hash) (has_dims dims e.1) mine in
           let any = kept.any_kept is_mine es (some_more e (filter is_mine es) more) in
           let shares =
-          next_shares e es (same_number e.0.0 hash own.0) (first_holds (below_all key_cmp e.0 es) _ sorted) (second_holds (below_all key_cmp e.0 es) _ sorted) any in
+          next_shares e es (same_number e.0.0 hash own.0) (first_holds (below_all key_cmp e.0 es) _ sorted)
+          (second_holds (below_all key_cmp e.0 es) _ sorted) any in
           ap (λ b. list_any is_met (cond b ((e.0.1, e.1) ∷ crowded es) (crowded es))) shares ∙ ap (λ b. b || list_any is_met (crowded es)) own.1
       by false apart more rest = later (shares_hash (first_of es) e) (rest more)
 

@@ -1,5 +1,6 @@
 -- Elements with keys that differ: a look-up finds one in whatever order they stand, and once sorted their keys rise.
-use Rattle.std.proofs.Common.{◌≡◌, ◌∙◌, ap, sym, subst, refl, suc, ◌+◌, arith, Bool, true, false, cond, T, List, [], ◌∷◌, map, Option, None, Some, is_some, IsPermutation, Ordering, Less, is_eq, is_lt}
+use Rattle.std.proofs.Common.{◌≡◌, ◌∙◌, ap, sym, subst, refl, suc, ◌+◌, arith, Bool, true, false, cond, T, List, [], ◌∷◌, map, Option, None}
+use Rattle.std.proofs.Common.{Some, is_some, IsPermutation, Ordering, Less, is_eq, is_lt}
 use Rattle.std.specs.Ordering.{eq_by_cmp}
 use Rattle.std.specs.Cmp.{IsTotalOrder, Equal-is, eq_by_cmp_equiv}
 use Rattle.std.specs.List.{AllByRecursion, IsDistinct}

@@ -1,5 +1,6 @@
 -- What is found in a sorted list after changes: what the change of its key puts there, or else what stood there.
-use Rattle.std.proofs.Common.{◌≡◌, ◌∙◌, ap, sym, refl, Bool, true, false, cond, not, List, [], ◌∷◌, map, Option, None, Some, Ordering, Less, Equal, Greater, is_eq, true≢false}
+use Rattle.std.proofs.Common.{◌≡◌, ◌∙◌, ap, sym, refl, Bool, true, false, cond, not, List, [], ◌∷◌, map, Option, None, Some, Ordering, Less}
+use Rattle.std.proofs.Common.{Equal, Greater, is_eq, true≢false}
 use Rattle.std.specs.Prelude.{unwrap_or}
 use Rattle.std.specs.Ordering.{on, eq_by_cmp}
 use Rattle.std.specs.Cmp.{IsTotalOrder, Equal-is, alike_right}

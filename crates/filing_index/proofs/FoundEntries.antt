@@ -51,7 +51,8 @@ module _ (hash : ℕ) where
   by_identifier n m x y p q =
       (λ i. ordering_then (nat_cmp (p i) (q i)) (text_cmp x y)) ∙ ap (λ o. ordering_then o (text_cmp x y)) (tied_itself nat_cmp_total hash)
 
-  below_unhashed : (e : IndexEntry) (es : List IndexEntry) → Has e → AllByRecursion Has es → T (below_all key_cmp e.0 es) → T (below_all text_cmp e.0.1 (unhashed es))
+  below_unhashed : (e : IndexEntry) (es : List IndexEntry) → Has e → AllByRecursion Has es → T (below_all key_cmp e.0 es)
+      → T (below_all text_cmp e.0.1 (unhashed es))
   below_unhashed e [] p h b = tt
   below_unhashed e (f ∷ es) p h b =
       both_hold _ _ (subst (λ o. T (is_lt o)) (by_identifier e.0.0 f.0.0 e.0.1 f.0.1 p h.0) (first_holds _ _ b))

@@ -53,7 +53,8 @@ one_hash : (x y : IndexEntry) → is_eq (nat_cmp y.0.0 x.0.0) ≡ true → ties_
 one_hash x y e =
     ap (λ r. not (is_lt r) && not (is_lt (nat_cmp y.0.0 x.0.0))) (nat_cmp_total.antisymm x.0.0 y.0.0) ∙ level (nat_cmp y.0.0 x.0.0) e
 
-sorted_by_hash : (xs ys : List IndexEntry) → IsSortedBy has_lesser_id xs → IsSortedBy has_lesser_hash ys → IsStableBy has_lesser_hash xs ys → IsSortedBy is_before ys
+sorted_by_hash : (xs ys : List IndexEntry) → IsSortedBy has_lesser_id xs → IsSortedBy has_lesser_hash ys → IsStableBy has_lesser_hash xs ys
+    → IsSortedBy is_before ys
 sorted_by_hash xs ys ids hashes stable = λ k d low high.
     then_by_id (text_cmp (get_or ys (k + 1) d).0.1 (get_or ys k d).0.1) (nat_cmp (get_or ys (k + 1) d).0.0 (get_or ys k d).0.0) (hashes k d low high)
     (λ e. ties_stay_sorted has_lesser_id has_lesser_hash (ranks_by nat_list_cmp_total (λ e. e.0.1)) has_lesser_hash-ranks xs ys ids stable k d high

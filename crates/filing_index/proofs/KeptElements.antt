@@ -38,7 +38,8 @@ module _ {A B : Type 0} (g : A → B) where
   pub map-filter : (p : B → Bool) (xs : List A) → map g (filter (λ x. p (g x)) xs) ≡ filter p (map g xs)
   map-filter p [] = refl
   map-filter p (x ∷ xs) =
-      elim (p (g x)) as (λ b. map g (cond b (x ∷ filter (λ x. p (g x)) xs) (filter (λ x. p (g x)) xs)) ≡ cond b (g x ∷ filter p (map g xs)) (filter p (map g xs))) [
+      elim (p (g x)) as (λ b. map g (cond b (x ∷ filter (λ x. p (g x)) xs) (filter (λ x. p (g x)) xs))
+      ≡ cond b (g x ∷ filter p (map g xs)) (filter p (map g xs))) [
         | true ↦ ap (λ ys. g x ∷ ys) (map-filter p xs)
         | false ↦ map-filter p xs
       ]

@@ -15,6 +15,6 @@ after_none before after facts more is told tells =
     subst (λ fs. Tells after (fs ++ more)) (sym none) tells
 
 -- what a tally is of
-pub tally_of : (before : CellSum) (tally : Fact × Tally) (facts : List Fact) → before ≡ sum.Told tally → Tells before facts
+pub tally_of : (before : CellSum) (tally : Fact × Tally) (facts : List Fact) → before ≡ sum.Tally tally → Tells before facts
     → IsTallyOf tally facts
 tally_of before tally facts is told = subst (λ s. Tells s facts) is told

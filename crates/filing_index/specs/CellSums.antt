@@ -17,7 +17,7 @@ facts_in entries = map (λ e. e.1) entries
 -- what is told of some facts holds of them
 abbrev pub Tells : CellSum → List Fact → Type 0
 Tells sum.Empty facts = facts ≡ []
-Tells (sum.Told tally) facts = IsTallyOf tally facts
+Tells (sum.Tally tally) facts = IsTallyOf tally facts
 Tells sum.Mixed facts = Unit {0}
 
 -- and what a page keeps of its facts

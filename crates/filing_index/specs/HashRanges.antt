@@ -1,5 +1,6 @@
 -- The entries of one hash whose identifiers are greater than one stand next to one another.
-use Rattle.std.proofs.Common.{◌≡◌, ◌∙◌, ap, sym, refl, ℕ, Bool, true, false, cond, Option, Some, None, Ordering, Less, Equal, Greater, is_lt, true≢false}
+use Rattle.std.proofs.Common.{◌≡◌, ◌∙◌, ap, sym, refl, ℕ, Bool, true, false, cond, Option, Some, None, Ordering}
+use Rattle.std.proofs.Common.{Less, Equal, Greater, is_lt, true≢false}
 use Rattle.std.specs.Ordering.{nat_cmp, ordering_then, ordering_reverse, is_gt, on, then_cmp}
 use Rattle.std.specs.Cmp.{IsTotalOrder, alike_right, nat_cmp_total}
 use Rattle.std.specs.Cmp.Lexicographic.{nat_list_cmp_total}
@@ -29,7 +30,8 @@ after_is_monotone (Some last) = record {
     later x y l Equal is h = refl
     later x y l Greater is h = refl
 
--- pairs in the order of their first parts and then of their second: those that tie with a first part, in a range of second parts
+-- pairs in the order of their first parts and then of their second:
+-- those that tie with a first part, in a range of second parts
 module _ {A B : Type 0} (R : A → A → Ordering) (o : IsTotalOrder R) (S : B → B → Ordering) (a : A) (side : B → Ordering)
     (m : IsMonotone S side) where
   lower : (x y : A × B) (r s : Ordering) → R x.0 y.0 ≡ r → R y.0 a ≡ s → ordering_then r (S x.1 y.1) ≡ Less

@@ -1,4 +1,5 @@
--- Indexes of the facts of one report: sorted lists in which facts that one look-up finds stand together. The project's own.
+-- Indexes of the facts of one report: sorted lists in which facts that one look-up finds stand together.
+-- The project's own.
 use Rattle.std.specs.Prelude.{◌≡◌, ℕ, cond, ◌==◌, List, Option, Some, None, option_and_then}
 use Rattle.std.specs.FinMap.Entries.{find}
 use Rattle.std.specs.Ordering.{on, then_cmp, nat_cmp}

@@ -17,7 +17,7 @@ pub enum CellSum {
     /// There are none.
     Empty,
     /// A tally of them.
-    Told(FactTally),
+    Tally(FactTally),
     /// It says nothing: they may be of several cells.
     Mixed,
 }
@@ -25,12 +25,12 @@ pub enum CellSum {
 /// What a page keeps: a tally of its facts, or nothing.
 pub type KeptSum = Option<Arc<FactTally>>;
 
-/// A tally of facts, where they are of one cell.
-fn told(tally: FactTally) -> CellSum
+/// The sum that a tally is, if its facts are of one cell.
+fn sum_of(tally: FactTally) -> CellSum
     ensures { (facts : List PlainFact) → IsTallyOf tally facts → Tells result facts }
 {
     if tally.is_of_one_cell() {
-        CellSum::Told(tally)
+        CellSum::Tally(tally)
     } else {
         CellSum::Mixed
     }
@@ -41,23 +41,23 @@ fn of_fact(fact: &Arc<Fact>) -> CellSum
     ensures { Tells result (arc_value fact.now ∷ []) }
 {
     match FactTally::of(fact) {
-        Ok(tally) => CellSum::Told(tally),
+        Ok(tally) => CellSum::Tally(tally),
         Err(_) => CellSum::Mixed,
     }
 }
 
 /// The sum that is a tally. It says nothing where the first fact has too many owners.
-fn shared(tally: &FactTally) -> CellSum
+fn share_sum(tally: &FactTally) -> CellSum
     ensures { (facts : List PlainFact) → IsTallyOf tally.now facts → Tells result facts }
 {
     match tally.share() {
-        Ok(tally) => CellSum::Told(tally),
+        Ok(tally) => CellSum::Tally(tally),
         Err(_) => CellSum::Mixed,
     }
 }
 
 /// A tally as a page keeps it.
-fn kept_tally(alloc: Global, tally: FactTally) -> KeptSum
+fn keep_tally(alloc: Global, tally: FactTally) -> KeptSum
     ensures { (facts : List PlainFact) → IsTallyOf tally facts → Keeps result facts }
 {
     match Arc::new(alloc, tally) {
@@ -73,7 +73,7 @@ impl CellSum {
     {
         match self {
             CellSum::Empty => of_fact(fact),
-            CellSum::Told(tally) => with_fact(tally, fact),
+            CellSum::Tally(tally) => with_fact(tally, fact),
             CellSum::Mixed => CellSum::Mixed,
         }
     }
@@ -95,18 +95,18 @@ impl CellSum {
             → Tells result (facts ++ others) }
     {
         match self {
-            CellSum::Empty => shared(more),
-            CellSum::Told(tally) => with_facts(tally, more),
+            CellSum::Empty => share_sum(more),
+            CellSum::Tally(tally) => with_facts(tally, more),
             CellSum::Mixed => CellSum::Mixed,
         }
     }
 
     /// What a page keeps of the sum. It is nothing where memory is refused.
-    pub(crate) fn kept(self, alloc: Global) -> KeptSum
+    pub(crate) fn keep(self, alloc: Global) -> KeptSum
         ensures { (facts : List PlainFact) → Tells self facts → Keeps result facts }
     {
         match self {
-            CellSum::Told(tally) => kept_tally(alloc, tally),
+            CellSum::Tally(tally) => keep_tally(alloc, tally),
             CellSum::Empty | CellSum::Mixed => None,
         }
     }
@@ -123,7 +123,7 @@ impl CellSum {
         ensures { IfSome result (λ class. (facts : List PlainFact) → Tells self facts
             → (list_all (has_dims dims.now) facts ≡ true) × (class ≡ class_of facts)) }
     {
-        let CellSum::Told(tally) = self else {
+        let CellSum::Tally(tally) = self else {
             return None;
         };
         if tally.is_of(dims) {
@@ -140,7 +140,7 @@ fn with_fact(tally: FactTally, fact: &Arc<Fact>) -> CellSum
 {
     let mut tally = tally;
     tally.add(fact);
-    told(tally)
+    sum_of(tally)
 }
 
 /// A tally with the facts of another.
@@ -150,5 +150,5 @@ fn with_facts(tally: FactTally, more: &FactTally) -> CellSum
 {
     let mut tally = tally;
     tally.add_all(more);
-    told(tally)
+    sum_of(tally)
 }

@@ -1,4 +1,5 @@
-//! The class of a cell, and the least of the cells that are not allowed, out of the index by dimensions. It takes no memory.
+//! The class of a cell, and the least of the cells that are not allowed, out of the index by dimensions.
+//! Nothing here takes memory.
 ghost use Rattle.std.specs.Prelude.{◌≡◌, [], ◌∷◌, List, option_map};
 ghost use Rattle.std.specs.List.{filter, fold};
 ghost use Rattle.std.specs.Iterator.{IsFinite, Drains, YieldsFirstRef, item_count};
@@ -30,8 +31,8 @@ pub(crate) fn class_in(index: &Paged<IndexEntry>, hash: u64, dims: &DimSet) -> C
     ensures { (facts : TextMap PlainFact) → IsIndex cell_hash facts index.now
         → result ≡ class_of (cell_facts dims.now facts) }
 {
-    let cell = Found::under(index, hash, Wanted::Cell(dims), None);
-    if let Some(class) = cell.class_told() {
+    let cell = Found::of_hash(index, hash, Wanted::Cell(dims), None);
+    if let Some(class) = cell.class_of_pages() {
         return class;
     }
     class_over(cell.map(|held| held.value().fact()))
@@ -49,7 +50,8 @@ fn shares_hash(other: Option<&IndexEntry>, entry: &IndexEntry) -> bool
 
 /// A walk over an index that stops at each fact right before another one of its hash.
 ///
-/// A fact that is alone under its hash is alone in its cell, and costs no look-up. Of each cell of two facts or more it meets all but the last.
+/// A fact that is alone under its hash is alone in its cell, and costs no look-up.
+/// Of each cell of two facts or more it meets all but the last.
 /// Contracts see the list of the facts still to come.
 #[derive(Drop)]
 struct Crowded<'a> {
@@ -91,7 +93,7 @@ impl<'a> Iterator for Crowded<'a> {
         while let Some(entry) = self.here {
             self.here = self.ahead.next();
             if shares_hash(self.here, entry) {
-                return Some(entry.held());
+                return Some(entry.record());
             }
         }
         None
@@ -109,7 +111,7 @@ pub(crate) fn are_these(others: Option<&DimSet>, dims: &DimSet) -> bool
 }
 
 /// The lesser of two dimension sets, where there is a first.
-fn lesser<'a>(least: Option<&'a DimSet>, dims: &'a DimSet) -> Option<&'a DimSet>
+fn lesser_dims<'a>(least: Option<&'a DimSet>, dims: &'a DimSet) -> Option<&'a DimSet>
     ensures { option_map (λ d. d.now) result ≡ lesser_dims (option_map (λ d. d.now) least.entry) dims.now }
 {
     match least {
@@ -143,7 +145,7 @@ pub(crate) fn with_cell<'a>(
     if allows(allowed, class_in(index, held.cell_hash(), dims)) {
         return least;
     }
-    lesser(least, dims)
+    lesser_dims(least, dims)
 }
 
 /// The least dimensions of some facts whose cell is not allowed. The iterator has to end.

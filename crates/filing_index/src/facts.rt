@@ -14,7 +14,7 @@ ghost use Rattle.std.specs.Arc.{arc_value};
 use crate::found::first_of_hash;
 use crate::index_entry::IndexEntry;
 use crate::index_kind::IndexKind;
-use crate::indexing::{beside, ids_after, ids_into_after, index_after, index_into_after, index_of};
+use crate::indexing::{ids_after, ids_into_after, index_after, index_into_after, index_of, pair};
 use filing_facts::{FactChange, IndexedFact};
 use oim_fact::Fact;
 use sorted_pages::{PageEntry, Paged, Range};
@@ -23,7 +23,8 @@ use std::marker::Model;
 use std::sync::Arc;
 use text_map::{NamedValue, TextPages};
 
-/// The facts of one report by their identifiers, with an index of each kind. A changed copy shares all that did not change.
+/// The facts of one report by their identifiers, with an index of each kind.
+/// A changed copy shares all that did not change.
 ///
 /// Contracts see the finite map.
 #[derive(Drop)]
@@ -46,8 +47,8 @@ impl Model for Facts {
     ghost invariant = { λ f. AreIndexes f.by_id f.by_cell f.by_period f.by_concept };
 }
 
-/// Another owner of a fact, which shares its concept and its period with another fact, if any, that has the same.
-fn shared_beside(held: &IndexedFact, other: Option<&IndexedFact>) -> Result<IndexedFact, AllocError>
+/// Another owner of a fact. If another fact is given and has its concept and its period, it shares them.
+fn share_fact(held: &IndexedFact, other: Option<&IndexedFact>) -> Result<IndexedFact, AllocError>
     ensures { IfOk result (λ h. h ≡ held.now) }
 {
     match other {
@@ -100,10 +101,10 @@ impl Facts {
     }
 
     /// The index of a kind.
-    pub(crate) fn index(&self, order: IndexKind) -> &Paged<IndexEntry>
-        ensures { IsIndex (hash_in order) self.now result.now }
+    pub(crate) fn index(&self, kind: IndexKind) -> &Paged<IndexEntry>
+        ensures { IsIndex (hash_in kind) self.now result.now }
     {
-        match order {
+        match kind {
             IndexKind::Cell => &self.by_cell,
             IndexKind::Period => &self.by_period,
             IndexKind::Concept => &self.by_concept,
@@ -120,7 +121,7 @@ impl Facts {
         }
     }
 
-    /// The record that a change puts, if it puts one. It shares its concept and its period with a fact that has the same.
+    /// The record that a change puts, if it puts one. It shares its concept and its period with a fact that has them.
     fn record_put(
         &self,
         alloc: Global,
@@ -132,7 +133,7 @@ impl Facts {
             None => Ok(None),
             Some(held) => {
                 let id = String::from_str(alloc, change.name())?;
-                let held = shared_beside(held, first_of_hash(&self.by_period, held.period_hash()))?;
+                let held = share_fact(held, first_of_hash(&self.by_period, held.period_hash()))?;
                 Ok(Some(NamedValue::new(alloc, id, held)?))
             }
         }
@@ -179,15 +180,15 @@ impl Facts {
             → after ≡ with_changes changes.entries self.now) }
     {
         let by_id = ids_after(alloc, &self.by_id, fact_changes)?;
-        let (by_cell, by_id) = beside(
+        let (by_cell, by_id) = pair(
             index_after(alloc, IndexKind::Cell, &self.by_cell, fact_changes),
             by_id,
         )?;
-        let (by_period, (by_cell, by_id)) = beside(
+        let (by_period, (by_cell, by_id)) = pair(
             index_after(alloc, IndexKind::Period, &self.by_period, fact_changes),
             (by_cell, by_id),
         )?;
-        let (by_concept, (by_period, by_cell, by_id)) = beside(
+        let (by_concept, (by_period, by_cell, by_id)) = pair(
             index_after(alloc, IndexKind::Concept, &self.by_concept, fact_changes),
             (by_period, by_cell, by_id),
         )?;
@@ -211,19 +212,19 @@ impl Facts {
             by_period,
             by_concept,
         } = self;
-        let (by_id, (by_cell, by_period, by_concept)) = beside(
+        let (by_id, (by_cell, by_period, by_concept)) = pair(
             ids_into_after(alloc, by_id, fact_changes),
             (by_cell, by_period, by_concept),
         )?;
-        let (by_cell, (by_id, by_period, by_concept)) = beside(
+        let (by_cell, (by_id, by_period, by_concept)) = pair(
             index_into_after(alloc, IndexKind::Cell, by_cell, fact_changes),
             (by_id, by_period, by_concept),
         )?;
-        let (by_period, (by_id, by_cell, by_concept)) = beside(
+        let (by_period, (by_id, by_cell, by_concept)) = pair(
             index_into_after(alloc, IndexKind::Period, by_period, fact_changes),
             (by_id, by_cell, by_concept),
         )?;
-        let (by_concept, (by_id, by_cell, by_period)) = beside(
+        let (by_concept, (by_id, by_cell, by_period)) = pair(
             index_into_after(alloc, IndexKind::Concept, by_concept, fact_changes),
             (by_id, by_cell, by_period),
         )?;

@@ -36,7 +36,7 @@ impl<'a> Span<IndexEntry> for OfHash<'a> {
     fn side(&self, entry: &IndexEntry) -> Ordering {
         match entry.hash().cmp(&self.hash) {
             Ordering::Less => Ordering::Less,
-            Ordering::Equal => side_after(self.after, entry.held().name()),
+            Ordering::Equal => side_after(self.after, entry.record().name()),
             Ordering::Greater => Ordering::Greater,
         }
     }
@@ -49,7 +49,7 @@ impl<'a> Span<IndexEntry> for OfHash<'a> {
 /// A fact under this hash, if there is one. Which it is decides nothing.
 pub(crate) fn first_of_hash(index: &Paged<IndexEntry>, hash: u64) -> Option<&IndexedFact> {
     let entry = index.first_in(&OfHash { hash, after: None })?;
-    Some(entry.held().value())
+    Some(entry.record().value())
 }
 
 /// All entries.
@@ -120,7 +120,7 @@ fn next_wanted<'a>(
     ensures { YieldsFirstRef (passing (is_wanted wanted.entry)) entries.old result entries.new }
 {
     while let Some(entry) = entries.next() {
-        let held = entry.held();
+        let held = entry.record();
         if wanted.is_met(held.value()) {
             return Some(held);
         }
@@ -129,7 +129,8 @@ fn next_wanted<'a>(
 }
 
 impl<'a> Found<'a> {
-    /// The facts that are wanted, out of the index by whose hash they are looked for; only those with identifiers greater than `after`, if that is given.
+    /// The facts that are wanted, out of the index by whose hash they are looked for;
+    /// if `after` is given, only those with greater identifiers.
     pub(crate) fn of(
         index: &'a Paged<IndexEntry>,
         wanted: Wanted<'a>,
@@ -138,11 +139,12 @@ impl<'a> Found<'a> {
         ensures { (facts : TextMap PlainFact) → IsIndex (hashed_by wanted.entry) facts index.now
             → result ≡ found (is_wanted wanted.entry) (option_map (λ t. t.now) after.entry) facts }
     {
-        Found::under(index, wanted.hash(), wanted, after)
+        Found::of_hash(index, wanted.hash(), wanted, after)
     }
 
-    /// The facts that are wanted, as `of` finds them, where their hash is known: to make it again costs a hash.
-    pub(crate) fn under(
+    /// The facts that are wanted, out of the index by whose hash they are looked for, which is given;
+    /// if `after` is given, only those with greater identifiers.
+    pub(crate) fn of_hash(
         index: &'a Paged<IndexEntry>,
         hash: u64,
         wanted: Wanted<'a>,
@@ -158,15 +160,15 @@ impl<'a> Found<'a> {
 }
 
 impl<'a> Found<'a> {
-    /// The class of the facts of a cell, where pages tell it. It takes no memory.
-    pub(crate) fn class_told(&self) -> Option<Class>
+    /// The class of the facts of a cell, if pages keep it. It takes no memory.
+    pub(crate) fn class_of_pages(&self) -> Option<Class>
         ensures { IfSome result (λ class. class ≡ class_of (map (λ e. e.1) self.now)) }
     {
         let Wanted::Cell(dims) = self.wanted else {
             return None;
         };
         if self.entries.spans_pages() {
-            self.entries.summed().class(dims)
+            self.entries.total().class(dims)
         } else {
             None
         }

@@ -34,17 +34,17 @@ impl<'a> Model for Ids<'a> {
 }
 
 impl<'a> Ids<'a> {
-    /// Those of a cell, out of the index by dimensions. The hash is that of the dimensions.
+    /// The identifiers of a cell, out of the index by dimensions. The hash is that of the dimensions.
     pub(crate) fn of_cell(index: &'a Paged<IndexEntry>, hash: u64, dims: &'a DimSet) -> Ids<'a>
         requires { hash ≡ hash_of_dims dims.now }
         ensures { (facts : TextMap PlainFact) → IsIndex cell_hash facts index.now
             → result ≡ cell_ids dims.now facts }
     {
-        let facts = Found::under(index, hash, Wanted::Cell(dims), None);
+        let facts = Found::of_hash(index, hash, Wanted::Cell(dims), None);
         Ids { facts }
     }
 
-    /// Those of a query that are greater than one where one is given, out of the index by which such a query is answered.
+    /// The identifiers of a query, out of the index that answers it; if `after` is given, only those greater than it.
     pub(crate) fn of_query(
         index: &'a Paged<IndexEntry>,
         concept: &'a str,

@@ -11,7 +11,8 @@ use std::cmp::Ordering;
 use std::marker::Model;
 use text_map::NamedValue;
 
-/// A fact with its identifier, under its hash in some index. The hash stands next to the pointer, so that most comparisons follow none.
+/// A fact with its identifier, under its hash in some index.
+/// The hash stands next to the pointer, so that most comparisons follow none.
 ///
 /// Contracts see the hash with the identifier, and the fact.
 #[derive(Drop)]
@@ -30,10 +31,10 @@ impl Model for IndexEntry {
 
 impl IndexEntry {
     /// An entry that shares this fact, under its hash in an index of this kind.
-    pub fn of(order: IndexKind, held: &NamedValue<IndexedFact>) -> Result<IndexEntry, AllocError>
-        ensures { IfOk result (λ c. c ≡ ((hash_in order held.now.1, held.now.0), held.now.1)) }
+    pub fn of(kind: IndexKind, held: &NamedValue<IndexedFact>) -> Result<IndexEntry, AllocError>
+        ensures { IfOk result (λ c. c ≡ ((hash_in kind held.now.1, held.now.0), held.now.1)) }
     {
-        let hash = order.hash(held.value());
+        let hash = kind.hash(held.value());
         let held = held.share()?;
         Ok(IndexEntry { hash, held })
     }
@@ -44,7 +45,7 @@ impl IndexEntry {
         self.hash
     }
 
-    pub fn held(&self) -> &NamedValue<IndexedFact>
+    pub fn record(&self) -> &NamedValue<IndexedFact>
         ensures { result.now ≡ (self.now.0.1, self.now.1) }
     {
         &self.held
@@ -68,23 +69,23 @@ impl Summed for IndexEntry {
         CellSum::Empty
     }
 
-    fn added_to(&self, sum: CellSum) -> CellSum {
+    fn add_to(&self, sum: CellSum) -> CellSum {
         sum.with(self.held.value().fact())
     }
 
-    fn joined(sum: CellSum, kept: &KeptSum) -> CellSum {
+    fn join(sum: CellSum, kept: &KeptSum) -> CellSum {
         sum.with_kept(kept)
     }
 
-    fn kept(alloc: Global, sum: CellSum) -> KeptSum {
-        sum.kept(alloc)
+    fn keep(alloc: Global, sum: CellSum) -> KeptSum {
+        sum.keep(alloc)
     }
 
     fn is_settled(sum: &CellSum) -> bool {
         sum.is_mixed()
     }
 
-    fn kept_by_ends(first: &IndexEntry, last: &IndexEntry) -> Option<KeptSum> {
+    fn keep_by_ends(first: &IndexEntry, last: &IndexEntry) -> Option<KeptSum> {
         if first.hash == last.hash && first.hash == first.held.value().cell_hash() {
             None
         } else {

@@ -1,5 +1,6 @@
 //! How an index is built, and how one is changed.
-ghost use Rattle.std.specs.Prelude.{◌≡◌, ◌++◌, map, option_copied, option_map, T as Holds, IfOk, OnOk, Ok, IsPermutation};
+ghost use Rattle.std.specs.Prelude.{◌≡◌, ◌++◌, map, option_copied, option_map, T as Holds, IfOk, OnOk, Ok};
+ghost use Rattle.std.specs.Prelude.{IsPermutation};
 ghost use Rattle.std.specs.FinMap.Entries.{is_sorted};
 ghost use Rattle.filing_model.specs.Common.Text.{text_cmp};
 ghost use Rattle.filing_model.specs.Common.TextMap.{TextMap};
@@ -9,7 +10,8 @@ ghost use Rattle.sorted_pages.specs.Sorted.{IsRising};
 ghost use Rattle.sorted_pages.specs.Changes.{entry_of};
 ghost use Rattle.filing_index.specs.Index.{IsIndex, hashed_cmp};
 ghost use Rattle.filing_index.specs.IndexKinds.{hash_in};
-ghost use Rattle.filing_index.specs.ChangedIndexes.{AreFactChanges, IsIndexAfter, hashed, hashed_change, hashed_changes, has_hash, id_change, id_changes};
+ghost use Rattle.filing_index.specs.ChangedIndexes.{AreFactChanges, IsIndexAfter, hashed, hashed_change};
+ghost use Rattle.filing_index.specs.ChangedIndexes.{hashed_changes, has_hash, id_change, id_changes};
 
 use crate::index_entry::IndexEntry;
 use crate::index_kind::IndexKind;
@@ -18,8 +20,8 @@ use sorted_pages::{Edit, PageEntry, Paged};
 use std::alloc::{AllocError, Global};
 use text_map::{NamedValue, TextPages};
 
-/// A thing that was made, with another. Where memory was refused for the thing, the other is dropped.
-pub(crate) fn beside<A: Drop, B: Drop>(
+/// What was made, with another value. If it could not be made, the other value is dropped.
+pub(crate) fn pair<A: Drop, B: Drop>(
     made: Result<A, AllocError>,
     other: B,
 ) -> Result<(A, B), AllocError>
@@ -29,16 +31,16 @@ pub(crate) fn beside<A: Drop, B: Drop>(
 }
 
 /// The facts under their hashes.
-fn hashed(
+fn index_entries(
     alloc: Global,
-    order: IndexKind,
+    kind: IndexKind,
     facts: &[NamedValue<IndexedFact>],
 ) -> Result<Vec<IndexEntry>, AllocError>
-    ensures { IfOk result (λ v. v.items ≡ map (hashed (hash_in order)) facts.now) }
+    ensures { IfOk result (λ v. v.items ≡ map (hashed (hash_in kind)) facts.now) }
 {
     let mut entries = Vec::with_capacity(alloc, facts.len())?;
     for held in facts {
-        entries.push(IndexEntry::of(order, held)?)?;
+        entries.push(IndexEntry::of(kind, held)?)?;
     }
     Ok(entries)
 }
@@ -46,28 +48,28 @@ fn hashed(
 /// The index of facts whose identifiers rise.
 pub(crate) fn index_of(
     alloc: Global,
-    order: IndexKind,
+    kind: IndexKind,
     facts: &[NamedValue<IndexedFact>],
 ) -> Result<Paged<IndexEntry>, AllocError>
     requires { Holds (is_sorted text_cmp facts.now) }
     ensures { IfOk result (λ index. (all : TextMap Fact) → all.entries ≡ facts.now
-        → IsIndex (hash_in order) all index) }
+        → IsIndex (hash_in kind) all index) }
 {
-    let mut entries = hashed(alloc, order, facts)?;
-    // Those of one hash keep the order of their identifiers, so no identifier is looked at.
+    let mut entries = index_entries(alloc, kind, facts)?;
+    // Entries of one hash keep the order of their identifiers, so no identifier is looked at.
     entries.sort_by(|one, other| one.hash().cmp(&other.hash()))?;
     Paged::of_sorted(alloc, entries)
 }
 
 /// A record, if any, under its hash.
-fn hashed_held(
-    order: IndexKind,
+fn index_entry_if_there(
+    kind: IndexKind,
     held: Option<&NamedValue<IndexedFact>>,
 ) -> Result<Option<IndexEntry>, AllocError>
-    ensures { IfOk result (λ o. o ≡ option_map (hashed (hash_in order)) (option_copied held.entry)) }
+    ensures { IfOk result (λ o. o ≡ option_map (hashed (hash_in kind)) (option_copied held.entry)) }
 {
     match held {
-        Some(held) => Ok(Some(IndexEntry::of(order, held)?)),
+        Some(held) => Ok(Some(IndexEntry::of(kind, held)?)),
         None => Ok(None),
     }
 }
@@ -84,14 +86,14 @@ fn have_one_hash(old: &IndexEntry, new: &Option<IndexEntry>) -> bool
 
 /// Pushes what a fact change edits in an index. A new fact with the hash of the old one takes its place.
 fn push_hashed(
-    order: IndexKind,
-    moved: &FactChange,
+    kind: IndexKind,
+    fact_change: &FactChange,
     changes: &mut Vec<Edit<IndexEntry>>,
 ) -> Result<(), AllocError>
-    ensures { OnOk result (changes.new.items ≡ changes.old.items ++ hashed_change (hash_in order) moved.now) }
+    ensures { OnOk result (changes.new.items ≡ changes.old.items ++ hashed_change (hash_in kind) fact_change.now) }
 {
-    let new = hashed_held(order, moved.new())?;
-    if let Some(old) = hashed_held(order, moved.old())? {
+    let new = index_entry_if_there(kind, fact_change.new())?;
+    if let Some(old) = index_entry_if_there(kind, fact_change.old())? {
         if !have_one_hash(&old, &new) {
             changes.push(Edit::Remove(old))?;
         }
@@ -105,14 +107,14 @@ fn push_hashed(
 /// What fact changes edit in an index.
 fn hashed_changes(
     alloc: Global,
-    order: IndexKind,
+    kind: IndexKind,
     fact_changes: &[FactChange],
 ) -> Result<Vec<Edit<IndexEntry>>, AllocError>
-    ensures { IfOk result (λ v. v.items ≡ hashed_changes (hash_in order) fact_changes.now) }
+    ensures { IfOk result (λ v. v.items ≡ hashed_changes (hash_in kind) fact_changes.now) }
 {
     let mut changes = Vec::with_capacity(alloc, fact_changes.len())?;
-    for moved in fact_changes {
-        push_hashed(order, moved, &mut changes)?;
+    for fact_change in fact_changes {
+        push_hashed(kind, fact_change, &mut changes)?;
     }
     Ok(changes)
 }
@@ -120,14 +122,14 @@ fn hashed_changes(
 /// What fact changes edit in an index, in the order of its entries.
 fn sorted_changes(
     alloc: Global,
-    order: IndexKind,
+    kind: IndexKind,
     fact_changes: &[FactChange],
 ) -> Result<Vec<Edit<IndexEntry>>, AllocError>
     requires { (facts : TextMap Fact) × AreFactChanges facts fact_changes.now }
-    ensures changes { IfOk result (λ v. IsPermutation (hashed_changes (hash_in order) fact_changes.now) v.items) }
+    ensures changes { IfOk result (λ v. IsPermutation (hashed_changes (hash_in kind) fact_changes.now) v.items) }
     ensures rising { IfOk result (λ v. IsRising hashed_cmp (map entry_of v.items)) }
 {
-    let mut changes = hashed_changes(alloc, order, fact_changes)?;
+    let mut changes = hashed_changes(alloc, kind, fact_changes)?;
     changes.sort_unstable_by(|one, other| one.entry().order(other.entry()));
     Ok(changes)
 }
@@ -135,14 +137,14 @@ fn sorted_changes(
 /// The index of the facts after these fact changes.
 pub(crate) fn index_after(
     alloc: Global,
-    order: IndexKind,
+    kind: IndexKind,
     index: &Paged<IndexEntry>,
     fact_changes: &[FactChange],
 ) -> Result<Paged<IndexEntry>, AllocError>
     requires { (facts : TextMap Fact) × AreFactChanges facts fact_changes.now }
-    ensures { IfOk result (λ next. IsIndexAfter (hash_in order) fact_changes.now index.now next) }
+    ensures { IfOk result (λ next. IsIndexAfter (hash_in kind) fact_changes.now index.now next) }
 {
-    let changes = sorted_changes(alloc, order, fact_changes)?;
+    let changes = sorted_changes(alloc, kind, fact_changes)?;
     let next = index.after(alloc, &changes);
     drop(changes);
     next
@@ -151,14 +153,14 @@ pub(crate) fn index_after(
 /// The index of the facts after these fact changes, in place where no other index holds what changes.
 pub(crate) fn index_into_after(
     alloc: Global,
-    order: IndexKind,
+    kind: IndexKind,
     index: Paged<IndexEntry>,
     fact_changes: &[FactChange],
 ) -> Result<Paged<IndexEntry>, AllocError>
     requires { (facts : TextMap Fact) × AreFactChanges facts fact_changes.now }
-    ensures { IfOk result (λ next. IsIndexAfter (hash_in order) fact_changes.now index next) }
+    ensures { IfOk result (λ next. IsIndexAfter (hash_in kind) fact_changes.now index next) }
 {
-    let (changes, index) = beside(sorted_changes(alloc, order, fact_changes), index)?;
+    let (changes, index) = pair(sorted_changes(alloc, kind, fact_changes), index)?;
     let next = index.into_after(alloc, &changes);
     drop(changes);
     next
@@ -166,15 +168,15 @@ pub(crate) fn index_into_after(
 
 /// Pushes what a fact change edits in the map by identifiers.
 fn push_by_id(
-    moved: &FactChange,
+    fact_change: &FactChange,
     changes: &mut Vec<Edit<NamedValue<IndexedFact>>>,
 ) -> Result<(), AllocError>
     ensures { OnOk result (changes.new.items
-        ≡ changes.old.items ++ id_change moved.now.id moved.now.old moved.now.new) }
+        ≡ changes.old.items ++ id_change fact_change.now.id fact_change.now.old fact_change.now.new) }
 {
-    if let Some(new) = moved.new() {
+    if let Some(new) = fact_change.new() {
         changes.push(Edit::Put(new.share()?))?;
-    } else if let Some(old) = moved.old() {
+    } else if let Some(old) = fact_change.old() {
         changes.push(Edit::Remove(old.share()?))?;
     }
     Ok(())
@@ -188,8 +190,8 @@ fn changes_by_id(
     ensures { IfOk result (λ v. v.items ≡ id_changes fact_changes.now) }
 {
     let mut changes = Vec::with_capacity(alloc, fact_changes.len())?;
-    for moved in fact_changes {
-        push_by_id(moved, &mut changes)?;
+    for fact_change in fact_changes {
+        push_by_id(fact_change, &mut changes)?;
     }
     Ok(changes)
 }
@@ -218,7 +220,7 @@ pub(crate) fn ids_into_after(
     requires { (facts : TextMap Fact) × AreFactChanges facts fact_changes.now }
     ensures { IfOk result (λ next. next ≡ map_with_changes (id_changes fact_changes.now) by_id) }
 {
-    let (changes, by_id) = beside(changes_by_id(alloc, fact_changes), by_id)?;
+    let (changes, by_id) = pair(changes_by_id(alloc, fact_changes), by_id)?;
     let next = by_id.into_after(alloc, &changes);
     drop(changes);
     next

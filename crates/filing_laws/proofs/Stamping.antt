@@ -1,6 +1,7 @@
 -- Versions, their numbers, and stamps.
 pub mod VersionChain
 pub mod RisingNumbers
+pub mod CountedVersions
 pub mod NewestNumbers
 pub mod Stamps
 pub mod TouchedRanges

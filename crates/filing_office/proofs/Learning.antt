@@ -23,7 +23,7 @@ use Rattle.filing_step.specs.Steps.{call_in}
 use Rattle.filing_publish.specs.Lists.{EndsWith, IsLonger}
 use Rattle.filing_publish.proofs.Chains.{added}
 use Rattle.filing_office.specs.declared.outcome.Outcome.{Outcome}
-use Rattle.filing_office.specs.Runs.{RunState, NamedDeskState, HasLearnt, IsLearnt, IsWithin, IsReviewedFrom, Learns, Opens, OpensUnder, ReviewOpens, receipt_in, reviewed}
+use Rattle.filing_office.specs.Runs.{RunState, NamedDeskState, HasLearnt, IsLearnt, IsWithin, IsReviewedFrom, Learns, Opens, OpensUnder, ReviewOpens, receipt_in, reply_of_review}
 
 pub prefix_length : {X : Type 0} (xs ys : List X) → IsPrefix xs ys → length xs ≤ length ys
 prefix_length xs ys p = omega (arith, ap length p.1, length-append xs p.0)
@@ -63,12 +63,12 @@ last_number versions last chain newest =
     omega (arith, before, ap length newest.1, length-append newest.0 (last ∷ []))
 
 -- what a review is told by a call
-pub reviewed_call : (last : Repository) (step : Step) (call : Call) → Some call ≡ call_in step → reviewed last step ≡ (answer Review call last).0
-reviewed_call last (Ask asked) call is = ap (λ c. (answer Review c last).0) (sym (same_Some call asked is))
-reviewed_call last (Load name r) call is = absurd (none-some call (sym is))
-reviewed_call last (Open kind) call is = absurd (none-some call (sym is))
-reviewed_call last Commit call is = absurd (none-some call (sym is))
-reviewed_call last Close call is = absurd (none-some call (sym is))
+pub reply_of_review_call : (last : Repository) (step : Step) (call : Call) → Some call ≡ call_in step → reply_of_review last step ≡ (answer Review call last).0
+reply_of_review_call last (Ask asked) call is = ap (λ c. (answer Review c last).0) (sym (same_Some call asked is))
+reply_of_review_call last (Load name r) call is = absurd (none-some call (sym is))
+reply_of_review_call last (Open kind) call is = absurd (none-some call (sym is))
+reply_of_review_call last Commit call is = absurd (none-some call (sym is))
+reply_of_review_call last Close call is = absurd (none-some call (sym is))
 
 pub some_of : {X : Type 0} (o : Option X) → IsSome o → (x : X) × (o ≡ Some x)
 some_of (Some x) is = (x, refl)
@@ -99,7 +99,8 @@ module _ {J E : Type 0} (s t : NamedDeskState) (told : List (Outcome J)) (seen l
       goes_on = subst (λ xs. IsPrefix xs now) (same_Some seen was (sym had ∙ is)) (prefix_trans seen learned now begins goes_on);
       chain = chain;
       newest = newest;
-      not_older = all_within_more (length learned) (last.count + 1) told (omega (arith, prefix_length learned now goes_on, last_number now last chain newest)) all;
+      not_older = all_within_more (length learned) (last.count + 1) told
+          (omega (arith, prefix_length learned now goes_on, last_number now last chain newest)) all;
     },
     left,
   )
@@ -110,8 +111,10 @@ module _ {J E : Type 0} (s t : NamedDeskState) (told : List (Outcome J)) (seen l
   )
 
 -- want of memory while receipts were learnt
-module _ (s t : NamedDeskState) (seen now : List Repository) (had : s.state.seen ≡ Some seen) (left : t.state ≡ record s.state { seen = Some now }) (begins : IsPrefix seen now) where
-  pub stopped_from : (was : List Repository) → s.state.seen ≡ Some was → (now_seen : List Repository) × IsPrefix was now_seen × (t.state ≡ record s.state { seen = Some now_seen })
+module _ (s t : NamedDeskState) (seen now : List Repository) (had : s.state.seen ≡ Some seen) (left : t.state ≡ record s.state { seen = Some now })
+    (begins : IsPrefix seen now) where
+  pub stopped_from : (was : List Repository) → s.state.seen ≡ Some was
+      → (now_seen : List Repository) × IsPrefix was now_seen × (t.state ≡ record s.state { seen = Some now_seen })
   stopped_from was is = (now, subst (λ xs. IsPrefix xs now) (same_Some seen was (sym had ∙ is)) begins, left)
 
 pub ok_of : {T E : Type 0} {P : Type 0} (r : Result T E) → OnOk r P → is_ok r ≡ true → P
@@ -139,7 +142,8 @@ all_known i reviewer seen now told r is begins known good others =
     (subst (λ xs. All (IsWithin (length now)) xs) (take_rest told i) (ok_of r others good))
 
 -- an opening to review where there is a reviewer
-pub opens_review : {J : Type 0} (s t : RunState) (told : List (Outcome J)) (name : Text) (kind : Kind) (o : Outcome J) → get s.names name ≡ None → kind ≡ Review → IsSome s.seen
+pub opens_review : {J : Type 0} (s t : RunState) (told : List (Outcome J)) (name : Text) (kind : Kind) (o : Outcome J) → get s.names name ≡ None
+    → kind ≡ Review → IsSome s.seen
     → ((seen : List Repository) → s.seen ≡ Some seen → ReviewOpens s t told name seen o) → OpensUnder s t told name kind (get s.names name) o
 opens_review s t told name kind o free is there opens =
     subst (λ p. OpensUnder s t told name kind p o) (sym free) (subst (λ k. Opens s t told name k s.seen o) (sym is) (at s.seen refl there))
@@ -164,7 +168,8 @@ learnt_before s told now o known is = record {
     at (Some seen) has = subst (λ os. All (IsWithin (length seen)) os) (sym (take-append-le s.learnt told (o ∷ []) known.few)) has
 
 -- receipts that are learnt, all or some
-module _ {J : Type 0} (s t : RunState) (told : List (Outcome J)) (seen now : List Repository) (had : s.seen ≡ Some seen) (left : t ≡ record s { seen = Some now }) (begins : IsPrefix seen now) where
+module _ {J : Type 0} (s t : RunState) (told : List (Outcome J)) (seen now : List Repository) (had : s.seen ≡ Some seen)
+    (left : t ≡ record s { seen = Some now }) (begins : IsPrefix seen now) where
   pub learns : {A E : Type 0} (r : Result A E) → OnOk r (All (IsWithin (length now)) told) → Learns s t told s.seen r
   learns {A} {E} r all = subst (λ o. Learns {A = A} {E = E} s t told o r) (sym had) (at r all)
     where

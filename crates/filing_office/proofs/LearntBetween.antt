@@ -1,4 +1,5 @@
--- A desk that takes its steps some at a time, and lets outcomes go once its reviewer has learnt their receipts: what its steps become is what they become where nothing is let go.
+-- A desk may take its steps some at a time, and let outcomes go once its reviewer has learnt their receipts.
+-- Its steps then become what they become where nothing is let go.
 use Rattle.std.proofs.Common.{◌≡◌, ◌∙◌, ap, sym, subst, refl, arith, ℕ, ◌+◌, ◌≤◌, cond, Bool, true, false, List, [], ◌∷◌, ◌++◌, length, append_assoc, append-nil, Option, Some, None, string_bytes}
 use Rattle.std.specs.Prelude.{All, Ok, Err}
 use Rattle.std.proofs.lemmas.List.Elements.{All-append}

@@ -1,5 +1,6 @@
 -- What the lock's value keeps, and what a step on it is answered.
-use Rattle.std.proofs.Common.{◌≡◌, ◌∙◌, ap, sym, refl, subst, ℕ, ◌+◌, Bool, true, false, cond, List, [], ◌∷◌, ◌++◌, Option, Some, None, is_some, option_map, length, arith}
+use Rattle.std.proofs.Common.{◌≡◌, ◌∙◌, ap, sym, refl, subst, ℕ, ◌+◌, Bool, true, false, cond, List, [], ◌∷◌, ◌++◌, Option, Some, None}
+use Rattle.std.proofs.Common.{is_some, option_map, length, arith}
 use Rattle.std.specs.Option.{option_map_or}
 use Rattle.filing_model.specs.Sessions.Repository.{Repository}
 use Rattle.filing_model.specs.Sessions.Replies.{Reply}
@@ -8,14 +9,15 @@ use Rattle.filing_model.specs.Histories.Touches.{number_in}
 use Rattle.filing_model.specs.Histories.Lawful.{IsLawful, entered_under}
 use Rattle.filing_model.specs.Histories.Versions.{counts, versions, IsChain}
 use Rattle.filing_laws.proofs.Stamping.VersionChain.{versions_are_a_chain}
-use Rattle.filing_version.specs.Filed.{StampedReports, repository_in}
+use Rattle.filing_version.specs.StampedReports.{StampedReports, repository_in}
 use Rattle.filing_step.specs.Steps.{reply_of}
 use Rattle.filing_core.specs.Answers.{IsEntered}
 use Rattle.filing_core.specs.Prepared.{Preparation, MayFollow, IsPreparedFor, is_load_or_commit}
 use Rattle.filing_office.specs.Answers.{IsTold, IsSettled}
 use Rattle.filing_office.specs.Tallies.{Tally, IsReceipted, IsCounted}
 use Rattle.filing_office.specs.declared.answer.Answer.{Answer}
-use Rattle.filing_office.proofs.Numbered.{makes_none, one_more, no_more, count_after, told_number}
+use Rattle.filing_laws.proofs.Stamping.CountedVersions.{one_more, no_more, count_after, told_number}
+use Rattle.filing_office.proofs.Numbered.{makes_none}
 
 module _ (old new : History) (session : Option ℕ) (step : Step) (r : Reply) where
   -- the entry, and that it is lawful
@@ -53,7 +55,8 @@ module _ (h : History) (p : Preparation) (follows : MayFollow h p) where
   pub chain_with : (v : StampedReports) → p.next ≡ Some v → IsChain (versions h ++ repository_in v ∷ [])
   chain_with v is = subst IsChain (versions_with (Some v) is) (versions_are_a_chain (p.entry ∷ h) follows.lawful)
 
-  receipt_at : (next : Option StampedReports) → p.next ≡ next → (after : List Repository) → option_map (λ _. after) next ≡ cond (counts p.entry.reply) (Some after) None
+  receipt_at : (next : Option StampedReports) → p.next ≡ next → (after : List Repository)
+      → option_map (λ _. after) next ≡ cond (counts p.entry.reply) (Some after) None
   receipt_at (Some v) is after = sym (ap (λ b. cond b (Some after) None) (sym follows.counts_so ∙ ap is_some is))
   receipt_at None is after = sym (ap (λ b. cond b (Some after) None) (sym follows.counts_so ∙ ap is_some is))
 
@@ -100,7 +103,8 @@ module _ (h kept new : History) (session : Option ℕ) (step : Step) (p : Prepar
     entered = record {
       told = prepared.told ∙ ap Some (sym settled.replied);
       entry = entered
-          ∙ ap (λ e. e ∷ h) (prepared.entry ∙ ap (λ (y : Reply). record { session = entered_under h session step; step = step; reply = y }) (sym settled.replied));
+          ∙ ap (λ e. e ∷ h)
+          (prepared.entry ∙ ap (λ (y : Reply). record { session = entered_under h session step; step = step; reply = y }) (sym settled.replied));
       lawful = subst IsLawful (sym entered) prepared.follows.lawful;
     };
     under = settled.under ∙ ap (λ (e : Entry). e.session) prepared.entry;

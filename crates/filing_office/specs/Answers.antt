@@ -13,7 +13,8 @@ use Rattle.filing_office.specs.declared.answer.Answer.{Answer}
 use Rattle.filing_office.specs.declared.ready_step.ReadyStep.{ReadyStep}
 use Rattle.filing_office.specs.declared.ready_step.ReadyStep.TheVariants as ready
 
--- one entry more, of which the answer tells the session and the reply; a receipt, there exactly where the entry makes a version, has the versions of the history as it is then
+-- one entry more, whose session and reply the answer tells
+-- a receipt is there exactly where the entry makes a version, and has the versions of the history as it is then
 pub record IsTold {J : Type 0} (old new : History) (session : Option ℕ) (step : Step) (a : Answer J) : Type 0 where
   pub entered : IsEntered old new session step (reply_of a.reply)
   pub under : a.session ≡ entered_under old session step

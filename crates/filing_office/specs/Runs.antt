@@ -105,19 +105,19 @@ OpensUnder s t told name kind None o = Opens s t told name kind s.seen o
 
 -- ---- steps of sessions
 
-abbrev pub ends : Step → Bool
-ends Commit = true
-ends Close = true
-ends _ = false
+abbrev pub ends_session : Step → Bool
+ends_session Commit = true
+ends_session Close = true
+ends_session _ = false
 
 -- the names once the step of the session with this name is answered
 abbrev pub names_after : Step → Text → TextMap SessionPlace → TextMap SessionPlace
-names_after step name names = cond (ends step) (remove names name) names
+names_after step name names = cond (ends_session step) (remove names name) names
 
 -- what a review is told at its version
-abbrev pub reviewed : Repository → Step → Reply
-reviewed last (Ask call) = (answer Review call last).0
-reviewed last _ = reply.Closed
+abbrev pub reply_of_review : Repository → Step → Reply
+reply_of_review last (Ask call) = (answer Review call last).0
+reply_of_review last _ = reply.Closed
 
 -- under the lock a session may have been ended by somebody else, and its name is then free
 abbrev pub GoesOnAt : {J : Type 0} → RunState → RunState → Text → Step → SessionPlace → Outcome J → Type 0
@@ -126,7 +126,7 @@ GoesOnAt s t name step (place.Office number) (Answered a) = (a.session ≡ Some 
 GoesOnAt s t name step (place.Office number) NoSession = t ≡ record s { names = remove s.names name }
 GoesOnAt s t name step (place.Office number) NoMemory = t ≡ s
 GoesOnAt s t name step (place.Office number) NameInUse = ⊥
-GoesOnAt s t name step (place.Review last) (Answered a) = IsReviewed a (reviewed last step)
+GoesOnAt s t name step (place.Review last) (Answered a) = IsReviewed a (reply_of_review last step)
     × (t ≡ record s { names = names_after step name s.names })
 GoesOnAt s t name step (place.Review last) NoMemory = t ≡ s
 GoesOnAt s t name step (place.Review last) _ = ⊥

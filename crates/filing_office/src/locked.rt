@@ -99,7 +99,7 @@ impl<L: Ledger + Naming, M: Ledger> Locked<L, M> {
         } = self;
         steps.audit(&mut all_steps);
         receipts.audit(&mut all_receipts);
-        put_together(desks, &mut all_steps, &mut all_receipts);
+        merge_shares(desks, &mut all_steps, &mut all_receipts);
         steps.audit(&mut all_steps);
         receipts.audit(&mut all_receipts);
         shared.close(rt)
@@ -118,7 +118,7 @@ impl<L: Ledger + Naming, M: Ledger> Locked<L, M> {
 }
 
 /// Puts the shares of desks to others.
-fn put_together<L: Ledger, M: Ledger>(
+fn merge_shares<L: Ledger, M: Ledger>(
     mut desks: Vec<Desk<L, M>>,
     steps: &mut Share<L>,
     receipts: &mut Share<M>,

@@ -9,7 +9,7 @@ ghost use Rattle.filing_office.specs.Answers.{is_of_session};
 ghost use Rattle.filing_office.specs.declared.outcome.Outcome.{Outcome as Told};
 ghost use Rattle.filing_office.specs.declared.outcome.Outcome.TheVariants.{Answered};
 ghost use Rattle.filing_office.specs.declared.session_place.SessionPlace.TheVariants as place;
-ghost use Rattle.filing_office.specs.Runs.{ends, names_after, reviewed, outcome_of, Loads, OpensUnder, OfficeOpens, ReviewOpens, StepsUnder, GoesOnAt, Goes, IsReviewedFrom, IsLearnt, IsWithin, Learns};
+ghost use Rattle.filing_office.specs.Runs.{ends_session, names_after, reply_of_review, outcome_of, Loads, OpensUnder, OfficeOpens, ReviewOpens, StepsUnder, GoesOnAt, Goes, IsReviewedFrom, IsLearnt, IsWithin, Learns};
 
 use crate::access::Access;
 use crate::answer::Answer;
@@ -19,12 +19,13 @@ use crate::session_place::SessionPlace;
 use crate::work::DeskStep;
 use filing_core::{CoreFault, Step};
 use filing_publish::{Naming, Review, Reviewer};
-use filing_step::{Kind, Reply, SessionNames};
+use filing_step::{Kind, Reply};
 use oim_report::Report;
 use std::alloc::{AllocError, Global};
 use std::marker::Model;
 use std::sync::Arc;
 use std::sync::ledger::Ledger;
+use text_map::NameMap;
 
 /// A desk that takes steps under names. Contracts see what is known of it, and of how many outcomes its reviewer has learnt the receipts.
 #[derive(Drop)]
@@ -32,7 +33,7 @@ pub struct NamedDesk<L: Ledger + Naming, M: Ledger> {
     alloc: Global,
     desk: Desk<L, M>,
     reviewer: Option<Reviewer<L>>,
-    names: SessionNames<SessionPlace>,
+    names: NameMap<SessionPlace>,
     learnt: usize,
 }
 
@@ -48,8 +49,8 @@ impl<L: Ledger + Naming, M: Ledger> Model for NamedDesk<L, M> {
 }
 
 /// Whether a session ends by the step.
-fn ends(step: &Step) -> bool
-    ensures { result ≡ ends (step_of step.now) }
+fn ends_session(step: &Step) -> bool
+    ensures { result ≡ ends_session (step_of step.now) }
 {
     match step {
         Step::Commit | Step::Close => true,
@@ -58,8 +59,8 @@ fn ends(step: &Step) -> bool
 }
 
 /// The reply that a review gives to a step of its session.
-fn reviewed(alloc: Global, review: &Review, step: Step) -> Result<Reply, AllocError>
-    ensures { IfOk result (λ r. reply_of r ≡ reviewed review.now (step_of step)) }
+fn reply_of_review(alloc: Global, review: &Review, step: Step) -> Result<Reply, AllocError>
+    ensures { IfOk result (λ r. reply_of r ≡ reply_of_review review.now (step_of step)) }
 {
     match step.into_call() {
         Some(call) => review.call(alloc, call),
@@ -68,7 +69,7 @@ fn reviewed(alloc: Global, review: &Review, step: Step) -> Result<Reply, AllocEr
 }
 
 /// The answer of a review, which has neither a session nor a receipt.
-fn of_review<J: Naming>(reply: Reply) -> Outcome<J>
+fn review_outcome<J: Naming>(reply: Reply) -> Outcome<J>
     ensures { result ≡ Answered (record { session = None; reply = reply; receipt = None }) }
 {
     Outcome::Answered(Answer {
@@ -113,7 +114,7 @@ impl<L: Ledger + Naming, M: Ledger> NamedDesk<L, M> {
             alloc,
             desk,
             reviewer,
-            names: SessionNames::new(alloc),
+            names: NameMap::new(alloc),
             learnt: 0,
         }
     }
@@ -242,7 +243,7 @@ impl<L: Ledger + Naming, M: Ledger> NamedDesk<L, M> {
     {
         let review = self.review(told)?;
         self.names.insert(name, SessionPlace::Review(review))?;
-        Ok(of_review(Reply::Opened))
+        Ok(review_outcome(Reply::Opened))
     }
 
     /// Opens a session under a name. The lock is kept over the opening of a review.
@@ -271,7 +272,7 @@ impl<L: Ledger + Naming, M: Ledger> NamedDesk<L, M> {
     }
 
     /// Frees a name whose session has ended.
-    fn leave(&mut self, name: &str, ended: bool)
+    fn free_name(&mut self, name: &str, ended: bool)
         ensures { self.new ≡ record self.old {
           state = record self.old.state {
             names = cond ended (remove self.old.state.names name.now) self.old.state.names;
@@ -296,14 +297,14 @@ impl<L: Ledger + Naming, M: Ledger> NamedDesk<L, M> {
             (outcome_of result) }
         ensures learnt { self.new.learnt ≡ self.old.learnt }
     {
-        let ended = ends(&step);
+        let ended = ends_session(&step);
         match access.step(&mut self.desk, Some(number), step) {
             Ok(answer) => {
-                self.leave(name, ended);
+                self.free_name(name, ended);
                 Ok(Outcome::Answered(answer))
             }
             Err(CoreFault::NoSession) => {
-                self.leave(name, true);
+                self.free_name(name, true);
                 Ok(Outcome::NoSession)
             }
             Err(CoreFault::NoMemory) => Err(AllocError),
@@ -312,7 +313,7 @@ impl<L: Ledger + Naming, M: Ledger> NamedDesk<L, M> {
 
     /// Takes a step of the session of a name. The lock is given back for what a review reads.
     /// It is kept over the end of a review, which takes less than to come by the lock again.
-    fn go_on<A: Access<L, M>>(
+    fn step_in_session<A: Access<L, M>>(
         &mut self,
         access: &mut A,
         name: &str,
@@ -333,19 +334,19 @@ impl<L: Ledger + Naming, M: Ledger> NamedDesk<L, M> {
                 self.step_at_office(access, name, number, step)
             }
             Some(SessionPlace::Review(review)) => {
-                let is_end = ends(&step);
+                let is_end = ends_session(&step);
                 if !is_end {
                     access.leave();
                 }
-                let reply = reviewed(self.alloc, review, step)?;
-                self.leave(name, is_end);
-                Ok(of_review(reply))
+                let reply = reply_of_review(self.alloc, review, step)?;
+                self.free_name(name, is_end);
+                Ok(review_outcome(reply))
             }
         }
     }
 
     /// Takes a step, or reports out of memory.
-    fn go<A: Access<L, M>>(
+    fn try_take<A: Access<L, M>>(
         &mut self,
         access: &mut A,
         step: DeskStep,
@@ -360,7 +361,7 @@ impl<L: Ledger + Naming, M: Ledger> NamedDesk<L, M> {
         match step {
             Step::Load(report_name, report) => self.load(access, report_name, report),
             Step::Open(kind) => self.open(access, name, kind, told),
-            step => self.go_on(access, &name, step),
+            step => self.step_in_session(access, &name, step),
         }
     }
 
@@ -375,7 +376,7 @@ impl<L: Ledger + Naming, M: Ledger> NamedDesk<L, M> {
         ensures goes { Goes self.old.state self.new.state told.now (string_bytes step.name) (step_of step.step) result }
         ensures learnt { IsLearnt self.new told.now }
     {
-        match self.go(access, step, told) {
+        match self.try_take(access, step, told) {
             Ok(outcome) => outcome,
             Err(AllocError) => Outcome::NoMemory,
         }

@@ -5,7 +5,7 @@ ghost use Rattle.std.specs.Option.{option_map_or};
 ghost use Rattle.filing_model.specs.Sessions.Repository.{nothing};
 ghost use Rattle.filing_model.specs.Histories.History.{Entry, History, Load};
 ghost use Rattle.filing_model.specs.Histories.Versions.{IsChain, versions};
-ghost use Rattle.filing_version.specs.Filed.{StampedReports, repository_in};
+ghost use Rattle.filing_version.specs.StampedReports.{StampedReports, repository_in};
 ghost use Rattle.filing_step.specs.Steps.{step_of};
 ghost use Rattle.filing_core.specs.Prepared.{MayFollow};
 ghost use Rattle.filing_office.specs.Answers.{ApplyAnswers, IsSettled, step_made_ready};
@@ -55,8 +55,8 @@ fn publish_next<J: Naming, R: Wait>(
     match prepared.next() {
         None => Ok(None),
         Some(version) => {
-            let issue = PendingPublish::of(version)?;
-            Ok(Some(publisher.publish(rt, issue)))
+            let pending = PendingPublish::of(version)?;
+            Ok(Some(publisher.publish(rt, pending)))
         }
     }
 }

@@ -2,7 +2,7 @@
 
 ghost use Rattle.std.specs.Prelude.{◌≡◌, ◌+◌, length, IfOk};
 ghost use Rattle.std.specs.Arc.{arc_value};
-ghost use Rattle.filing_version.specs.Filed.{repository_in};
+ghost use Rattle.filing_version.specs.StampedReports.{repository_in};
 ghost use Rattle.filing_publish.specs.Lists.{IsEdition, IsLastCount, IsLonger, EndsWith};
 
 use crate::law::{Law, Version};
@@ -27,7 +27,7 @@ impl Model for Edition {
     ghost Value = { Listed };
 
     ghost use Rattle.std.specs.Arc.{arc_value};
-    ghost use Rattle.filing_version.specs.Filed.{repository_in};
+    ghost use Rattle.filing_version.specs.StampedReports.{repository_in};
 
     ghost view = { λ e. record { book = e.seen.book; versions = e.seen.log } };
 
@@ -55,7 +55,7 @@ impl Edition {
     }
 
     /// The edition once more. Its version is shared.
-    pub(crate) fn again(&self) -> Result<Edition, AllocError>
+    pub(crate) fn share(&self) -> Result<Edition, AllocError>
         ensures { IfOk result (λ e. e ≡ self.now) }
     {
         Ok(Edition {
@@ -65,7 +65,7 @@ impl Edition {
     }
 
     /// The longer of two editions of one book.
-    pub(crate) fn longer(&self, other: &Edition) -> Result<Edition, AllocError>
+    pub(crate) fn longer_of(&self, other: &Edition) -> Result<Edition, AllocError>
         requires { other.now.book ≡ self.now.book }
         ensures book { IfOk result (λ e. e.book ≡ self.now.book) }
         ensures longer { IfOk result (λ e. IsLonger self.now.versions other.now.versions e.versions) }
@@ -74,9 +74,9 @@ impl Edition {
         let mut both = self.seen.again();
         both.learn(&other.seen);
         if self.number() < other.number() {
-            other.again()
+            other.share()
         } else {
-            self.again()
+            self.share()
         }
     }
 

@@ -14,7 +14,7 @@ impl Model for Version {
 
     ghost Value = { Repository };
 
-    ghost use Rattle.filing_version.specs.Filed.{repository_in};
+    ghost use Rattle.filing_version.specs.StampedReports.{repository_in};
 
     ghost view = { λ v. repository_in v.version };
 }
@@ -61,7 +61,7 @@ impl Play<Version, u64> for Add {
 
 impl Plain<RepoVersion, Version, u64> for Add {
     ghost use Rattle.std.specs.Prelude.{None};
-    ghost use Rattle.filing_version.specs.Filed.{repository_in};
+    ghost use Rattle.filing_version.specs.StampedReports.{repository_in};
 
     ghost ask = { λ v. repository_in v };
 

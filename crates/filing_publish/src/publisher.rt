@@ -4,7 +4,7 @@ ghost use Rattle.std.specs.Prelude.{◌≡◌, ◌+◌, ◌<◌, ◌≤◌, ◌^
 ghost use Rattle.std.specs.Arc.{arc_value};
 ghost use mathlib.Core.List.{IsPrefix};
 ghost use Rattle.filing_model.specs.Sessions.Repository.{nothing};
-ghost use Rattle.filing_version.specs.Filed.{repository_in};
+ghost use Rattle.filing_version.specs.StampedReports.{repository_in};
 
 use crate::edition::Edition;
 use crate::fault::OfficeFault;
@@ -35,16 +35,16 @@ impl Model for PendingPublish {
 
     ghost use Rattle.std.specs.Prelude.{◌≡◌};
     ghost use Rattle.std.specs.Arc.{arc_value};
-    ghost use Rattle.filing_version.specs.Filed.{repository_in};
+    ghost use Rattle.filing_version.specs.StampedReports.{repository_in};
 
-    ghost view = { λ i. repository_in (arc_value i.shown) };
+    ghost view = { λ p. repository_in (arc_value p.shown) };
 
-    ghost invariant = { λ i. arc_value i.told ≡ arc_value i.shown };
+    ghost invariant = { λ p. arc_value p.told ≡ arc_value p.shown };
 }
 
 impl PendingPublish {
     pub fn of(version: &Arc<RepoVersion>) -> Result<PendingPublish, AllocError>
-        ensures { IfOk result (λ i. i ≡ repository_in (arc_value version.now)) }
+        ensures { IfOk result (λ p. p ≡ repository_in (arc_value version.now)) }
     {
         Ok(PendingPublish {
             shown: Arc::try_clone(version)?,
@@ -111,7 +111,7 @@ impl<J: Naming> Publisher<J> {
         let UnopenedLog { head, seen } = unopened_log;
         let version = Arc::new(alloc, RepoVersion::empty(alloc))?;
         let beginning = Edition { version, seen };
-        let writer = Writer::new(alloc, beginning.again()?, beginning.again()?, reviewers)?;
+        let writer = Writer::new(alloc, beginning.share()?, beginning.share()?, reviewers)?;
         let publisher = Publisher { head, writer };
         match publisher.places(alloc, &beginning, reviewers) {
             Ok(places) => Ok((publisher, places)),
@@ -135,7 +135,7 @@ impl<J: Naming> Publisher<J> {
     {
         let mut places = Vec::with_capacity(alloc, reviewers)?;
         for _ in 0..reviewers {
-            let newest = beginning.again()?;
+            let newest = beginning.share()?;
             let Ok(place) = self.writer.factory().reader() else {
                 return Err(OfficeFault::NoPlace);
             };
@@ -148,7 +148,7 @@ impl<J: Naming> Publisher<J> {
     }
 
     /// The edition that readers see.
-    pub fn published(&self) -> &Edition
+    pub fn edition(&self) -> &Edition
         ensures { (result.now.versions ≡ self.now) × (result.now.book ≡ J.book) }
     {
         self.writer.published()
@@ -159,7 +159,7 @@ impl<J: Naming> Publisher<J> {
         requires { IsChain (self.now ++ repository_in version.now ∷ []) }
         ensures { (result.book ≡ J.book) × (result.log ≡ self.now ++ repository_in version.now ∷ []) }
     {
-        let mut seen = self.published().seen.again();
+        let mut seen = self.edition().seen.again();
         let mut offer: Offer<Version, u64, Law, Nothing> = seen.plain::<Nothing, RepoVersion, Add>(
             version,
         );
@@ -185,12 +185,12 @@ impl<J: Naming> Publisher<J> {
     }
 
     /// Adds a version and shows it to the readers. It takes no memory; it waits for those that still read the version before the last.
-    pub fn publish<R: Wait>(&mut self, rt: &R, issue: PendingPublish) -> Receipt<J>
-        requires { IsChain (self.old ++ issue ∷ []) }
-        ensures published { self.new ≡ self.old ++ issue ∷ [] }
+    pub fn publish<R: Wait>(&mut self, rt: &R, pending: PendingPublish) -> Receipt<J>
+        requires { IsChain (self.old ++ pending ∷ []) }
+        ensures published { self.new ≡ self.old ++ pending ∷ [] }
         ensures told { result ≡ self.new }
     {
-        let PendingPublish { shown, told } = issue;
+        let PendingPublish { shown, told } = pending;
         let seen = self.add(rt, &shown);
         let receipt = Receipt {
             edition: Edition {

@@ -8,7 +8,7 @@ ghost use Rattle.filing_model.specs.declared.kind.Kind.TheVariants as kind;
 ghost use Rattle.oim_fact.specs.Texts.{text_view};
 ghost use Rattle.filing_step.specs.PeriodFilter.{period_filter_of};
 ghost use Rattle.filing_step.specs.Steps.{call_of, reply_of};
-ghost use Rattle.filing_version.specs.Filed.{repository_in};
+ghost use Rattle.filing_version.specs.StampedReports.{repository_in};
 
 use filing_session::reply_at;
 use filing_step::{Call, Limit, PageQuery, PeriodFilter, Reply};
@@ -30,7 +30,7 @@ impl Model for Review {
     ghost Value = { Repository };
 
     ghost use Rattle.std.specs.Arc.{arc_value};
-    ghost use Rattle.filing_version.specs.Filed.{repository_in};
+    ghost use Rattle.filing_version.specs.StampedReports.{repository_in};
 
     ghost view = { λ r. repository_in (arc_value r.version) };
 }

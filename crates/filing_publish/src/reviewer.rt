@@ -27,10 +27,10 @@ fn look<J: Naming>(
 {
     match place.enter_as::<Looks<J>>() {
         Ok(reading) => {
-            let longer = newest.longer(reading.get());
+            let longer = newest.longer_of(reading.get());
             (longer, reading.leave())
         }
-        Err(place) => (newest.again(), place),
+        Err(place) => (newest.share(), place),
     }
 }
 
@@ -80,7 +80,7 @@ impl<J: Naming> Reviewer<J> {
         ensures chain { OnOk result (IsChain self.new) }
         ensures err { OnErr result (self.new ≡ self.old) }
     {
-        self.newest = self.newest.longer(&receipt.edition)?;
+        self.newest = self.newest.longer_of(&receipt.edition)?;
         Ok(())
     }
 

@@ -1,4 +1,5 @@
--- What stands in a repository with a change laid over it, and that a change with one more put or declared value, laid over it, is the put or the value made in what was laid before.
+-- What stands in a repository with a change laid over it. One more put or declared value in the change
+-- is that put or value made in what was laid before.
 use Rattle.std.proofs.Common.{◌≡◌, ◌∙◌, ap, sym, refl, Bool, true, false, cond, Option, Some, None, option_map, unwrap_or}
 use Rattle.std.specs.Option.{option_map_or}
 use Rattle.filing_model.specs.Common.Text.{Text, text_eq}

@@ -1,5 +1,6 @@
 -- A change without removals of what the base does not have, look-up by look-up, and that changes which look alike are one.
-use Rattle.std.proofs.Common.{◌≡◌, ◌∙◌, ap, sym, refl, Bool, true, false, cond, T, ◌&&◌, ◌||◌, filter, List, [], ◌∷◌, map, Option, Some, None, is_some, unwrap_or, Less, Equal, Greater, true≢false}
+use Rattle.std.proofs.Common.{◌≡◌, ◌∙◌, ap, sym, refl, Bool, true, false, cond, T, ◌&&◌, ◌||◌, filter, List, [], ◌∷◌, map, Option, Some}
+use Rattle.std.proofs.Common.{None, is_some, unwrap_or, Less, Equal, Greater, true≢false}
 use Rattle.std.specs.List.{list_any}
 use Rattle.std.specs.Option.{option_or}
 use Rattle.std.specs.FinMap.Entries.{find, by_order, put, is_sorted, below_all}
@@ -15,12 +16,12 @@ use Rattle.filing_model.specs.declared.duplicates.Allowed.{Allowed}
 use Rattle.filing_model.specs.declared.kind.Kind.TheVariants.{Amend}
 use Rattle.filing_model.proofs.Common.Texts.{text_same, text_cmp-Equal}
 use Rattle.filing_model.proofs.Common.TextMaps.{same_list, same_map, get-insert, get-from_entries}
-use Rattle.filing_model.proofs.Common.Tests.{first_holds, second_holds}
-use Rattle.filing_model.proofs.Common.MapsOfLists.{tied_is_not_found}
+use Rattle.filing_model.proofs.Common.Tests.{second_holds}
 use Rattle.filing_model.proofs.Common.FilteredEntries.{only, find-filter}
-use Rattle.filing_laws.proofs.Lists.WithOneValue.{last_value}
+use Rattle.filing_laws.proofs.Lists.WithOneValue.{last_value, or_none}
 use Rattle.filing_laws.proofs.Agreement.RunsAlike.{is_place}
 use Rattle.filing_laws.proofs.Touching.ChangedPlaces.{change_at-with_values, declared_in-with_values, declared_in-change_between}
+use Rattle.filing_laws.proofs.Updating.FirstFound.{none_behind}
 use Rattle.filing_laws.proofs.Updating.NetChanges.{change_at-change_between}
 use Rattle.filing_session.specs.States.{opened, after_calls}
 use Rattle.filing_session.specs.Runs.{is_put, pruned_report, is_more, changes_something, pruned, EachAmendmentStagesItsNetChange}
@@ -73,7 +74,8 @@ put_more id fact (e ∷ es) =
 full_with_change : (change : Change) (name id : Text) (fact : Option Fact) → IsFull change → IsFull (with_change change name id fact)
 full_with_change change name id fact full =
     full_with change name (record (change_in change name) { facts = insert (change_in change name).facts id fact })
-    (ap (λ b. is_some (change_in change name).declared || b) (put_more id fact (change_in change name).facts.entries) ∙ or_true (is_some (change_in change name).declared)) full
+    (ap (λ b. is_some (change_in change name).declared || b) (put_more id fact (change_in change name).facts.entries)
+    ∙ or_true (is_some (change_in change name).declared)) full
 
 full_with_declared : (change : Change) (name : Text) (value : Allowed) → IsFull change → IsFull (with_declared change name value)
 full_with_declared change name value full = full_with change name (record (change_in change name) { declared = Some value }) refl full
@@ -82,7 +84,8 @@ full_between : (opening copy : Repository) (places : List (Text × Text)) → Is
 full_between opening copy [] = λ m. refl
 full_between opening copy (p ∷ ps) = by (is_some (fact_at opening p.0 p.1) || is_some (fact_at copy p.0 p.1)) (full_between opening copy ps)
   where
-    by : (b : Bool) → IsFull (change_between opening copy ps) → IsFull (cond b (with_change (change_between opening copy ps) p.0 p.1 (fact_at copy p.0 p.1)) (change_between opening copy ps))
+    by : (b : Bool) → IsFull (change_between opening copy ps)
+        → IsFull (cond b (with_change (change_between opening copy ps) p.0 p.1 (fact_at copy p.0 p.1)) (change_between opening copy ps))
     by true full = full_with_change (change_between opening copy ps) p.0 p.1 (fact_at copy p.0 p.1) full
     by false full = full
 
@@ -105,22 +108,23 @@ find_pruned : (base : Repository) (m : Text) (es : List (Text × ReportChange)) 
 unfolding if_there
 find_pruned base m [] sorted = refl
 find_pruned base m (e ∷ es) sorted =
-    by (changes_something (pruned_report base e)) refl (text_eq m e.0) refl (find_pruned base m es (second_holds (below_all text_cmp e.0 es) (is_sorted text_cmp es) sorted))
+    by (changes_something (pruned_report base e)) refl (text_eq m e.0) refl
+    (find_pruned base m es (second_holds (below_all text_cmp e.0 es) (is_sorted text_cmp es) sorted))
   where
     rest : List (Text × ReportChange)
     rest = filter changes_something (map (pruned_report base) es)
 
-    gone : text_eq m e.0 ≡ true → find text_cmp m es ≡ None
-    gone same = tied_is_not_found m e.0 es same (first_holds (below_all text_cmp e.0 es) (is_sorted text_cmp es) sorted)
-
-    here : text_eq m e.0 ≡ true → (b : Bool) → changes_something (pruned_report base e) ≡ b → cond b (Some (without base e.0 e.1)) None ≡ if_any m (without base m e.1)
-    here same b is = ap (λ b. cond b (Some (without base e.0 e.1)) None) (sym is) ∙ (λ i. if_any (sym (text_same m e.0 same) i) (without base (sym (text_same m e.0 same) i) e.1))
+    here : text_eq m e.0 ≡ true → (b : Bool) → changes_something (pruned_report base e) ≡ b
+        → cond b (Some (without base e.0 e.1)) None ≡ if_any m (without base m e.1)
+    here same b is =
+        ap (λ b. cond b (Some (without base e.0 e.1)) None) (sym is)
+        ∙ (λ i. if_any (sym (text_same m e.0 same) i) (without base (sym (text_same m e.0 same) i) e.1))
 
     by : (some : Bool) → changes_something (pruned_report base e) ≡ some → (b : Bool) → text_eq m e.0 ≡ b
         → find text_cmp m rest ≡ if_there base m (find text_cmp m es)
         → find text_cmp m (cond some (pruned_report base e ∷ rest) rest) ≡ if_there base m (cond b (Some e.1) (find text_cmp m es))
     by true some true same later = ap (λ b. cond b (Some (without base e.0 e.1)) (find text_cmp m rest)) same ∙ here same true some
-    by false none true same later = later ∙ ap (if_there base m) (gone same) ∙ here same false none
+    by false none true same later = later ∙ ap (if_there base m) (none_behind m e es sorted same) ∙ here same false none
     by true some false other later = ap (λ b. cond b (Some (without base e.0 e.1)) (find text_cmp m rest)) other ∙ later
     by false none false other later = later
 
@@ -155,7 +159,8 @@ change_in-pruned base change m = ap (λ o. unwrap_or o no_change) (get_pruned ba
 full_pruned : (base : Repository) (change : Change) → IsFull (pruned base change)
 full_pruned base change m = get_pruned base change m ∙ ap (if_any m) (sym (change_in-pruned base change m))
 
-change_at-pruned : (base : Repository) (change : Change) (m q : Text) → change_at (pruned base change) m q ≡ only (λ put. is_put base m (q, put)) (change_at change m q)
+change_at-pruned : (base : Repository) (change : Change) (m q : Text)
+    → change_at (pruned base change) m q ≡ only (λ put. is_put base m (q, put)) (change_at change m q)
 change_at-pruned base change m q =
     ap (λ (x : ReportChange). get x.facts q) (change_in-pruned base change m)
     ∙ get-from_entries (filter (is_put base m) (change_in change m).facts.entries) q
@@ -176,16 +181,12 @@ module _ (base : Repository) (calls : List Call) where
   abbrev values : List (Text × Allowed)
   values = staged_values calls (solo_replies Amend base calls)
 
-  alone : (o : Option Allowed) → option_or o None ≡ o
-  alone None = refl
-  alone (Some value) = refl
-
   pub declared_as_net : (m : Text) → declared_in change m ≡ declared_in (net_change base calls (solo_replies Amend base calls)) m
   declared_as_net m =
       value_is base calls m
       ∙ sym (declared_in-with_values values (change_between base copy places) m
       ∙ ap (option_or (last_value m values)) (declared_in-change_between base copy places m)
-      ∙ alone (last_value m values))
+      ∙ or_none (last_value m values))
 
   same_values : (m : Text) → declared_in (pruned base change) m ≡ declared_in (net_change base calls (solo_replies Amend base calls)) m
   same_values m = ap (λ (x : ReportChange). x.declared) (change_in-pruned base change m) ∙ declared_as_net m

@@ -61,7 +61,7 @@ pub(crate) fn page(
     let copy = staging.copy(alloc)?;
     let period = period_of(&query.period);
     let (ids, cut) = match copy.query(&report, &query.concept, period, query.after.as_deref()) {
-        None => return Ok(Ready::nowhere(report)),
+        None => return Ok(Ready::no_report(report)),
         Some(ids) => page_of(alloc, ids, limit.number())?,
     };
     let reply = Reply::Page(ids, cut.is_some());

@@ -17,7 +17,7 @@ pub(crate) fn get(staging: &Staging, report: String, id: String) -> Result<Ready
         staging.now.0 change (report_at staging.now.0 (string_bytes report))) }
 {
     let reply = match staging.get(&report, &id) {
-        Got::NoReport => return Ok(Ready::nowhere(report)),
+        Got::NoReport => return Ok(Ready::no_report(report)),
         Got::Absent => Reply::Absent,
         Got::Found(fact) => Reply::Found(fact.clone()?),
     };
@@ -46,7 +46,7 @@ pub(crate) fn cell(
 {
     let copy = staging.copy(alloc)?;
     let reply = match copy.cell(&report, &dims) {
-        None => return Ok(Ready::nowhere(report)),
+        None => return Ok(Ready::no_report(report)),
         Some((class, ids)) => Reply::Cell(class, texts_of(alloc, ids)?),
     };
     Ok(Ready::read(reply, Thing::Cell(report, dims)))
@@ -57,7 +57,7 @@ pub(crate) fn declared(staging: &Staging, report: String) -> Ready
         staging.now.0 change (report_at staging.now.0 (string_bytes report)) }
 {
     match staging.allowed(&report) {
-        None => Ready::nowhere(report),
+        None => Ready::no_report(report),
         Some(allowed) => Ready::read(Reply::Declared(allowed), Thing::Policy(report)),
     }
 }

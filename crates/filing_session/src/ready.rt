@@ -42,7 +42,7 @@ impl Ready {
     }
 
     /// The report is not there, which is read.
-    pub(crate) fn nowhere(report: String) -> Ready
+    pub(crate) fn no_report(report: String) -> Ready
         ensures { result ≡ record {
           reply = reply.NoReport;
           thing = Some (thing.Report (string_bytes report));

@@ -4,7 +4,7 @@ ghost use Rattle.std.specs.Arc.{arc_value};
 ghost use Rattle.filing_model.specs.Sessions.Sessions.{answer};
 ghost use Rattle.filing_model.specs.declared.kind.Kind.TheVariants as kind;
 ghost use Rattle.filing_step.specs.Steps.{call_of, reply_of};
-ghost use Rattle.filing_version.specs.Filed.{repository_in};
+ghost use Rattle.filing_version.specs.StampedReports.{repository_in};
 
 use crate::ready::Ready;
 use crate::session::effect;
@@ -15,7 +15,7 @@ use filing_version::RepoVersion;
 use std::alloc::{AllocError, Global};
 use std::sync::Arc;
 
-fn told(ready: Ready) -> Reply
+fn into_reply(ready: Ready) -> Reply
     ensures { reply_of result ≡ ready.reply }
 {
     let Ready {
@@ -36,5 +36,5 @@ pub fn reply_at(alloc: Global, version: &Arc<RepoVersion>, call: Call) -> Result
     let staging = Staging::new(alloc, Arc::try_clone(version)?);
     let ready = effect(alloc, Kind::Review, &staging, &mut None, call);
     drop(staging);
-    Ok(told(ready?))
+    Ok(into_reply(ready?))
 }

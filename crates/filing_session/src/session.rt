@@ -9,7 +9,7 @@ ghost use Rattle.filing_model.specs.Sessions.Repository.{report_at};
 ghost use Rattle.oim_fact.specs.Texts.{text_view};
 ghost use Rattle.filing_step.specs.PeriodFilter.{period_filter_of};
 ghost use Rattle.filing_step.specs.Steps.{call_of, reply_of, thing_of};
-ghost use Rattle.filing_version.specs.Filed.{repository_in};
+ghost use Rattle.filing_version.specs.StampedReports.{repository_in};
 ghost use Rattle.filing_session.specs.States.{opened, with_thing};
 ghost use Rattle.filing_session.specs.Effects.{effect_in, effect_on, effect_of, with_effect};
 ghost use Rattle.filing_session.specs.OpenSession.{Answers};
@@ -57,7 +57,7 @@ impl Model for Session {
     ghost use Rattle.std.specs.Arc.{arc_value};
     ghost use Rattle.indexmap.specs.IndexSet.{spare};
     ghost use Rattle.filing_step.specs.Steps.{thing_of};
-    ghost use Rattle.filing_version.specs.Filed.{repository_in};
+    ghost use Rattle.filing_version.specs.StampedReports.{repository_in};
 
     ghost view = { λ s. record {
       state = record {

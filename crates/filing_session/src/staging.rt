@@ -4,7 +4,7 @@ ghost use Rattle.std.specs.Arc.{arc_value};
 ghost use Rattle.filing_model.specs.Common.TextMap.{empty};
 ghost use Rattle.filing_model.specs.Sessions.Changes.{laid_over, with_change, with_declared};
 ghost use Rattle.filing_model.specs.Sessions.Repository.{report_at, fact_in, with_fact_at, declaring_at};
-ghost use Rattle.filing_version.specs.Filed.{repository_in};
+ghost use Rattle.filing_version.specs.StampedReports.{repository_in};
 ghost use Rattle.filing_version.specs.Found.{got_of};
 ghost use Rattle.filing_version.specs.Puts.{fact_seen};
 
@@ -52,10 +52,10 @@ impl Pending {
         Pending::of(self.alloc, self.change().with_record(report, put)?)
     }
 
-    fn declaring(&self, report: &str, allowed: Allowed) -> Result<Pending, AllocError>
+    fn with_declared(&self, report: &str, allowed: Allowed) -> Result<Pending, AllocError>
         ensures { IfOk result (λ p. p ≡ with_declared self.now report.now allowed) }
     {
-        Pending::of(self.alloc, self.change().declaring(report, allowed)?)
+        Pending::of(self.alloc, self.change().with_declared(report, allowed)?)
     }
 }
 
@@ -81,7 +81,7 @@ impl Model for Staging {
     ghost use Rattle.std.specs.Prelude.{◌≡◌, unwrap_or};
     ghost use Rattle.std.specs.Arc.{arc_value};
     ghost use Rattle.filing_model.specs.Sessions.Changes.{laid_over};
-    ghost use Rattle.filing_version.specs.Filed.{repository_in};
+    ghost use Rattle.filing_version.specs.StampedReports.{repository_in};
 
     ghost view = { λ s. (laid_over (unwrap_or s.pending s.change) (repository_in (arc_value s.version)), s.change) };
 
@@ -100,7 +100,7 @@ fn pending_of<'a>(pending: &'a Option<Pending>, change: &'a Change) -> &'a Chang
 }
 
 /// What stands where a fact is put, or where one is removed.
-fn got_put(put: Option<&Arc<Fact>>) -> Got<'_>
+fn get_put(put: Option<&Arc<Fact>>) -> Got<'_>
     ensures { got_of result ≡ Some (fact_seen put.entry) }
 {
     match put {
@@ -110,7 +110,12 @@ fn got_put(put: Option<&Arc<Fact>>) -> Got<'_>
 }
 
 /// What stands at an identifier of a version with a change laid over it.
-fn got<'a>(version: &'a RepoVersion, pending: &'a Change, report: &str, id: &str) -> Got<'a>
+fn get_with_pending<'a>(
+    version: &'a RepoVersion,
+    pending: &'a Change,
+    report: &str,
+    id: &str,
+) -> Got<'a>
     ensures { got_of result ≡ option_map (λ r. fact_in r id.now)
         (report_at (laid_over pending.now (repository_in version.now)) report.now) }
 {
@@ -118,7 +123,7 @@ fn got<'a>(version: &'a RepoVersion, pending: &'a Change, report: &str, id: &str
         Got::NoReport => Got::NoReport,
         there => match pending.staged(report, id) {
             None => there,
-            Some(put) => got_put(put),
+            Some(put) => get_put(put),
         },
     }
 }
@@ -134,7 +139,7 @@ fn value_of(version: &RepoVersion, pending: &Change, report: &str) -> Option<All
 }
 
 /// A version with a change laid over it, or another owner of the same where the change is of nothing.
-fn laid(
+fn with_pending(
     alloc: Global,
     version: &Arc<RepoVersion>,
     pending: &Change,
@@ -150,7 +155,7 @@ fn laid(
 }
 
 /// A version with a change laid over it, in place where nobody else holds what changes. The version is given up for it.
-fn laid_in(
+fn into_with_pending(
     alloc: Global,
     version: Arc<RepoVersion>,
     pending: &Change,
@@ -166,7 +171,7 @@ fn laid_in(
 }
 
 /// Another owner of a version, if any.
-fn shared(version: &Option<Arc<RepoVersion>>) -> Result<Option<Arc<RepoVersion>>, AllocError>
+fn share(version: &Option<Arc<RepoVersion>>) -> Result<Option<Arc<RepoVersion>>, AllocError>
     ensures { IfOk result (λ o. option_map arc_value o ≡ option_map arc_value version.now) }
 {
     match version {
@@ -200,7 +205,7 @@ impl Staging {
         ensures { got_of result ≡ option_map (λ r. fact_in r id.now) (report_at self.now.0 report.now) }
     {
         let pending = pending_of(&self.pending, &self.change);
-        got(&self.version, pending, report, id)
+        get_with_pending(&self.version, pending, report, id)
     }
 
     /// The prefixes of a report with its numeric table, or none where it is not there.
@@ -223,7 +228,7 @@ impl Staging {
         ensures { IfOk result (λ v. repository_in (arc_value v) ≡ self.now.0) }
     {
         let pending = pending_of(&self.pending, &self.change);
-        laid(alloc, &self.version, pending)
+        with_pending(alloc, &self.version, pending)
     }
 
     /// Applies what is pending to the version, so that cells and pages are looked up in it. It changes nothing that is staged.
@@ -234,14 +239,14 @@ impl Staging {
             return Ok(());
         }
         let nothing = Pending::of(alloc, Change::new(alloc))?;
-        let copy = match shared(&self.base)? {
+        let copy = match share(&self.base)? {
             None => self.copy(alloc)?,
             Some(base) => {
                 // Where we run out of memory below, all that is staged is pending over the version of the opening.
                 let version = mem::replace(&mut self.version, base);
                 let pending = mem::replace(&mut self.pending, None);
                 self.base = None;
-                laid_in(alloc, version, pending_of(&pending, &self.change))?
+                into_with_pending(alloc, version, pending_of(&pending, &self.change))?
             }
         };
         let base = mem::replace(&mut self.version, copy);
@@ -257,7 +262,7 @@ impl Staging {
           with_change self.now.1 report.now put.0 put.1,
         )) }
     {
-        let base = shared(&self.base)?;
+        let base = share(&self.base)?;
         let version = Arc::try_clone(&self.version)?;
         let pending = match &self.pending {
             None => None,
@@ -273,17 +278,21 @@ impl Staging {
     }
 
     /// What is staged with a value declared.
-    pub(crate) fn declaring(&self, report: &str, allowed: Allowed) -> Result<Staging, AllocError>
+    pub(crate) fn with_declared(
+        &self,
+        report: &str,
+        allowed: Allowed,
+    ) -> Result<Staging, AllocError>
         ensures { IfOk result (λ s. s
             ≡ (declaring_at self.now.0 report.now allowed, with_declared self.now.1 report.now allowed)) }
     {
-        let base = shared(&self.base)?;
+        let base = share(&self.base)?;
         let version = Arc::try_clone(&self.version)?;
         let pending = match &self.pending {
             None => None,
-            Some(pending) => Some(pending.declaring(report, allowed)?),
+            Some(pending) => Some(pending.with_declared(report, allowed)?),
         };
-        let change = self.change.declaring(report, allowed)?;
+        let change = self.change.with_declared(report, allowed)?;
         Ok(Staging {
             base,
             version,

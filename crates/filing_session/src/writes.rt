@@ -27,10 +27,10 @@ fn record_of(
         return PutRecord::of(alloc, id, fact);
     }
     if let Some(key_cache) = key_cache {
-        return PutRecord::among(alloc, key_cache, id, fact);
+        return PutRecord::of_shared_keys(alloc, key_cache, id, fact);
     }
     let mut first = Box::new(alloc, KeyCache::new(alloc))?;
-    let record = PutRecord::among(alloc, &mut first, id, fact)?;
+    let record = PutRecord::of_shared_keys(alloc, &mut first, id, fact)?;
     *key_cache = Some(first);
     Ok(record)
 }
@@ -71,7 +71,7 @@ fn add_new(
         staging.now.0 staging.now.1 (report_at staging.now.0 (string_bytes report))) }
 {
     let Some(names) = staging.names(&report) else {
-        return Ok(Ready::nowhere(report));
+        return Ok(Ready::no_report(report));
     };
     match fit(names, raw) {
         Err(fault) => Ok(Ready::read(Reply::BadFact(fault), Thing::Id(report, id))),
@@ -94,7 +94,7 @@ pub(crate) fn add(
         staging.now.0 staging.now.1 (report_at staging.now.0 (string_bytes report))) }
 {
     match staging.get(&report, &id) {
-        Got::NoReport => Ok(Ready::nowhere(report)),
+        Got::NoReport => Ok(Ready::no_report(report)),
         Got::Absent => add_new(alloc, staging, key_cache, report, id, raw),
         Got::Found(_) => Ok(Ready::read(Reply::Taken, Thing::Id(report, id))),
     }
@@ -111,7 +111,7 @@ pub(crate) fn remove(
         staging.now.0 staging.now.1 (report_at staging.now.0 (string_bytes report))) }
 {
     match staging.get(&report, &id) {
-        Got::NoReport => Ok(Ready::nowhere(report)),
+        Got::NoReport => Ok(Ready::no_report(report)),
         Got::Absent => Ok(Ready::read(Reply::Absent, Thing::Id(report, id))),
         Got::Found(_) => put(alloc, staging, key_cache, report, id, None),
     }
@@ -127,9 +127,9 @@ pub(crate) fn declare(
         staging.now.0 staging.now.1 (report_at staging.now.0 (string_bytes report))) }
 {
     if staging.allowed(&report).is_none() {
-        return Ok(Ready::nowhere(report));
+        return Ok(Ready::no_report(report));
     }
-    let staged = staging.declaring(&report, allowed)?;
+    let staged = staging.with_declared(&report, allowed)?;
     Ok(Ready {
         reply: Reply::Staged,
         thing: None,

@@ -195,13 +195,15 @@ fact_hits (Range query upto) n id fact = by query.period
   where
     by : (period : PeriodFilter) → hits (with_filter query upto period) (stamps_of n (id, fact)) ≡ stands_in (with_filter query upto period) id fact
     by Any =
-        only_third _ _ _ _ (miss_low (code_side (with_filter query upto Any) kind.Identifier id fact)) (miss_low (code_side (with_filter query upto Any) kind.Cell id fact))
+        only_third _ _ _ _ (miss_low (code_side (with_filter query upto Any) kind.Identifier id fact))
+        (miss_low (code_side (with_filter query upto Any) kind.Cell id fact))
         (miss_high (code_side (with_filter query upto Any) kind.OnePeriod id fact))
         ∙ group_hits kind.AnyPeriod (record no_group { concept = concept_of fact.dims }) (record no_group { concept = Some query.concept })
         (ids_side (Between query.after upto) id) _ _ (range_ties query.concept (concept_of fact.dims) None None) (within_ties query.after upto id)
         ∙ and_turned _ (is_within query.after upto id)
     by Without =
-        only_fourth _ _ _ _ (miss_low (code_side (with_filter query upto Without) kind.Identifier id fact)) (miss_low (code_side (with_filter query upto Without) kind.Cell id fact))
+        only_fourth _ _ _ _ (miss_low (code_side (with_filter query upto Without) kind.Identifier id fact))
+        (miss_low (code_side (with_filter query upto Without) kind.Cell id fact))
         (miss_low (code_side (with_filter query upto Without) kind.AnyPeriod id fact))
         ∙ group_hits kind.OnePeriod (record no_group { concept = concept_of fact.dims; period = Some (period_of fact.dims) })
         (record no_group { concept = Some query.concept; period = Some None })
@@ -211,7 +213,8 @@ fact_hits (Range query upto) n id fact = by query.period
         (within_ties query.after upto id)
         ∙ and_turned _ (is_within query.after upto id)
     by (Exactly text) =
-        only_fourth _ _ _ _ (miss_low (code_side (with_filter query upto (Exactly text)) kind.Identifier id fact)) (miss_low (code_side (with_filter query upto (Exactly text)) kind.Cell id fact))
+        only_fourth _ _ _ _ (miss_low (code_side (with_filter query upto (Exactly text)) kind.Identifier id fact))
+        (miss_low (code_side (with_filter query upto (Exactly text)) kind.Cell id fact))
         (miss_low (code_side (with_filter query upto (Exactly text)) kind.AnyPeriod id fact))
         ∙ group_hits kind.OnePeriod (record no_group { concept = concept_of fact.dims; period = Some (period_of fact.dims) })
         (record no_group { concept = Some query.concept; period = Some (Some text) })
@@ -223,7 +226,8 @@ fact_hits (Range query upto) n id fact = by query.period
 
 -- ---- the stamps of fact changes
 
-if_there : (part : Part) (n : ℕ) (id : Text) (fact : Option Fact) → hits part (stamps_if_there n (option_map (λ f. (id, f)) fact)) ≡ option_map_or (stands_in part id) fact false
+if_there : (part : Part) (n : ℕ) (id : Text) (fact : Option Fact)
+    → hits part (stamps_if_there n (option_map (λ f. (id, f)) fact)) ≡ option_map_or (stands_in part id) fact false
 if_there part n id None = refl
 if_there part n id (Some fact) = fact_hits part n id fact
 
@@ -263,25 +267,26 @@ either_both false p None (Some y) = refl
 either_both false p (Some x) None = refl
 either_both false p (Some x) (Some y) = refl
 
-move_stands : (part : Part) (move : FactChange)
-    → (option_map_or (stands_in part move.id) move.old false || option_map_or (stands_in part move.id) move.new false) ≡ is_touched_by part move
-move_stands (Id x) move = ap (λ (b : Bool). b) (id_stands (text_eq x move.id) move.old move.new)
+change_stands : (part : Part) (change : FactChange)
+    → (option_map_or (stands_in part change.id) change.old false || option_map_or (stands_in part change.id) change.new false) ≡ is_touched_by part change
+change_stands (Id x) change = ap (λ (b : Bool). b) (id_stands (text_eq x change.id) change.old change.new)
   where
     id_stands : (a : Bool) (old new : Option Fact)
-        → (option_map_or (λ f. a) old false || option_map_or (λ f. a) new false) ≡ (a && (option_map_or (λ f. true) old false || option_map_or (λ f. true) new false))
+        → (option_map_or (λ f. a) old false || option_map_or (λ f. a) new false)
+        ≡ (a && (option_map_or (λ f. true) old false || option_map_or (λ f. true) new false))
     id_stands true old new = refl
     id_stands false None None = refl
     id_stands false None (Some y) = refl
     id_stands false (Some x) None = refl
     id_stands false (Some x) (Some y) = refl
-move_stands (Cell dims) move = refl
-move_stands (Range query upto) move = either_both (is_within query.after upto move.id) (answers_query query.concept query.period) move.old move.new
+change_stands (Cell dims) change = refl
+change_stands (Range query upto) change = either_both (is_within query.after upto change.id) (answers_query query.concept query.period) change.old change.new
 
-pub moves_hit : (part : Part) (n : ℕ) (fact_changes : List FactChange) → hits part (flat_map (stamps_of_change n) fact_changes) ≡ is_touched fact_changes part
-moves_hit part n [] = refl
-moves_hit part n (move ∷ fact_changes) =
-    list_any-append (λ s. is_eq (among_side (part_among part) s)) (stamps_of_change n move) (flat_map (stamps_of_change n) fact_changes)
-    ∙ (λ i. (both_hit part n move.id move.old move.new ∙ move_stands part move) i || moves_hit part n fact_changes i)
+pub changes_hit : (part : Part) (n : ℕ) (fact_changes : List FactChange) → hits part (flat_map (stamps_of_change n) fact_changes) ≡ is_touched fact_changes part
+changes_hit part n [] = refl
+changes_hit part n (change ∷ fact_changes) =
+    list_any-append (λ s. is_eq (among_side (part_among part) s)) (stamps_of_change n change) (flat_map (stamps_of_change n) fact_changes)
+    ∙ (λ i. (both_hit part n change.id change.old change.new ∙ change_stands part change) i || changes_hit part n fact_changes i)
 
 fact_has : (n : ℕ) (id : Text) (fact : Option Fact) → AllHave (λ s. s.number) n (stamps_if_there n (option_map (λ f. (id, f)) fact))
 fact_has n id None = tt
@@ -301,8 +306,8 @@ between_has n id (Some old) (Some new) = by (dims_eq old.dims new.dims)
     by true = fact_has n id (Some new)
     by false = both_have n (stamps_of n (id, old)) (stamps_of n (id, new)) (fact_has n id (Some old)) (fact_has n id (Some new))
 
-pub moves_have : (n : ℕ) (fact_changes : List FactChange) → AllHave (λ s. s.number) n (flat_map (stamps_of_change n) fact_changes)
-moves_have n [] = tt
-moves_have n (move ∷ fact_changes) =
-    both_have n (stamps_of_change n move) (flat_map (stamps_of_change n) fact_changes) (between_has n move.id move.old move.new)
-    (moves_have n fact_changes)
+pub changes_have : (n : ℕ) (fact_changes : List FactChange) → AllHave (λ s. s.number) n (flat_map (stamps_of_change n) fact_changes)
+changes_have n [] = tt
+changes_have n (change ∷ fact_changes) =
+    both_have n (stamps_of_change n change) (flat_map (stamps_of_change n) fact_changes) (between_has n change.id change.old change.new)
+    (changes_have n fact_changes)

@@ -1,5 +1,6 @@
 -- The greatest number of a list that is moved about, and of one of those that tie.
-use Rattle.std.proofs.Common.{◌≡◌, ◌∙◌, ap, refl, ℕ, suc, ◌+◌, ◌≤◌, max, arith, le_antisymm, le_refl, Bool, true, false, cond, List, [], ◌∷◌, Ordering, is_eq, IsPermutation}
+use Rattle.std.proofs.Common.{◌≡◌, ◌∙◌, ap, refl, ℕ, suc, ◌+◌, ◌≤◌, max, arith, le_antisymm, le_refl, Bool, true, false, cond, List, []}
+use Rattle.std.proofs.Common.{◌∷◌, Ordering, is_eq, IsPermutation}
 use Rattle.std.specs.Cmp.{IsStrictWeakOrder}
 use Rattle.std.specs.List.{AllByRecursion, dedup, dedup_from}
 use Rattle.std.specs.List.Sorted.{IsSortedBy}

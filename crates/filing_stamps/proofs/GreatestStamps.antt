@@ -10,7 +10,7 @@ use Rattle.filing_facts.specs.FactChanges.{FactChange, Part, is_touched, stamped
 use Rattle.filing_stamps.specs.Stamps.{Stamp, among_side, part_among, stamp_in, stamps_of_changes}
 use Rattle.filing_stamps.specs.LastStamps.{AreLast}
 use Rattle.filing_stamps.specs.Layers.{all_stamps, AreUpTo, AreWith}
-use Rattle.filing_stamps.proofs.ChangedParts.{AllHave, moves_hit, moves_have}
+use Rattle.filing_stamps.proofs.ChangedParts.{AllHave, changes_hit, changes_have}
 
 abbrev pub best : (Stamp → Ordering) → List Stamp → ℕ
 best side stamps = greatest (λ s. s.number) (within side stamps)
@@ -62,7 +62,8 @@ numbered-up_to n (s ∷ stamps) all =
 -- ---- what a commit leaves
 
 -- where all have one number
-best-numbered : (side : Stamp → Ordering) (n : ℕ) (stamps : List Stamp) → AllHave (λ s. s.number) n stamps → best side stamps ≡ cond (list_any (λ s. is_eq (side s)) stamps) n 0
+best-numbered : (side : Stamp → Ordering) (n : ℕ) (stamps : List Stamp) → AllHave (λ s. s.number) n stamps
+    → best side stamps ≡ cond (list_any (λ s. is_eq (side s)) stamps) n 0
 best-numbered side n [] all = refl
 best-numbered side n (s ∷ stamps) all =
     by (is_eq (side s)) (list_any (λ s. is_eq (side s)) stamps) (best-numbered side n stamps all.1) all.0
@@ -86,7 +87,8 @@ stamped_with fact_changes n old new upto is = λ i part. at part i
     at part =
         is part
         ∙ ap (λ m. max m (stamp_in old part))
-        (best-numbered (among_side (part_among part)) n (stamps_of_changes n fact_changes) (moves_have n fact_changes) ∙ ap (λ b. cond b n 0) (moves_hit part n fact_changes))
+        (best-numbered (among_side (part_among part)) n (stamps_of_changes n fact_changes) (changes_have n fact_changes)
+        ∙ ap (λ b. cond b n 0) (changes_hit part n fact_changes))
         ∙ greater (is_touched fact_changes part) (stamp_in old part) (upto part)
 
 -- ---- one part more
@@ -100,27 +102,28 @@ best-more side v parts part =
     omega arith
 
 -- what a commit left, after what those before it left
-pub with_left : (recent layers : List (List Stamp)) (left : List Stamp)
-    → AreWith left (all_stamps recent ++ all_stamps layers) (all_stamps (recent ++ left ∷ []) ++ all_stamps layers)
-with_left recent layers left part =
+pub with_commit_stamps : (recent layers : List (List Stamp)) (added : List Stamp)
+    → AreWith added (all_stamps recent ++ all_stamps layers) (all_stamps (recent ++ added ∷ []) ++ all_stamps layers)
+with_commit_stamps recent layers added part =
     let side = among_side (part_among part) in
-    let pushed = best-more side (λ (x : List Stamp). x) recent left in
+    let pushed = best-more side (λ (x : List Stamp). x) recent added in
     let old : best side (all_stamps recent ++ all_stamps layers) ≡ max (best side (all_stamps recent)) (best side (all_stamps layers)) =
     best-append side (all_stamps recent) (all_stamps layers) in
-    let new : best side (all_stamps (recent ++ left ∷ []) ++ all_stamps layers) ≡ max (best side (all_stamps (recent ++ left ∷ []))) (best side (all_stamps layers)) =
-    best-append side (all_stamps (recent ++ left ∷ [])) (all_stamps layers) in
+    let new : best side (all_stamps (recent ++ added ∷ []) ++ all_stamps layers)
+    ≡ max (best side (all_stamps (recent ++ added ∷ []))) (best side (all_stamps layers)) =
+    best-append side (all_stamps (recent ++ added ∷ [])) (all_stamps layers) in
     omega arith
 
 -- a layer of what a commit left, of what those before it left, and of some layers
-pub with_layer : (recent longer others : List (List Stamp)) (left last : List Stamp)
-    → AreLast ((left ++ all_stamps recent) ++ all_stamps others) last
-    → AreWith left (all_stamps recent ++ all_stamps (longer ++ others)) (all_stamps (longer ++ last ∷ []))
-with_layer recent longer others left last is part =
+pub with_layer : (recent longer others : List (List Stamp)) (added last : List Stamp)
+    → AreLast ((added ++ all_stamps recent) ++ all_stamps others) last
+    → AreWith added (all_stamps recent ++ all_stamps (longer ++ others)) (all_stamps (longer ++ last ∷ []))
+with_layer recent longer others added last is part =
     let side = among_side (part_among part) in
     let pushed = best-more side (λ (x : List Stamp). x) longer last in
-    let gathered : best side last ≡ max (best side (left ++ all_stamps recent)) (best side (all_stamps others)) =
-    is (part_among part) ∙ best-append side (left ++ all_stamps recent) (all_stamps others) in
-    let fresh : best side (left ++ all_stamps recent) ≡ max (best side left) (best side (all_stamps recent)) = best-append side left (all_stamps recent) in
+    let gathered : best side last ≡ max (best side (added ++ all_stamps recent)) (best side (all_stamps others)) =
+    is (part_among part) ∙ best-append side (added ++ all_stamps recent) (all_stamps others) in
+    let fresh : best side (added ++ all_stamps recent) ≡ max (best side added) (best side (all_stamps recent)) = best-append side added (all_stamps recent) in
     let layers : best side (all_stamps (longer ++ others)) ≡ max (best side (all_stamps longer)) (best side (all_stamps others)) =
     ap (best side) (flat_map-append (λ (x : List Stamp). x) longer others) ∙ best-append side (all_stamps longer) (all_stamps others) in
     let old : best side (all_stamps recent ++ all_stamps (longer ++ others)) ≡ max (best side (all_stamps recent)) (best side (all_stamps (longer ++ others))) =

@@ -1,5 +1,6 @@
 -- Stamps that were sorted, of those that tie the one with the greatest number.
-use Rattle.std.proofs.Common.{◌≡◌, ◌∙◌, ap, sym, refl, true≢false, ℕ, ◌≤◌, le_refl, Bool, true, false, cond, List, Ordering, Less, Equal, Greater, is_eq, is_lt, IsPermutation}
+use Rattle.std.proofs.Common.{◌≡◌, ◌∙◌, ap, sym, refl, true≢false, ℕ, ◌≤◌, le_refl, Bool, true, false, cond, List, Ordering, Less, Equal}
+use Rattle.std.proofs.Common.{Greater, is_eq, is_lt, IsPermutation}
 use Rattle.std.specs.Cmp.{Equal-is, IsTotalOrder, IsStrictWeakOrder, nat_cmp_total, on_total, back_total, then_total}
 use Rattle.std.specs.List.{dedup}
 use Rattle.std.specs.List.Sorted.{IsSorted}

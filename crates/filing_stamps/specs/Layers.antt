@@ -15,4 +15,4 @@ AreUpTo n stamps = greatest (λ s. s.number) stamps ≤ n
 
 -- stamps after one commit more: each part has the greater of its numbers before and among what the commit left
 abbrev pub AreWith : List Stamp → List Stamp → List Stamp → Type 0
-AreWith left old new = (part : Part) → stamp_in new part ≡ max (stamp_in left part) (stamp_in old part)
+AreWith added old new = (part : Part) → stamp_in new part ≡ max (stamp_in added part) (stamp_in old part)

@@ -1,5 +1,6 @@
 -- The order of stamps is total, and the stamps of a part are a range in it.
-use Rattle.std.proofs.Common.{◌≡◌, ◌∙◌, ap, sym, refl, true≢false, Bool, true, false, cond, not, Option, Some, None, Ordering, Less, Equal, Greater, is_lt}
+use Rattle.std.proofs.Common.{◌≡◌, ◌∙◌, ap, sym, refl, true≢false, Bool, true, false, cond, not, Option, Some, None}
+use Rattle.std.proofs.Common.{Ordering, Less, Equal, Greater, is_lt}
 use Rattle.std.specs.Cmp.{IsTotalOrder, on_total, then_total, nat_cmp_total}
 use Rattle.std.specs.Cmp.Lexicographic.{nat_list_cmp_total, options_total}
 use Rattle.std.specs.Ordering.{on, is_gt}
@@ -8,7 +9,8 @@ use Rattle.sorted_pages.specs.Ties.{tie_is_monotone}
 use Rattle.filing_model.specs.Common.Text.{Text, text_cmp}
 use Rattle.filing_model.specs.Sessions.Queries.{is_after}
 use Rattle.filing_model.proofs.Oim.DimensionSets.{dims_cmp-total}
-use Rattle.filing_stamps.specs.Stamps.{group_cmp, Stamp, stamp_cmp, IdRange, Only, Between, is_upto, ids_side, Among, among_side}
+use Rattle.filing_stamps.specs.Stamps.{group_cmp, Stamp, stamp_cmp, IdRange, Only, Between, is_upto, ids_side, Among}
+use Rattle.filing_stamps.specs.Stamps.{among_side}
 use Rattle.filing_stamps.specs.Lexicographic.{then_monotone}
 
 pub group_cmp-total : IsTotalOrder group_cmp

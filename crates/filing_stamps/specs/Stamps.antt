@@ -21,7 +21,7 @@ use Rattle.filing_stamps.specs.declared.stamp.StampKind.TheVariants as kind
 
 -- ---- stamps and their order
 
--- what a stamp looks at in the dimensions of a fact: nothing, all of them, a concept, or a concept with a period or none
+-- what a stamp looks at in the dimensions of a fact: nothing, all, a concept, or a concept with a period or none
 pub record Group : Type 0 where
   pub dims : Option Dims
   pub concept : Option Text
@@ -90,7 +90,7 @@ id_of kind.Cell id = []
 id_of kind.AnyPeriod id = id
 id_of kind.OnePeriod id = id
 
--- the stamp of a kind that a fact under its identifier leaves
+-- the stamp of a kind with a code that a fact under its identifier leaves
 abbrev pub stamp_of : StampKind → ℕ → ℕ → Text × Fact → Stamp
 stamp_of stamp_kind code number held =
     record {
@@ -111,7 +111,7 @@ stamp_hash kind.OnePeriod held = group_hash (group_of kind.OnePeriod held.1.dims
 abbrev pub stamp_code : StampKind → Text × Fact → ℕ
 stamp_code stamp_kind held = code_of stamp_kind (stamp_hash stamp_kind held)
 
--- the same, under its code
+-- the stamp of a kind that a fact under its identifier leaves, with its code
 abbrev pub coded_stamp : StampKind → ℕ → Text × Fact → Stamp
 coded_stamp stamp_kind number held = stamp_of stamp_kind (stamp_code stamp_kind held) number held
 
@@ -137,8 +137,8 @@ stamps_between number old (Some new) =
     cond (had_dims old new.1.dims) (stamps_of number new) (stamps_if_there number old ++ stamps_of number new)
 
 abbrev pub stamps_of_change : ℕ → FactChange → List Stamp
-stamps_of_change number move =
-    stamps_between number (option_map (λ f. (move.id, f)) move.old) (option_map (λ f. (move.id, f)) move.new)
+stamps_of_change number change =
+    stamps_between number (option_map (λ f. (change.id, f)) change.old) (option_map (λ f. (change.id, f)) change.new)
 
 -- each that fact changes leave, some more than once
 abbrev pub stamps_of_changes : ℕ → List FactChange → List Stamp

@@ -1,7 +1,8 @@
 //! The stamps that changed facts leave.
 ghost use Rattle.std.specs.Prelude.{◌≡◌, ◌++◌, ◌∷◌, [], cond, IfOk, OnOk};
 ghost use Rattle.std.specs.Option.{option_copied};
-ghost use Rattle.filing_stamps.specs.Stamps.{coded_stamp, had_dims, stamps_between, stamps_if_there, stamps_of, stamps_of_change, stamps_of_changes};
+ghost use Rattle.filing_stamps.specs.Stamps.{coded_stamp, had_dims, stamps_between, stamps_if_there, stamps_of};
+ghost use Rattle.filing_stamps.specs.Stamps.{stamps_of_change, stamps_of_changes};
 
 use crate::stamp::{Stamp, StampKind};
 use filing_facts::{FactChange, IndexedFact};
@@ -97,14 +98,18 @@ fn leave_between(
 }
 
 /// Appends the stamps that a fact change leaves.
-fn leave_both(stamps: &mut Vec<Stamp>, each: &FactChange, number: u64) -> Result<(), AllocError>
-    ensures { OnOk result (stamps.new.items ≡ stamps.old.items ++ stamps_of_change number each.now) }
+fn leave_change(
+    stamps: &mut Vec<Stamp>,
+    fact_change: &FactChange,
+    number: u64,
+) -> Result<(), AllocError>
+    ensures { OnOk result (stamps.new.items ≡ stamps.old.items ++ stamps_of_change number fact_change.now) }
 {
-    leave_between(stamps, each.old(), each.new(), number)
+    leave_between(stamps, fact_change.old(), fact_change.new(), number)
 }
 
 /// The stamps that fact changes leave, some more than once.
-pub(crate) fn left_by(
+pub(crate) fn stamps_of_changes(
     alloc: Global,
     fact_changes: &[FactChange],
     number: u64,
@@ -112,8 +117,8 @@ pub(crate) fn left_by(
     ensures { IfOk result (λ s. s.items ≡ stamps_of_changes number fact_changes.now) }
 {
     let mut stamps = Vec::with_capacity(alloc, fact_changes.len().saturating_mul(4))?;
-    for each in fact_changes {
-        leave_both(&mut stamps, each, number)?;
+    for fact_change in fact_changes {
+        leave_change(&mut stamps, fact_change, number)?;
     }
     Ok(stamps)
 }

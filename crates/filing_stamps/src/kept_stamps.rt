@@ -49,7 +49,7 @@ pub(crate) fn append_all<T: KeptStamps>(parts: &[T], all: &mut Vec<Stamp>) -> Re
 }
 
 /// A list of these parts, which are shared, with capacity for one more.
-pub(crate) fn shared<T: KeptStamps>(alloc: Global, parts: &[T]) -> Result<Vec<T>, AllocError>
+pub(crate) fn share_all<T: KeptStamps>(alloc: Global, parts: &[T]) -> Result<Vec<T>, AllocError>
     ensures { IfOk result (λ same. same.items ≡ parts.now) }
 {
     let mut same = Vec::with_capacity(alloc, parts.len().saturating_add(1))?;

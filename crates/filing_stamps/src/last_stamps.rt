@@ -7,7 +7,8 @@ ghost use Rattle.filing_stamps.specs.Stamps.{stamp_cmp};
 use crate::stamp::Stamp;
 use std::alloc::AllocError;
 
-/// Stamps in order, one of those that tie: it has the greatest number of these. What is in order already is only merged.
+/// Stamps in order. Of those that tie, the one with the greatest number stays.
+/// What is in order already is only merged.
 pub(crate) fn last_stamps(stamps: Vec<Stamp>) -> Result<Vec<Stamp>, AllocError>
     ensures last { IfOk result (λ last. AreLast stamps.items last.items) }
     ensures rising { IfOk result (λ last. IsRising stamp_cmp last.items) }

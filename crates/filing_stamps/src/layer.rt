@@ -41,7 +41,7 @@ impl Layer {
     {
         let count = stamps.len();
         let stamps = Paged::of_sorted(alloc, stamps)?;
-        let up_to = stamps.range(&All).summed();
+        let up_to = stamps.range(&All).total();
         let stamps = Arc::new(alloc, stamps)?;
         Ok(Layer {
             up_to,
@@ -62,7 +62,7 @@ impl KeptStamps for Layer {
         if self.up_to <= since {
             return 0;
         }
-        self.stamps.range(among).summed()
+        self.stamps.range(among).total()
     }
 
     fn append_to(&self, all: &mut Vec<Stamp>) -> Result<(), AllocError> {

@@ -3,7 +3,7 @@
 //! - `stamps`: the stamps that touched facts left, and the number of each part by them.
 //! - `fact_stamps`: those that changed facts leave.
 //! - `kept_stamps`: parts of stamps that several versions hold.
-//! - `left`: those that one commit left.
+//! - `commit_stamps`: those that one commit left.
 //! - `layer`: those that many commits left.
 //! - `last_stamps`: of those that tie, the one with the greatest number.
 //! - `stamp`: one of them, which compares by what it means.
@@ -12,11 +12,11 @@
 //! It knows nothing of how facts are found, of other reports, of versions or of sessions.
 #![tactic(auto)]
 
+mod commit_stamps;
 mod fact_stamps;
 mod kept_stamps;
 mod last_stamps;
 mod layer;
-mod left;
 mod stamp;
 mod stamp_spans;
 mod stamps;

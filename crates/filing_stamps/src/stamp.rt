@@ -5,7 +5,8 @@ ghost use Rattle.std.specs.Ordering.{eq_by_cmp, ordering_then};
 ghost use Rattle.std.specs.Option.{option_cmp};
 ghost use Rattle.filing_model.specs.Common.Text.{text_cmp};
 ghost use Rattle.filing_model.specs.Oim.Dimensions.{dims_cmp};
-ghost use Rattle.filing_stamps.specs.Stamps.{no_group, rank_of, kind_of, code_of, group_of, id_of, group_cmp, group_hash, coded_stamp, stamp_cmp, stamp_code, stamp_hash};
+ghost use Rattle.filing_stamps.specs.Stamps.{no_group, rank_of, kind_of, code_of, group_of, id_of, group_cmp};
+ghost use Rattle.filing_stamps.specs.Stamps.{group_hash, coded_stamp, stamp_cmp, stamp_code, stamp_hash};
 ghost use Rattle.filing_stamps.specs.StampKeys.{stamp_codes_rise};
 ghost use Rattle.filing_stamps.specs.declared.stamp.StampKind.TheVariants as variant;
 ghost use Rattle.filing_stamps.specs.StampOrders.{stamp_cmp-total};
@@ -40,7 +41,7 @@ impl StampKind {
     }
 
     /// The code of the stamps of this kind with a hash: the rank in two bits, then the hash without its last two.
-    pub(crate) fn coded(self, hash: u64) -> u64
+    pub(crate) fn code_of_hash(self, hash: u64) -> u64
         ensures { result ≡ code_of self hash }
     {
         u64::from(self.rank()) * (1 << 62) + hash / 4
@@ -89,7 +90,7 @@ impl StampKind {
     fn code(self, held: &NamedValue<IndexedFact>) -> u64
         ensures { result ≡ stamp_code self held.now }
     {
-        self.coded(self.hash(held))
+        self.code_of_hash(self.hash(held))
     }
 
     /// The identifier of the stamp of this kind that a fact leaves, or nothing where that is for all of a cell.
@@ -190,7 +191,8 @@ fn order_periods(one: Option<Option<&str>>, other: Option<Option<&str>>) -> Orde
     one.cmp(&other)
 }
 
-/// What a stamp looks at in the dimensions of a fact: all of them, or a concept, with a period or none or without. Contracts see the parts.
+/// What a stamp looks at in the dimensions of a fact: all of them, or a concept, alone or with a period or none.
+/// Contracts see the parts.
 #[derive(Drop)]
 pub(crate) struct Group<'a> {
     dims: Option<&'a DimSet>,
@@ -364,7 +366,8 @@ impl Stamp {
         }
     }
 
-    /// Whether it ties with another stamp of the same code. Identifiers are compared first: their keys stand in the stamp.
+    /// Whether it ties with another stamp of the same code.
+    /// Identifiers are compared first: their keys stand in the stamp.
     #[tactic(auto, using(crate::proofs::StampTies::alike))]
     fn is_alike(&self, other: &Stamp) -> bool
         requires { self.now.code ≡ other.now.code }
@@ -435,15 +438,15 @@ impl Summed for Stamp {
         0
     }
 
-    fn added_to(&self, number: u64) -> u64 {
+    fn add_to(&self, number: u64) -> u64 {
         number.max(self.number)
     }
 
-    fn joined(number: u64, kept: &u64) -> u64 {
+    fn join(number: u64, kept: &u64) -> u64 {
         number.max(*kept)
     }
 
-    fn kept(_alloc: Global, number: u64) -> u64 {
+    fn keep(_alloc: Global, number: u64) -> u64 {
         number
     }
 }

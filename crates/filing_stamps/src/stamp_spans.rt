@@ -18,7 +18,7 @@ use text_map::SoughtName;
 pub(crate) enum IdRange<'a> {
     /// This one.
     Only(SoughtName<'a>),
-    /// Those greater than the first, where it is given, and not greater than the second, where that is given.
+    /// All that are greater than the first, if it is given, and not greater than the second, if that is given.
     Between(Option<&'a str>, Option<&'a str>),
 }
 
@@ -81,7 +81,7 @@ impl<'a> Among<'a> {
     {
         Among {
             kind: StampKind::Identifier,
-            code: StampKind::Identifier.coded(id.key()),
+            code: StampKind::Identifier.code_of_hash(id.key()),
             group: Group::none(),
             ids: IdRange::Only(id),
         }
@@ -91,7 +91,7 @@ impl<'a> Among<'a> {
     pub(crate) fn of_group(kind: StampKind, group: Group<'a>, ids: IdRange<'a>) -> Among<'a>
         ensures { result ≡ among_group kind group.entry (id_range_of ids.entry) }
     {
-        let code = kind.coded(group.hash());
+        let code = kind.code_of_hash(group.hash());
         Among {
             kind,
             code,

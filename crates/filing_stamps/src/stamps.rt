@@ -8,11 +8,11 @@ ghost use Rattle.filing_facts.specs.PeriodFilterRef.{period_filter_of};
 ghost use Rattle.filing_stamps.specs.Layers.{AreWith};
 ghost use Rattle.filing_stamps.specs.Stamps.{among_side, stamp_in};
 
-use crate::fact_stamps::left_by;
-use crate::kept_stamps::{append_all, greatest_since, shared};
+use crate::commit_stamps::CommitStamps;
+use crate::fact_stamps::stamps_of_changes;
+use crate::kept_stamps::{append_all, greatest_since, share_all};
 use crate::last_stamps::last_stamps;
 use crate::layer::Layer;
-use crate::left::Left;
 use crate::stamp::{Group, Stamp, StampKind};
 use crate::stamp_spans::{Among, IdRange};
 use filing_facts::{FactChange, PeriodFilterRef};
@@ -24,15 +24,15 @@ use text_map::SoughtName;
 /// The number of the last touch of each part of one report, also of identifiers that were removed and of cells and
 /// ranges that are empty now.
 ///
-/// What the last commits left stands as they left it. What came before stands in layers, and each layer is more than one
-/// and a half times as long as the next. So there are few, and each stamp is sorted and copied some few times, also where
-/// no other lies near it. A changed copy shares what did not change.
+/// What the last commits left stands as they left it. What came before stands in layers, and each layer is more than
+/// one and a half times as long as the next. So there are few, and each stamp is sorted and copied a few times,
+/// also where no other lies near it. A changed copy shares what did not change.
 ///
 /// Contracts see the stamps that touched facts left, and `stamp_in` says which number a part has by them.
 #[derive(Drop)]
 pub struct Stamps {
     /// What the last commits left, oldest first.
-    recent: Vec<Left>,
+    recent: Vec<CommitStamps>,
     /// How many stamps the last commits left. That decides cost alone.
     recent_count: usize,
     /// What the commits before those left, oldest first.
@@ -142,20 +142,25 @@ impl Stamps {
         self.greatest_since(&among, since)
     }
 
-    /// Whether what a commit leaves may stand as it left it. A look-up goes through all that does.
-    fn has_room(&self, left: &[Stamp]) -> bool {
-        self.recent.len() < 64 && self.recent_count.saturating_add(left.len()) <= 1024
+    /// Whether the stamps of one commit more may stand by themselves. A look-up goes through all that do.
+    fn has_room(&self, added: &[Stamp]) -> bool {
+        self.recent.len() < 64 && self.recent_count.saturating_add(added.len()) <= 1024
     }
 
-    /// The stamps with what one commit more left, which stands as the commit left it.
-    fn with_left(&self, alloc: Global, left: Vec<Stamp>, number: u64) -> Result<Stamps, AllocError>
-        requires { AllByRecursion (λ s. s.number ≡ number) left.items }
-        ensures { IfOk result (λ s. AreWith left.items self.now s) }
+    /// The stamps with those of one commit more, which stand by themselves.
+    fn with_commit_stamps(
+        &self,
+        alloc: Global,
+        added: Vec<Stamp>,
+        number: u64,
+    ) -> Result<Stamps, AllocError>
+        requires { AllByRecursion (λ s. s.number ≡ number) added.items }
+        ensures { IfOk result (λ s. AreWith added.items self.now s) }
     {
-        let recent_count = self.recent_count.saturating_add(left.len());
-        let mut recent = shared(alloc, &self.recent)?;
-        recent.push(Left::of(alloc, number, left)?)?;
-        let layers = shared(alloc, &self.layers)?;
+        let recent_count = self.recent_count.saturating_add(added.len());
+        let mut recent = share_all(alloc, &self.recent)?;
+        recent.push(CommitStamps::of(alloc, number, added)?)?;
+        let layers = share_all(alloc, &self.layers)?;
         Ok(Stamps {
             recent,
             recent_count,
@@ -163,17 +168,17 @@ impl Stamps {
         })
     }
 
-    /// The stamps with what one commit more left, all in layers.
-    fn with_layer(&self, alloc: Global, left: Vec<Stamp>) -> Result<Stamps, AllocError>
-        ensures { IfOk result (λ s. AreWith left.items self.now s) }
+    /// The stamps with those of one commit more, all in layers.
+    fn with_layer(&self, alloc: Global, added: Vec<Stamp>) -> Result<Stamps, AllocError>
+        ensures { IfOk result (λ s. AreWith added.items self.now s) }
     {
-        let mut gathered = left;
+        let mut gathered = added;
         append_all(&self.recent, &mut gathered)?;
         let (longer, others) = split_longer(&self.layers, gathered.len());
         gathered.reserve(count_of(others))?;
         append_all(others, &mut gathered)?;
         let layer = Layer::of_sorted(alloc, last_stamps(gathered)?)?;
-        let mut layers = shared(alloc, longer)?;
+        let mut layers = share_all(alloc, longer)?;
         layers.push(layer)?;
         Ok(Stamps {
             recent: Vec::new(alloc),
@@ -192,11 +197,11 @@ impl Stamps {
         requires { (part : Part) → stamp_in self.now part ≤ number }
         ensures { IfOk result (λ s. stamp_in s ≡ stamped_by fact_changes.now number (stamp_in self.now)) }
     {
-        let left = left_by(alloc, fact_changes, number)?;
-        if self.has_room(&left) {
-            self.with_left(alloc, left, number)
+        let added = stamps_of_changes(alloc, fact_changes, number)?;
+        if self.has_room(&added) {
+            self.with_commit_stamps(alloc, added, number)
         } else {
-            self.with_layer(alloc, left)
+            self.with_layer(alloc, added)
         }
     }
 }

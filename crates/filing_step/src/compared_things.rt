@@ -17,46 +17,46 @@ use filing_model::is_same_text;
 use oim_fact::DimSet;
 use std::hash::{Hash, Hasher};
 
-fn is_text(a: &str, b: &str) -> bool
+fn are_same_texts(a: &str, b: &str) -> bool
     ensures { Decides result (a.now ≡ b.now) }
 {
     is_same_text(a, b)
 }
 
-fn is_nullable(a: &Option<String>, b: &Option<String>) -> bool
+fn are_same_optional_texts(a: &Option<String>, b: &Option<String>) -> bool
     ensures { Decides result (text_view a.now ≡ text_view b.now) }
 {
     match a {
         None => b.is_none(),
         Some(a) => match b {
             None => false,
-            Some(b) => is_text(a, b),
+            Some(b) => are_same_texts(a, b),
         },
     }
 }
 
-fn is_asked(a: &PeriodFilter, b: &PeriodFilter) -> bool
+fn are_same_periods(a: &PeriodFilter, b: &PeriodFilter) -> bool
     ensures { Decides result (period_filter_of a.now ≡ period_filter_of b.now) }
 {
     match a {
         PeriodFilter::Any => matches!(b, PeriodFilter::Any),
         PeriodFilter::Without => matches!(b, PeriodFilter::Without),
         PeriodFilter::Text(a) => match b {
-            PeriodFilter::Text(b) => is_text(a, b),
+            PeriodFilter::Text(b) => are_same_texts(a, b),
             PeriodFilter::Any | PeriodFilter::Without => false,
         },
     }
 }
 
-fn is_page_query(a: &PageQuery, b: &PageQuery) -> bool
+fn are_same_queries(a: &PageQuery, b: &PageQuery) -> bool
     ensures { Decides result (a.now ≡ b.now) }
 {
-    is_text(&a.concept, &b.concept)
-        && is_asked(&a.period, &b.period)
-        && is_nullable(&a.after, &b.after)
+    are_same_texts(&a.concept, &b.concept)
+        && are_same_periods(&a.period, &b.period)
+        && are_same_optional_texts(&a.after, &b.after)
 }
 
-fn is_dims(a: &DimSet, b: &DimSet) -> bool
+fn are_same_dims(a: &DimSet, b: &DimSet) -> bool
     ensures { Decides result (a.now ≡ b.now) }
 {
     a == b
@@ -66,7 +66,7 @@ fn is_report(report: &str, other: &Thing) -> bool
     ensures { Decides result (thing.Report report.now ≡ thing_of other.now) }
 {
     match other {
-        Thing::Report(name) => is_text(report, name),
+        Thing::Report(name) => are_same_texts(report, name),
         Thing::Id(..) | Thing::Cell(..) | Thing::Range(..) | Thing::Policy(..) => false,
     }
 }
@@ -75,7 +75,7 @@ fn is_id(report: &str, id: &str, other: &Thing) -> bool
     ensures { Decides result (thing.Id report.now id.now ≡ thing_of other.now) }
 {
     match other {
-        Thing::Id(name, other_id) => is_text(report, name) && is_text(id, other_id),
+        Thing::Id(name, other_id) => are_same_texts(report, name) && are_same_texts(id, other_id),
         Thing::Report(..) | Thing::Cell(..) | Thing::Range(..) | Thing::Policy(..) => false,
     }
 }
@@ -84,7 +84,8 @@ fn is_cell(report: &str, dims: &DimSet, other: &Thing) -> bool
     ensures { Decides result (thing.Cell report.now dims.now ≡ thing_of other.now) }
 {
     match other {
-        Thing::Cell(name, other_dims) => is_text(report, name) && is_dims(dims, other_dims),
+        Thing::Cell(name, other_dims) => are_same_texts(report, name)
+            && are_same_dims(dims, other_dims),
         Thing::Report(..) | Thing::Id(..) | Thing::Range(..) | Thing::Policy(..) => false,
     }
 }
@@ -94,9 +95,9 @@ fn is_range(report: &str, query: &PageQuery, upto: &Option<String>, other: &Thin
 {
     match other {
         Thing::Range(name, other_query, other_upto) => {
-            is_text(report, name)
-                && is_page_query(query, other_query)
-                && is_nullable(upto, other_upto)
+            are_same_texts(report, name)
+                && are_same_queries(query, other_query)
+                && are_same_optional_texts(upto, other_upto)
         }
         Thing::Report(..) | Thing::Id(..) | Thing::Cell(..) | Thing::Policy(..) => false,
     }
@@ -106,12 +107,12 @@ fn is_policy(report: &str, other: &Thing) -> bool
     ensures { Decides result (thing.Policy report.now ≡ thing_of other.now) }
 {
     match other {
-        Thing::Policy(name) => is_text(report, name),
+        Thing::Policy(name) => are_same_texts(report, name),
         Thing::Report(..) | Thing::Id(..) | Thing::Cell(..) | Thing::Range(..) => false,
     }
 }
 
-fn is_thing(a: &Thing, b: &Thing) -> bool
+fn are_same_things(a: &Thing, b: &Thing) -> bool
     ensures { Decides result (thing_of a.now ≡ thing_of b.now) }
 {
     match a {
@@ -129,7 +130,7 @@ impl PartialEq for Thing {
     ghost laws = { partial_equiv_from_equiv (eq_by_cmp_equiv (on_total thing_of thing_cmp-total)) };
 
     fn eq(&self, other: &Thing) -> bool {
-        is_thing(self, other)
+        are_same_things(self, other)
     }
 }
 
@@ -137,7 +138,7 @@ impl Eq for Thing {
     ghost laws = { eq_by_cmp_equiv (on_total thing_of thing_cmp-total) };
 }
 
-fn hash_asked<H: Hasher>(asked: &PeriodFilter, state: &mut H)
+fn hash_period<H: Hasher>(asked: &PeriodFilter, state: &mut H)
     ensures { state.new ≡ fold H.write state.old (asked_hash (period_filter_of asked.now)) }
 {
     match asked {
@@ -154,7 +155,7 @@ fn hash_page_query<H: Hasher>(query: &PageQuery, state: &mut H)
     ensures { state.new ≡ fold H.write state.old (page_query_hash query.now) }
 {
     query.concept.hash(state);
-    hash_asked(&query.period, state);
+    hash_period(&query.period, state);
     query.after.hash(state);
 }
 

@@ -9,8 +9,6 @@
 //! - `thing`: what a session reads and a commit touches.
 //! - `compared_things`: whether two things are equal, and the hash of one.
 //! - `ordered_things`: how two things stand to each other.
-//! - `session_names`: the names that open sessions are given.
-//! - `keyed_name`: such a name as it is held.
 //!
 //! It knows nothing of how a step is answered: nothing of versions, of open sessions or of a core. Nor does it know JSON.
 #![tactic(auto)]
@@ -18,12 +16,10 @@
 mod call;
 mod compared_things;
 mod entry;
-mod keyed_name;
 mod limit;
 mod ordered_things;
 mod page_query;
 mod reply;
-mod session_names;
 mod step;
 mod thing;
 
@@ -33,6 +29,5 @@ pub use filing_model::Kind;
 pub use limit::Limit;
 pub use page_query::{PageQuery, PeriodFilter};
 pub use reply::Reply;
-pub use session_names::SessionNames;
 pub use step::Step;
 pub use thing::Thing;

@@ -23,14 +23,14 @@ fn order_texts(one: Option<&str>, other: Option<&str>) -> Ordering
     one.cmp(&other)
 }
 
-fn order_nullable(one: &Option<String>, other: &Option<String>) -> Ordering
+fn order_optional_texts(one: &Option<String>, other: &Option<String>) -> Ordering
     ensures { result ≡ option_cmp text_cmp (text_view one.now) (text_view other.now) }
 {
     order_texts(one.as_deref(), other.as_deref())
 }
 
 /// Any period, then none, then each by its bytes.
-fn order_asked(one: &PeriodFilter, other: &PeriodFilter) -> Ordering
+fn order_periods(one: &PeriodFilter, other: &PeriodFilter) -> Ordering
     ensures { result ≡ slice_cmp (option_cmp text_cmp) (asked_parts (period_filter_of one.now))
         (asked_parts (period_filter_of other.now)) }
 {
@@ -44,13 +44,13 @@ fn order_asked(one: &PeriodFilter, other: &PeriodFilter) -> Ordering
     }
 }
 
-fn order_sought(one: &PageQuery, other: &PageQuery) -> Ordering
+fn order_queries(one: &PageQuery, other: &PageQuery) -> Ordering
     ensures { result ≡ page_query_order one.now other.now }
 {
     one.concept
         .cmp(&other.concept)
-        .then(order_asked(&one.period, &other.period))
-        .then(order_nullable(&one.after, &other.after))
+        .then(order_periods(&one.period, &other.period))
+        .then(order_optional_texts(&one.after, &other.after))
 }
 
 /// The place of its kind among the kinds.
@@ -67,7 +67,7 @@ fn rank(thing: &Thing) -> u8
 }
 
 /// How two things of one kind stand.
-fn order_alike(one: &Thing, other: &Thing) -> Ordering
+fn order_within_kind(one: &Thing, other: &Thing) -> Ordering
     ensures { rank_of (thing_of one.now) ≡ rank_of (thing_of other.now)
         → result ≡ slice_cmp (option_cmp text_cmp) (parts_of (thing_of one.now)) (parts_of (thing_of other.now)) }
 {
@@ -81,8 +81,8 @@ fn order_alike(one: &Thing, other: &Thing) -> Ordering
         (Thing::Range(report, query, upto), Thing::Range(other, other_query, other_upto)) => {
             report
                 .cmp(other)
-                .then(order_sought(query, other_query))
-                .then(order_nullable(upto, other_upto))
+                .then(order_queries(query, other_query))
+                .then(order_optional_texts(upto, other_upto))
         }
         (Thing::Report(report), Thing::Report(other))
         | (Thing::Policy(report), Thing::Policy(other)) => report.cmp(other),
@@ -112,7 +112,7 @@ impl Ord for Thing {
 
     fn cmp(&self, other: &Thing) -> Ordering {
         match rank(self).cmp(&rank(other)) {
-            Ordering::Equal => order_alike(self, other),
+            Ordering::Equal => order_within_kind(self, other),
             order => order,
         }
     }

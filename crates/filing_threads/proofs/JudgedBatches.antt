@@ -40,8 +40,10 @@ first_line journaled table text line others old new none_told no_steps none_deep
     }
 
 -- one line more
-pub next_line : (journaled : Bool) (table : Table) (text rest line others : Text) (old new : Batch) → AreBatch journaled table text rest old → old.ends_deep ≡ false
-    → spoken (lines_of rest) ≡ line ∷ spoken (lines_of others) → length others < length rest → AddsLine journaled table line old new → AreBatch journaled table text others new
+pub next_line : (journaled : Bool) (table : Table) (text rest line others : Text) (old new : Batch) → AreBatch journaled table text rest old
+    → old.ends_deep ≡ false
+    → spoken (lines_of rest) ≡ line ∷ spoken (lines_of others) → length others < length rest → AddsLine journaled table line old new
+    → AreBatch journaled table text others new
 next_line journaled table text rest line others old new are none_deep is less adds = record {
   lines = are.lines ++ line ∷ [];
   parts = are.parts ∙ ap (λ ls. are.lines ++ ls) is ∙ sym (append_assoc are.lines (line ∷ []) (spoken (lines_of others)));
@@ -49,12 +51,21 @@ next_line journaled table text rest line others old new are none_deep is less ad
       subst (λ told. AreJudged journaled table (are.lines ++ line ∷ []) told new.steps.items) (sym adds.told_are)
       (subst (λ steps. AreJudged journaled table (are.lines ++ line ∷ []) (old.told.items ++ adds.told) steps) (sym adds.steps_are)
       (judged_further journaled table are.lines (line ∷ []) old.told.items adds.told old.steps.items adds.steps are.judged adds.judged));
-  fewer = omega (arith, are.fewer, less, ap length adds.told_are, length-append old.told.items adds.told, one_told journaled table line adds.told adds.steps adds.judged);
+  fewer = omega (
+    arith,
+    are.fewer,
+    less,
+    ap length adds.told_are,
+    length-append old.told.items adds.told,
+    one_told journaled table line adds.told
+        adds.steps adds.judged,
+  );
   ends = goes_on journaled table text others old new none_deep adds.same_end (omega (arith, are.fewer, less));
 }
 
 -- a line that nests too deep is the next
-begins_deep : (journaled : Bool) (table : Table) (rest line : Text) (others : List Text) → spoken (lines_of rest) ≡ line ∷ others → IsDeepLine journaled table line
+begins_deep : (journaled : Bool) (table : Table) (rest line : Text) (others : List Text) → spoken (lines_of rest) ≡ line ∷ others
+    → IsDeepLine journaled table line
     → BeginsDeep journaled table (spoken (lines_of rest))
 begins_deep journaled table rest line others is deep = record { line = line; others = others; next = is; deep = deep }
 

@@ -19,7 +19,8 @@ use Rattle.filing_threads.specs.Telling.{replies_of, all_told, outcome_text, All
 
 -- lines behind lines
 pub judged_further : (journaled : Bool) (table : Table) (lines more : List Text) (told others : List (Option (String Global))) (steps further : List DeskStep)
-    → AreJudged journaled table lines told steps → AreJudged journaled table more others further → AreJudged journaled table (lines ++ more) (told ++ others) (steps ++ further)
+    → AreJudged journaled table lines told steps → AreJudged journaled table more others further
+    → AreJudged journaled table (lines ++ more) (told ++ others) (steps ++ further)
 judged_further journaled table [] more told others steps further first second =
     subst (λ t. AreJudged journaled table more (t ++ others) (steps ++ further)) (sym first.0)
     (subst (λ s. AreJudged journaled table more others (s ++ further)) (sym first.1) second)
@@ -38,14 +39,16 @@ none_starved (None ∷ told) [] used = absurd used
 none_starved (None ∷ told) (o ∷ os) used = (used.0, none_starved told os used.1)
 
 -- a step that was answered is told, and memory was not wanted for it
-told_answered : {J : Type 0} (o : Outcome J) (rest : Bool) → option_map_or (λ text. rest) (outcome_text o) false ≡ true → (is_no_memory o ≡ false) × (rest ≡ true)
+told_answered : {J : Type 0} (o : Outcome J) (rest : Bool) → option_map_or (λ text. rest) (outcome_text o) false ≡ true
+    → (is_no_memory o ≡ false) × (rest ≡ true)
 told_answered (Answered a) rest is = (refl, is)
 told_answered NameInUse rest is = (refl, is)
 told_answered NoSession rest is = (refl, is)
 told_answered NoMemory rest is = absurd (true≢false (sym is))
 
 -- where all lines of a run are told, no outcome is left
-pub all_used : {J : Type 0} (journaled : Bool) (table : Table) (lines : List Text) (told : List (Option (String Global))) (steps : List DeskStep) (s t : RunState) (before os : List (Outcome J))
+pub all_used : {J : Type 0} (journaled : Bool) (table : Table) (lines : List Text) (told : List (Option (String Global))) (steps : List DeskStep)
+    (s t : RunState) (before os : List (Outcome J))
     → AreJudged journaled table lines told steps → Runs s t before steps os → all_told told os ≡ true → AllUsed told os
 all_used journaled table [] told steps s t before os judged runs all =
     subst (λ told. AllUsed told os) (sym judged.0) (subst (λ steps. Runs s t before steps os) judged.1 runs).0
@@ -104,7 +107,8 @@ used_further (None ∷ told) others [] ps used more = absurd used
 used_further (None ∷ told) others (o ∷ os) ps used more = (used.0, used_further told others os ps used.1 more)
 
 -- a line that was classified so, and is not left out, is one more line
-pub adds_line : (journaled : Bool) (table : Table) (line : Text) (j : LineOutcome) (old new : Batch) → IsLineOutcome table line j → is_left_out journaled j ≡ false
+pub adds_line : (journaled : Bool) (table : Table) (line : Text) (j : LineOutcome) (old new : Batch) → IsLineOutcome table line j
+    → is_left_out journaled j ≡ false
     → AddsJudged j old new → AddsLine journaled table line old new
 adds_line journaled table line (judged.ReplyNow text) old new is taken adds = record {
   told = Some text ∷ [];

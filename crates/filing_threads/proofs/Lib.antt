@@ -8,7 +8,7 @@ mod UnderWay
 mod ScriptTasks
 -- ---- offices that begin with a history
 mod CountedDesks
-mod Retaken
+mod Replayed
 mod BegunHistories
 -- ---- journals
 mod KeptLines

@@ -22,14 +22,16 @@ use Rattle.filing_threads.specs.Tasks.{IsTask, AreLeft, AreTasks, TaskResult, sc
 
 module _ {J M : Type 0} (Is : Vec ℕ Global → TaskAtDesk J M ScriptTask → Type 0) where
   -- one task at a desk more
-  pub seats_further : (scripts : List (Vec ℕ Global)) (at_desks : List (TaskAtDesk J M ScriptTask)) (script : Vec ℕ Global) (at_desk : TaskAtDesk J M ScriptTask)
+  pub seats_further : (scripts : List (Vec ℕ Global)) (at_desks : List (TaskAtDesk J M ScriptTask)) (script : Vec ℕ Global)
+      (at_desk : TaskAtDesk J M ScriptTask)
       → AreTasks Is scripts at_desks → Is script at_desk → AreTasks Is (scripts ++ script ∷ []) (at_desks ++ at_desk ∷ [])
   seats_further [] [] script at_desk are is = (is, refl)
   seats_further [] (other ∷ at_desks) script at_desk are is = absurd (cc are)
   seats_further (x ∷ scripts) [] script at_desk are is = absurd are
   seats_further (x ∷ scripts) (other ∷ at_desks) script at_desk are is = (are.0, seats_further scripts at_desks script at_desk are.1 is)
 
-  pub seats_taken : (scripts : List (Vec ℕ Global)) (i : ℕ) (at_desks : List (TaskAtDesk J M ScriptTask)) (script : Vec ℕ Global) (at_desk : TaskAtDesk J M ScriptTask)
+  pub seats_taken : (scripts : List (Vec ℕ Global)) (i : ℕ) (at_desks : List (TaskAtDesk J M ScriptTask)) (script : Vec ℕ Global)
+      (at_desk : TaskAtDesk J M ScriptTask)
       → i < length scripts → script ≡ get_or scripts i script → AreTasks Is (take i scripts) at_desks → Is script at_desk
       → AreTasks Is (take (i + 1) scripts) (at_desks ++ at_desk ∷ [])
   seats_taken scripts i at_desks script at_desk below is are here =
@@ -69,7 +71,8 @@ both_if P Q R (Err e) join p q = tt
 
 -- of a script whose replies there are
 run_to : (J : Type 0) (journaled journaled' : Bool) (table table' : Table) (script script' : Text) (start start' : RunState) (counted counted' : Tally)
-    (replies replies' : Result Replies AllocError) → journaled ≡ journaled' → table ≡ table' → script ≡ script' → start ≡ start' → counted ≡ counted' → replies ≡ replies'
+    (replies replies' : Result Replies AllocError) → journaled ≡ journaled' → table ≡ table' → script ≡ script' → start ≡ start'
+    → counted ≡ counted' → replies ≡ replies'
     → IfOk replies (IsScriptRunTo J journaled table script start counted) → IfOk replies' (IsScriptRunTo J journaled' table' script' start' counted')
 run_to J journaled journaled' table table' script script' start start' counted counted' replies replies' j t x s c r run =
     subst (λ (q : Result Replies AllocError). IfOk q (IsScriptRunTo J journaled' table' script' start' counted')) r
@@ -79,7 +82,8 @@ run_to J journaled journaled' table table' script script' start start' counted c
     (subst (λ (q : Table). IfOk replies (IsScriptRunTo J journaled' q script start counted)) t
     (subst (λ (q : Bool). IfOk replies (IsScriptRunTo J q table script start counted)) j run)))))
 
-module _ {J M : Type 0} (journaled : Bool) (table : Table) (scripts : List (Vec ℕ Global)) (at_desks : List (TaskAtDesk J M ScriptTask)) (counted : List Tally) (all : List (Result Replies AllocError))
+module _ {J M : Type 0} (journaled : Bool) (table : Table) (scripts : List (Vec ℕ Global)) (at_desks : List (TaskAtDesk J M ScriptTask))
+    (counted : List Tally) (all : List (Result Replies AllocError))
     (left : AreLeft at_desks counted all) where
   -- what the task at this place leaves
   record LeftAt (place : ℕ) (at_desk : TaskAtDesk J M ScriptTask) (replies : Result Replies AllocError) : Type 0 where
@@ -125,18 +129,21 @@ module _ {J M : Type 0} (journaled : Bool) (table : Table) (scripts : List (Vec 
           starts = starts;
           all_run = all_many ∙ tasks_many (IsTask many journaled table) scripts at_desks are;
           all_started = length-map at_desks has_task ∙ tasks_many (IsTask many journaled table) scripts at_desks are;
-          all_counted = ap length left.desks_are ∙ length-map left.lefts (λ (l : TaskResult). l.0) ∙ lefts_many ∙ tasks_many (IsTask many journaled table) scripts at_desks are;
+          all_counted = ap length left.desks_are ∙ length-map left.lefts (λ (l : TaskResult). l.0) ∙ lefts_many
+              ∙ tasks_many (IsTask many journaled table) scripts at_desks are;
           each = λ place script replies start tally at_script at_replies at_start at_tally.
               let (at_desk, at_seat, task) = task_at (IsTask many journaled table) scripts at_desks place script are at_script in
               let l = left_at place at_desk replies at_seat at_replies in
               let start_is : has_task at_desk ≡ start =
               same_Some (has_task at_desk) start (sym (ap (option_map has_task) at_seat) ∙ sym (slice_get-map has_task at_desks place) ∙ at_start) in
               let tally_is : l.its.0 ≡ tally =
-              same_Some l.its.0 tally (sym (ap (option_map (λ (l : TaskResult). l.0)) l.at_place) ∙ sym (slice_get-map (λ (l : TaskResult). l.0) left.lefts place)
+              same_Some l.its.0 tally
+              (sym (ap (option_map (λ (l : TaskResult). l.0)) l.at_place) ∙ sym (slice_get-map (λ (l : TaskResult). l.0) left.lefts place)
               ∙ ap (λ xs. slice_get xs place) (sym left.desks_are) ∙ at_tally) in (
                 subst (IsBegunOn h) start_is (begun_on script at_desk task),
                 run_to J at_desk.task.journaled journaled (arc_value at_desk.task.table.now) table at_desk.task.script.now script.items (has_task at_desk) start
-                    l.is_left.left.tally tally l.its.2 replies task.journaled_is task.table_is task.script_is start_is (sym l.is_left.desk ∙ tally_is) l.replies_are l.is_left.is_left,
+                    l.is_left.left.tally tally l.its.2 replies task.journaled_is task.table_is task.script_is start_is (sym l.is_left.desk ∙ tally_is)
+                    l.replies_are l.is_left.is_left,
               );
           steps_before = ap steps_in desks_are ∙ steps;
           receipts_before = ap receipts_in desks_are ∙ receipts;

@@ -24,7 +24,8 @@ use Rattle.filing_threads.specs.UnderWay.{IsUnderWay, TakesBatch, KeptBy}
 use Rattle.filing_threads.proofs.JudgedScripts.{judged_further, all_used, none_starved, replies_further, told_further, used_told, used_further}
 use Rattle.filing_threads.proofs.ToldReplies.{lines_of_none}
 
-pub begins : (J : Type 0) (journaled : Bool) (table : Table) (script : Text) (start : RunState) → IsUnderWay {J = J} journaled table script script start start [] [] 0
+pub begins : (J : Type 0) (journaled : Bool) (table : Table) (script : Text) (start : RunState)
+    → IsUnderWay {J = J} journaled table script script start start [] [] 0
 begins J journaled table script start = record {
   lines = [];
   parts = refl;
@@ -127,7 +128,8 @@ module _ {J : Type 0} (journaled : Bool) (table : Table) (script rest : Text) (s
           gone = gone.more_gone;
           are = ap (λ os. os ++ takes.outcomes) way.are ∙ append_assoc way.gone kept takes.outcomes ∙ gone.are;
           used = used_further way.told batch.told.items way.outcomes takes.outcomes way.used
-              (all_used journaled table read.lines batch.told.items batch.steps.items now takes.mid kept takes.outcomes read.judged takes.runs (sym takes.whole_is));
+              (all_used journaled table read.lines batch.told.items batch.steps.items now takes.mid kept takes.outcomes read.judged takes.runs
+              (sym takes.whole_is));
           left = end;
           runs = runs;
           ahead = gone.ahead;
@@ -196,7 +198,8 @@ module _ {J : Type 0} (journaled : Bool) (table : Table) (script rest : Text) (s
       counted same
 
   -- the next line nests too deep for the journal
-  pub ends_deep : BeginsDeep journaled table (spoken (lines_of rest)) → (replies : Replies) → string_bytes replies.text ≡ text → replies.ending ≡ TooDeep (answered + 1)
+  pub ends_deep : BeginsDeep journaled table (spoken (lines_of rest)) → (replies : Replies) → string_bytes replies.text ≡ text
+      → replies.ending ≡ TooDeep (answered + 1)
       → (counted : Tally) → counted ≡ now.tally → IsScriptRunTo J journaled table script start counted replies
   ends_deep deep replies is ending counted same =
       run_of replies is

@@ -38,9 +38,11 @@ pub record AddsLine (journaled : Bool) (table : Table) (line : Text) (old new : 
 -- it is added, or it nests too deep for the journal, and the batch ends before it
 abbrev pub Judges : Bool → Table → Text → Batch → Batch → Bool → Type 0
 Judges journaled table line old new added =
-    MatchBool added (AddsLine journaled table line old new) (IsDeepLine journaled table line × (new ≡ record old { ends_deep = true }))
+    MatchBool added (AddsLine journaled table line old new)
+    (IsDeepLine journaled table line × (new ≡ record old { ends_deep = true }))
 
--- the first lines of a text that are not blank are classified, and the others are to come; a batch without a line ends before one that nests too deep
+-- the first lines of a text that are not blank are classified, and the others are to come;
+-- a batch without a line ends before one that nests too deep
 pub record AreBatch (journaled : Bool) (table : Table) (text rest : Text) (batch : Batch) : Type 0 where
   pub lines : List Text
   pub parts : spoken (lines_of text) ≡ lines ++ spoken (lines_of rest)

@@ -9,7 +9,7 @@ pub mod UnderWay
 pub mod Writing
 -- ---- offices that begin with a history
 pub mod FoundHistories
-pub mod Retaking
+pub mod Replaying
 pub mod Tasks
 -- ---- journals
 pub mod KeptEntries

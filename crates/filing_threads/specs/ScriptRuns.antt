@@ -14,16 +14,19 @@ use Rattle.filing_threads.specs.declared.replies.Replies.{Replies}
 use Rattle.filing_threads.specs.Lines.{AreJudged, BeginsDeep}
 use Rattle.filing_threads.specs.Telling.{replies_of, all_told}
 
--- how a run ended: each line of the script was classified and has its reply; or memory was wanted for a step, after which no step was taken; or memory was wanted otherwise;
+-- how a run ended: each line of the script was classified and has its reply;
+-- or memory was wanted for a step, after which no step was taken; or memory was wanted otherwise;
 -- or the next line, of this number, nests too deep for the journal
-abbrev pub EndsSo : {J : Type 0} → Bool → Table → Ending → List Text → List (Option (String Global)) → List (Outcome J) → Type 0
+abbrev pub EndsSo : {J : Type 0} → Bool → Table → Ending → List Text → List (Option (String Global))
+    → List (Outcome J) → Type 0
 EndsSo journaled table Whole later told outcomes = (later ≡ []) × (all_told told outcomes ≡ true)
 EndsSo journaled table StepStarved later told outcomes = all_told told outcomes ≡ false
 EndsSo journaled table LineStarved later told outcomes = all_told told outcomes ≡ true
 EndsSo journaled table (TooDeep number) later told outcomes =
     BeginsDeep journaled table later × (all_told told outcomes ≡ true) × (number ≡ length told + 1)
 
--- the first lines of the script are classified, their steps are taken at a desk that begins in this state, and the replies are those that lines have at once and those of the outcomes, in the order of the lines
+-- the first lines of the script are classified, their steps are taken at a desk that begins in this state,
+-- and the replies are those that lines have at once and those of the outcomes, in the order of the lines
 pub record IsScriptRun (J : Type 0) (journaled : Bool) (table : Table) (script : Text) (start : RunState)
     (replies : Replies) : Type 0 where
   pub lines : List Text

@@ -13,7 +13,7 @@ use Rattle.filing_office.specs.declared.desk_task.TaskAtDesk.{TaskAtDesk}
 use Rattle.filing_threads.specs.declared.replies.Replies.{Replies}
 use Rattle.filing_threads.specs.declared.script_task.ScriptTask.{ScriptTask}
 use Rattle.filing_threads.specs.FoundHistories.{IsScriptRunTo}
-use Rattle.filing_threads.specs.Retaking.{HasSeen}
+use Rattle.filing_threads.specs.Replaying.{HasSeen}
 
 -- ---- before the tasks
 

@@ -17,7 +17,8 @@ outcome_text NameInUse = Some name_in_use_text
 outcome_text NoSession = Some no_session_text
 outcome_text NoMemory = None
 
--- the replies to the lines, in their order, up to the first step that has none: the one that a line has at once, and where there is none that of the next outcome of the desk
+-- the replies to the lines, in their order, up to the first step that has none:
+-- the one that a line has at once, and where there is none that of the next outcome of the desk
 abbrev pub replies_of : {J : Type 0} → List (Option (String Global)) → List (Outcome J) → List Text
 replies_of [] os = []
 replies_of (Some text ∷ told) os = string_bytes text ∷ replies_of told os

@@ -32,7 +32,8 @@ pub record TakesBatch {J : Type 0} (told : List (Option (String Global))) (steps
   pub lets_go : LetsGo mid t (kept ++ outcomes) kept'
 
 -- the lines before the rest are classified and answered, by the outcomes that are kept and others that were let go
-pub record IsUnderWay {J : Type 0} (journaled : Bool) (table : Table) (script rest : Text) (start now : RunState) (kept : List (Outcome J))
+pub record IsUnderWay {J : Type 0} (journaled : Bool) (table : Table) (script rest : Text)
+    (start now : RunState) (kept : List (Outcome J))
     (text : Text) (answered : ℕ) : Type 0 where
   pub lines : List Text
   pub parts : spoken (lines_of script) ≡ lines ++ spoken (lines_of rest)

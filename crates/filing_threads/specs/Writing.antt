@@ -23,7 +23,8 @@ is_fed StepStarved = false
 is_fed LineStarved = false
 is_fed (TooDeep number) = true
 
--- the replies of one script after another: up to one for which memory was wanted while a line was classified, or for its replies
+-- the replies of one script after another: up to one for which memory was wanted while a line was classified,
+-- or for its replies
 abbrev pub texts_of : List (Result Replies AllocError) → Text
 texts_of [] = []
 texts_of (Ok replies ∷ others) = string_bytes replies.text ++ cond (is_last replies.ending) [] (texts_of others)
@@ -35,7 +36,8 @@ all_fed [] = true
 all_fed (Ok replies ∷ others) = is_fed replies.ending && all_fed others
 all_fed (Err e ∷ others) = false
 
--- all is written where memory was not wanted; a write failed after a front of it; or memory was wanted, and all that there is is written
+-- all is written where memory was not wanted; a write failed after a front of it;
+-- or memory was wanted, and all that there is is written
 abbrev pub Writes : List (Result Replies AllocError) → Result (Unit {0}) ThreadsFault → SinkState → SinkState → Type 0
 Writes replies (Ok x) sink sink' = Took sink sink' (texts_of replies) 0 × (all_fed replies ≡ true)
 Writes replies (Err Write) sink sink' = TookPart sink sink' (texts_of replies)

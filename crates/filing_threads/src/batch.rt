@@ -19,7 +19,8 @@ use std::alloc::{AllocError, Global};
 use std::sync::Arc;
 
 /// Lines that are classified at most before their steps are taken.
-/// The steps of many lines, one after another, find what they work on where the ones before have left it, near their processor.
+/// The steps of many lines, one after another, find what they work on where the ones before have left it,
+/// near their processor.
 const MOST_LINES: usize = 2048;
 
 /// Bytes of these lines at most, unless it is one line, since what is read of them is held.
@@ -92,7 +93,8 @@ impl Batch {
         }
     }
 
-    /// Classifies one more line and adds it, unless it nests too deep for a journal that is kept. Returns whether it is added.
+    /// Classifies one more line and adds it, unless it nests too deep for a journal that is kept.
+    /// Returns whether it is added.
     fn judge(
         &mut self,
         alloc: Global,
@@ -113,9 +115,11 @@ impl Batch {
         Ok(true)
     }
 
-    /// Classifies the first lines of a text that are not blank, and gives what follows them; none where there is no such line.
+    /// Classifies the first lines of a text that are not blank, and gives what follows them;
+    /// none where there is no such line.
     ///
-    /// They are at most `MOST_LINES` with `MOST_BYTES`, and end before a line that nests too deep for a journal, where one is kept.
+    /// They are at most `MOST_LINES` with `MOST_BYTES`, and end before a line that nests too deep for a journal,
+    /// where one is kept.
     pub(crate) fn read<'a>(
         alloc: Global,
         text: &'a [u8],

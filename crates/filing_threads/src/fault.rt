@@ -29,7 +29,8 @@ pub enum JournaledFault {
     /// `Write` is also reported where the journal took no more: it has stopped then, or is full.
     #[error("scripts with a journal did not run to their ends")]
     Threads(ThreadsFault),
-    /// The journal has what all scripts made before, and their replies are written. Of several such lines, that of the first script.
+    /// The journal has what all scripts made before, and their replies are written.
+    /// Of several such lines, that of the first script.
     #[error("a line nests too deep for the journal")]
     TooDeep(DeepLine),
 }

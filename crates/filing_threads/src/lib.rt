@@ -1,10 +1,11 @@
 //! Scripts in threads: each script has a desk and a reviewer of an office, and a thread of its own.
 //!
 //! - `batch`: takes a script's lines some at a time, and has each classified.
-//! - `script_task`: a script at its desk, in a thread: it has a batch classified, takes its steps in one locked batch, and appends the replies.
+//! - `script_task`: a script at its desk, in a thread: it has a batch classified, takes its steps in one locked batch,
+//!   and appends the replies.
 //! - `tasks`: gives each script a desk and a reviewer, and hands the tasks to `run_tasks`.
 //! - `entries`: entries of histories, and their lines.
-//! - `retaking`: takes the entries of a history again, at a desk.
+//! - `replay`: takes the steps of a history again, at a desk.
 //! - `office`: opens an office over a history, which may be empty, runs each script, and ends it.
 //! - `replies`: the replies to the lines.
 //! - `written`: writes them, one script after the other, once all have ended.
@@ -15,7 +16,8 @@
 //! - `journaled`: the whole, with a journal.
 //! - `fault`: why scripts did not run to their ends.
 //!
-//! Classifying, reviews and putting replies together need no lock: under that of the office are steps, and what a desk notes between two of them.
+//! Classifying, reviews and putting replies together need no lock: under that of the office are steps,
+//! and what a desk notes between two of them.
 //!
 //! It knows nothing of how a step is answered, of files, or of how a line of a history is written.
 #![tactic(auto)]
@@ -27,8 +29,8 @@ mod fault;
 mod journaled;
 mod keeping;
 mod office;
+mod replay;
 mod replies;
-mod retaking;
 mod script_task;
 mod tasks;
 mod threads;

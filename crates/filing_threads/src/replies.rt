@@ -19,7 +19,8 @@ pub(crate) enum Ending {
     StepStarved,
     /// Out of memory while lines were classified. The lines before them have their replies.
     LineStarved,
-    /// The line of this number, from 1 without blank lines, nests too deep for the journal. The lines before it have their replies.
+    /// The line of this number, from 1 without blank lines, nests too deep for the journal.
+    /// The lines before it have their replies.
     TooDeep(usize),
 }
 
@@ -65,7 +66,8 @@ fn push_next<J: Naming>(
     }
 }
 
-/// Appends the replies of some lines, each ended by a line feed: those at once, and between them what became of the steps.
+/// Appends the replies of some lines, each ended by a line feed:
+/// those at once, and between them what became of the steps.
 /// It ends at the first step that ran out of memory. Returns whether each line has its reply.
 pub(crate) fn push_replies<J: Naming>(
     text: &mut String,

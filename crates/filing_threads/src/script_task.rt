@@ -35,7 +35,8 @@ fn let_go<J: Naming>(learnt: Result<(), AllocError>, outcomes: &mut Vec<Outcome<
 }
 
 /// Runs a batch and appends its replies. Returns false if a step ran out of memory.
-/// The receipts are learnt before the lock is given back: the reviewer then drops a version with pages that other threads asked for,
+/// The receipts are learnt before the lock is given back:
+/// the reviewer then drops a version with pages that other threads asked for,
 /// and would hold these up while they have the lock.
 fn take_batch<L: Ledger + Naming, M: Ledger, A: Access<L, M>, G: Gate>(
     access: &mut A,

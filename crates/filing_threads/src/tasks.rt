@@ -3,7 +3,7 @@
 ghost use Rattle.std.specs.Prelude.{◌≡◌, [], ◌∷◌, All, length, map, vec_len, IfOk};
 ghost use Rattle.std.specs.Arc.{arc_value};
 ghost use Rattle.filing_model.specs.Sessions.Repository.{nothing};
-ghost use Rattle.filing_threads.specs.Retaking.{HasSeen, known_by};
+ghost use Rattle.filing_threads.specs.Replaying.{HasSeen, known_by};
 ghost use Rattle.filing_threads.specs.Tasks.{AreAtDesks, AreLeft, AreTasks, IsTask};
 
 use crate::replies::Replies;
@@ -39,8 +39,8 @@ type TaskResult<L, M> = (Desk<L, M>, Option<Reviewer<L>>, Result<Replies, AllocE
 /// The desks, and the replies to each script.
 pub(crate) type AllResults<L, M> = (Vec<Desk<L, M>>, Vec<Result<Replies, AllocError>>);
 
-/// A reviewer that has learnt the newest receipt.
-fn learnt<L: Naming>(
+/// Has a reviewer learn the newest receipt, if there is one, and gives it back.
+fn teach<L: Naming>(
     reviewer: Reviewer<L>,
     newest: &Option<Receipt<L>>,
 ) -> Result<Reviewer<L>, AllocError>
@@ -68,8 +68,8 @@ pub(crate) fn tasks_of<'a, L: Ledger + Naming, M: Ledger>(
 ) -> Result<Vec<TaskAtDesk<L, M, ScriptTask<'a>>>, AllocError>
     requires desks { vec_len desks ≡ length scripts.now }
     requires reviewers { (vec_len reviewers ≡ length scripts.now) × All (λ r. r ≡ nothing ∷ []) reviewers.items }
-    ensures tasks { IfOk result (λ at_desks. AreTasks (IsTask (known_by newest.now) journaled (arc_value table.now)) scripts.now
-        at_desks.items) }
+    ensures tasks { IfOk result (λ at_desks. AreTasks (IsTask (known_by newest.now) journaled (arc_value table.now))
+        scripts.now at_desks.items) }
     ensures at_desks { IfOk result (λ at_desks. AreAtDesks desks.items at_desks.items) }
 {
     let mut desks = desks;
@@ -82,7 +82,7 @@ pub(crate) fn tasks_of<'a, L: Ledger + Naming, M: Ledger>(
         let Some(reviewer) = reviewers.pop() else {
             unreachable!()
         };
-        let reviewer = learnt(reviewer, newest)?;
+        let reviewer = teach(reviewer, newest)?;
         let task = ScriptTask {
             script: script.as_slice(),
             table,
@@ -97,8 +97,8 @@ pub(crate) fn tasks_of<'a, L: Ledger + Naming, M: Ledger>(
     Ok(at_desks)
 }
 
-/// Puts what the threads leave apart.
-fn parted<L: Ledger + Naming, M: Ledger>(
+/// Puts the desks apart from the replies.
+fn part_results<L: Ledger + Naming, M: Ledger>(
     alloc: Global,
     all_left: Vec<TaskResult<L, M>>,
 ) -> Result<AllResults<L, M>, AllocError>
@@ -132,7 +132,7 @@ pub(crate) fn run_each<
 {
     let gate = Open { watch };
     match run_tasks(rt, alloc, office, at_desks, LockUse::Batches, &gate) {
-        Ok(all_left) => parted(alloc, all_left),
+        Ok(all_left) => part_results(alloc, all_left),
         Err(_) => Err(AllocError),
     }
 }

@@ -27,9 +27,11 @@ pub struct ThreadsOnHistory {
     pub core: Option<Core>,
 }
 
-/// Runs scripts as `run_threads` does, at an office that begins with these entries, oldest first, and has keys that hash things read.
+/// Runs scripts as `run_threads` does, at an office that begins with these entries, oldest first.
+/// Its keys hash things read.
 ///
-/// One desk takes their steps again. Then each script begins, with no name in use and a reviewer that has seen the last version.
+/// One desk takes their steps again. Then each script begins, with no name in use and a reviewer that has seen
+/// the last version.
 /// The watch is called for each step that is taken after them.
 /// The core has the whole history, which begins with the lines of these entries.
 pub fn run_threads_on_history<W: Sink, R: Threads + Wait + Sync, V: Watch>(
@@ -64,10 +66,13 @@ pub fn run_threads_on_history<W: Sink, R: Threads + Wait + Sync, V: Watch>(
     }
 }
 
-/// Runs scripts, from 1 to 16, each in a thread of its own with a desk and a reviewer of one office, and writes the replies of one script after the other.
+/// Runs scripts, from 1 to 16, each in a thread of its own with a desk and a reviewer of one office,
+/// and writes the replies of one script after the other.
 ///
-/// A script is answered as `run_script` answers one, but its reviews take no lock, names are its own, and an export is a bad line.
-/// Where a step runs out of memory, the replies of that script end before it, all other replies are written, and the answer is `NoMemory`.
+/// A script is answered as `run_script` answers one, but its reviews take no lock, names are its own,
+/// and an export is a bad line.
+/// Where a step runs out of memory, the replies of that script end before it, all other replies are written,
+/// and the answer is `NoMemory`.
 /// Where anything else runs out of memory, nothing is written after the replies so far.
 /// After any other fault a prefix of the replies is written.
 pub fn run_threads<W: Sink, R: Threads + Wait + Sync>(

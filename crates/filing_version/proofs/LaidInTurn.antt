@@ -3,13 +3,12 @@ use Rattle.std.proofs.Common.{◌≡◌, ◌∙◌, ap, sym, refl, Bool, true, f
 use Rattle.std.specs.FinMap.Entries.{find, is_sorted, below_all}
 use Rattle.filing_model.specs.Common.Text.{Text, text_cmp, text_eq}
 use Rattle.filing_model.specs.Common.TextMap.{empty, insert}
-use Rattle.filing_model.specs.Oim.Reports.{Report}
 use Rattle.filing_model.specs.Sessions.Repository.{Repository, report_at}
 use Rattle.filing_model.specs.Sessions.Changes.{ReportChange, Change, no_change, changed, changed_at, laid_over}
 use Rattle.filing_model.specs.Histories.Stamps.{Version}
-use Rattle.filing_model.proofs.Common.Tests.{first_holds, second_holds}
-use Rattle.filing_model.proofs.Common.MapsOfLists.{tied_is_not_found}
-use Rattle.filing_laws.proofs.Updating.LaidOver.{repositories_same, report_at-laid_over, count-laid_over}
+use Rattle.filing_model.proofs.Common.Tests.{second_holds}
+use Rattle.filing_laws.proofs.Updating.FirstFound.{none_behind}
+use Rattle.filing_laws.proofs.Updating.LaidOver.{repositories_same, unchanged, change_of, report_at-laid_over, count-laid_over}
 
 abbrev laid_in_turn : List (Text × ReportChange) → Repository → Repository
 laid_in_turn [] c = c
@@ -19,13 +18,6 @@ laid_in_turn (e ∷ es) c = laid_in_turn es (changed_at c e)
 abbrev alone : Text × ReportChange → Change
 alone e = insert empty e.0 e.1
 
-unchanged : (o : Option Report) → option_map (changed no_change) o ≡ o
-unchanged None = refl
-unchanged (Some r) = refl
-
-abbrev change_of : List (Text × ReportChange) → Text → ReportChange
-change_of es m = unwrap_or (find text_cmp m es) no_change
-
 report_at-in_turn : (es : List (Text × ReportChange)) (c : Repository) (m : Text) → T (is_sorted text_cmp es)
     → report_at (laid_in_turn es c) m ≡ option_map (changed (change_of es m)) (report_at c m)
 report_at-in_turn [] c m sorted = sym (unchanged (report_at c m))
@@ -34,14 +26,12 @@ report_at-in_turn (e ∷ es) c m sorted =
     ∙ ap (option_map (changed (change_of es m))) (report_at-laid_over (alone e) c m)
     ∙ by (text_eq m e.0) refl
   where
-    gone : text_eq m e.0 ≡ true → find text_cmp m es ≡ None
-    gone same = tied_is_not_found m e.0 es same (first_holds (below_all text_cmp e.0 es) (is_sorted text_cmp es) sorted)
-
     by : (b : Bool) → text_eq m e.0 ≡ b
         → option_map (changed (change_of es m)) (option_map (changed (unwrap_or (cond b (Some e.1) None) no_change)) (report_at c m))
         ≡ option_map (changed (unwrap_or (cond b (Some e.1) (find text_cmp m es)) no_change)) (report_at c m)
     by true same =
-        ap (λ (o : Option ReportChange). option_map (changed (unwrap_or o no_change)) (option_map (changed e.1) (report_at c m))) (gone same)
+        ap (λ (o : Option ReportChange). option_map (changed (unwrap_or o no_change)) (option_map (changed e.1) (report_at c m)))
+        (none_behind m e es sorted same)
         ∙ unchanged (option_map (changed e.1) (report_at c m))
     by false other = ap (option_map (changed (change_of es m))) (unchanged (report_at c m))
 

@@ -1,4 +1,4 @@
-pub mod FiledReports
+pub mod NextVersions
 pub mod StampedReports
 pub mod TakenReports
 pub mod LaidInTurn

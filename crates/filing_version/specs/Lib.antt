@@ -1,3 +1,3 @@
 pub mod Puts
 pub mod Found
-pub mod Filed
+pub mod StampedReports

@@ -1,5 +1,6 @@
 //! `Change`: what a session puts, removes and declares, by report.
-ghost use Rattle.std.specs.Prelude.{◌≡◌, ◌↔◌, option_copied, option_map, string_bytes, unwrap_or, IfOk, IsTrue, OnOk, OnErr};
+ghost use Rattle.std.specs.Prelude.{◌≡◌, ◌↔◌, option_copied, option_map, string_bytes, unwrap_or, IfOk, IsTrue, OnOk};
+ghost use Rattle.std.specs.Prelude.{OnErr};
 ghost use Rattle.std.specs.Arc.{arc_value};
 ghost use Rattle.filing_model.specs.Common.TextMap.{empty, get, insert};
 ghost use Rattle.filing_model.specs.Sessions.Changes.{change_at, declared_in, with_change, with_declared};
@@ -89,7 +90,7 @@ impl Change {
         })
     }
 
-    /// The change with a put into a report, in the place of an earlier put of its identifier. This change stays as it is.
+    /// A copy with a put into a report, in the place of an earlier put of its identifier.
     pub fn with_record(&self, report: &str, put: PutRecord) -> Result<Change, AllocError>
         ensures { IfOk result (λ next. next ≡ with_change self.now report.now put.0 put.1) }
     {
@@ -100,7 +101,7 @@ impl Change {
         self.with_report(report, changed)
     }
 
-    /// The change with a fact put, or removed, at an identifier, in the place of an earlier put of it. This change stays as it is.
+    /// A copy with a fact put, or removed, at an identifier, in the place of an earlier put of it.
     pub fn with_fact(
         &self,
         report: &str,
@@ -151,14 +152,14 @@ impl Change {
         Ok(())
     }
 
-    /// The change with a value declared, in the place of the one that it declared before. This change stays as it is.
-    pub fn declaring(&self, report: &str, allowed: Allowed) -> Result<Change, AllocError>
+    /// A copy with a value declared, in the place of the one that it declared before.
+    pub fn with_declared(&self, report: &str, allowed: Allowed) -> Result<Change, AllocError>
         ensures { IfOk result (λ next. next ≡ with_declared self.now report.now allowed) }
     {
         let none = ChangedReport::new(self.alloc);
         let changed = self
             .report_or(report, &none)
-            .declaring(self.alloc, allowed)?;
+            .with_declared(self.alloc, allowed)?;
         self.with_report(report, changed)
     }
 
@@ -166,7 +167,7 @@ impl Change {
     pub fn ready_declare(&self, report: &str, allowed: Allowed) -> Result<ReadyDeclare, AllocError>
         ensures { IfOk result (λ next. next ≡ with_declared self.now report.now allowed) }
     {
-        let change = self.declaring(report, allowed)?;
+        let change = self.with_declared(report, allowed)?;
         Ok(ReadyDeclare { change })
     }
 

@@ -13,7 +13,8 @@ use std::marker::Model;
 use std::sync::Arc;
 use text_map::{NamedValue, PagedValue, TextPages};
 
-/// The value that a report is to declare, if any, and by identifier the fact that is put there, or none where it is removed.
+/// The value that a report is to declare, if any, and by identifier the fact that is put there,
+/// or none where it is removed.
 #[derive(Drop)]
 pub(crate) struct ChangedReport {
     declared: Option<Allowed>,
@@ -37,8 +38,8 @@ pub(crate) fn fact_of(put: &Option<IndexedFact>) -> Option<&Arc<Fact>>
     put.as_ref().map(IndexedFact::fact)
 }
 
-/// A fact that is put, or none.
-pub(crate) fn held_among(
+/// The fact that is put, as an index holds it, or none.
+pub(crate) fn index_put(
     alloc: Global,
     key_cache: &mut KeyCache,
     fact: Option<Arc<Fact>>,
@@ -47,7 +48,7 @@ pub(crate) fn held_among(
 {
     match fact {
         None => Ok(None),
-        Some(fact) => Ok(Some(IndexedFact::among(alloc, key_cache, fact)?)),
+        Some(fact) => Ok(Some(IndexedFact::of(alloc, key_cache, fact)?)),
     }
 }
 
@@ -90,7 +91,7 @@ impl ChangedReport {
     }
 
     /// A copy with a value declared.
-    pub(crate) fn declaring(
+    pub(crate) fn with_declared(
         &self,
         alloc: Global,
         allowed: Allowed,

@@ -1,7 +1,7 @@
 //! A report whose facts stand in indexes.
 ghost use Rattle.std.specs.Prelude.{◌≡◌, [], IfOk};
 ghost use Rattle.std.specs.Arc.{arc_value};
-ghost use Rattle.filing_version.specs.Filed.{without_facts};
+ghost use Rattle.filing_version.specs.StampedReports.{without_facts};
 
 use filing_facts::{IndexedFact, KeyCache};
 use filing_index::Facts;
@@ -11,7 +11,8 @@ use std::marker::Model;
 use std::sync::Arc;
 use text_map::NamedValue;
 
-/// A report with all that its load needs and that no version changes, so that it can be made before a lock is taken. Contracts see the report.
+/// A report with all that its load needs and no version changes, so that it can be made before a lock is taken.
+/// Contracts see the report.
 #[derive(Drop)]
 pub struct IndexedReport {
     report: Arc<Report>,
@@ -27,7 +28,7 @@ impl Model for IndexedReport {
 
     ghost use Rattle.std.specs.Prelude.{◌≡◌};
     ghost use Rattle.std.specs.Arc.{arc_value};
-    ghost use Rattle.filing_version.specs.Filed.{without_facts};
+    ghost use Rattle.filing_version.specs.StampedReports.{without_facts};
 
     ghost view = { λ i. arc_value i.report };
 
@@ -43,14 +44,14 @@ fn held_facts(alloc: Global, report: &Report) -> Result<Vec<NamedValue<IndexedFa
     let mut key_cache = KeyCache::new(alloc);
     let mut held = Vec::with_capacity(alloc, facts.len())?;
     for (id, fact) in facts {
-        let fact = IndexedFact::among(alloc, &mut key_cache, Arc::try_clone(fact)?)?;
+        let fact = IndexedFact::of(alloc, &mut key_cache, Arc::try_clone(fact)?)?;
         held.push(NamedValue::new(alloc, id.clone()?, fact)?)?;
     }
     Ok(held)
 }
 
 /// The indexes of the facts of a report.
-fn indexed(alloc: Global, report: &Report) -> Result<Facts, AllocError>
+fn index_facts(alloc: Global, report: &Report) -> Result<Facts, AllocError>
     ensures { IfOk result (λ f. f.entries ≡ report.now.facts.entries) }
 {
     let held = held_facts(alloc, report)?;
@@ -76,7 +77,7 @@ impl IndexedReport {
     {
         let copy = without_facts(alloc, &report)?;
         let header = Arc::new(alloc, copy)?;
-        let facts = indexed(alloc, &report)?;
+        let facts = index_facts(alloc, &report)?;
         Ok(IndexedReport {
             report,
             header,

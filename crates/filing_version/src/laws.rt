@@ -3,7 +3,7 @@ ghost use Rattle.std.specs.Prelude.{IfOk, length};
 ghost use Rattle.std.specs.Option.{option_map_or};
 ghost use Rattle.sorted_pages.specs.Pages.{AreSizes};
 ghost use Rattle.filing_model.specs.Sessions.Repository.{report_at};
-ghost use Rattle.filing_version.specs.Filed.{repository_in};
+ghost use Rattle.filing_version.specs.StampedReports.{repository_in};
 
 use crate::version::RepoVersion;
 use std::alloc::{AllocError, Global};

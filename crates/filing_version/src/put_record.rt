@@ -2,7 +2,7 @@
 ghost use Rattle.std.specs.Prelude.{◌≡◌, option_map, string_bytes, IfOk};
 ghost use Rattle.std.specs.Arc.{arc_value};
 
-use crate::changed_report::held_among;
+use crate::changed_report::index_put;
 use filing_facts::{IndexedFact, KeyCache};
 use oim_fact::Fact;
 use sorted_pages::PageEntry;
@@ -11,7 +11,8 @@ use std::marker::Model;
 use std::sync::Arc;
 use text_map::NamedValue;
 
-/// An identifier with the fact that is put there, or none where it is removed. Several changes may hold it. Contracts see the two.
+/// An identifier with the fact that is put there, or none where it is removed. Several changes may hold it.
+/// Contracts see the two.
 #[derive(Drop)]
 pub struct PutRecord {
     entry: NamedValue<Option<IndexedFact>>,
@@ -32,11 +33,11 @@ impl PutRecord {
     pub fn of(alloc: Global, id: String, fact: Option<Arc<Fact>>) -> Result<PutRecord, AllocError>
         ensures { IfOk result (λ p. p ≡ (string_bytes id, option_map arc_value fact)) }
     {
-        PutRecord::among(alloc, &mut KeyCache::new(alloc), id, fact)
+        PutRecord::of_shared_keys(alloc, &mut KeyCache::new(alloc), id, fact)
     }
 
     /// A put among others, which shares what its fact has in common with those before it.
-    pub fn among(
+    pub fn of_shared_keys(
         alloc: Global,
         key_cache: &mut KeyCache,
         id: String,
@@ -44,7 +45,7 @@ impl PutRecord {
     ) -> Result<PutRecord, AllocError>
         ensures { IfOk result (λ p. p ≡ (string_bytes id, option_map arc_value fact)) }
     {
-        let put = held_among(alloc, key_cache, fact)?;
+        let put = index_put(alloc, key_cache, fact)?;
         let entry = NamedValue::new(alloc, id, put)?;
         Ok(PutRecord { entry })
     }

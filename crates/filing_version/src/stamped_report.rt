@@ -8,7 +8,8 @@ ghost use Rattle.filing_model.specs.Oim.Duplicates.{least_disallowed};
 ghost use Rattle.oim_report.specs.Parts.{facts_view};
 ghost use Rattle.filing_facts.specs.FactChanges.{Part, fact_changes_of, stamped_by, with_changes};
 ghost use Rattle.filing_stamps.specs.Stamps.{stamp_in};
-ghost use Rattle.filing_version.specs.Filed.{filed_of, newly_filed, changed_filed, without_facts};
+ghost use Rattle.filing_version.specs.StampedReports.{stamped_report_of, new_stamped_report, changed_stamped_report};
+ghost use Rattle.filing_version.specs.StampedReports.{without_facts};
 
 use crate::changed_report::ChangedReport;
 use crate::indexed_report::{IndexedReport, without_facts};
@@ -22,11 +23,11 @@ use std::marker::Model;
 use std::sync::Arc;
 use text_map::{PagedValue, TextPages};
 
-/// A report whose facts stand in indexes, with its stamps: the number of its load, that of the last commit that declared its value,
-/// and those of its parts. Contracts see these.
+/// A report whose facts stand in indexes, with its stamps: the number of its load,
+/// that of the last commit that declared its value, and those of its parts. Contracts see these.
 #[derive(Drop)]
 pub(crate) struct StampedReport {
-    /// A copy of the report without its facts, which are those of the indexes: a fact that no version has any more is freed.
+    /// A copy of the report without its facts. They stand in the indexes, so facts that no version has are freed.
     header: Arc<Report>,
     facts: Facts,
     loaded: u64,
@@ -36,9 +37,9 @@ pub(crate) struct StampedReport {
 
 impl Model for StampedReport {
     ghost use Rattle.std.specs.Arc.{arc_value};
-    ghost use Rattle.filing_version.specs.Filed.{StampedReport as PlainStampedReport};
+    ghost use Rattle.filing_version.specs.StampedReports.{StampedReportValue};
 
-    ghost Value = { PlainStampedReport };
+    ghost Value = { StampedReportValue };
 
     ghost view = { λ f. record {
       report = record (arc_value f.header) { facts = f.facts };
@@ -58,8 +59,8 @@ fn copy_declaring(alloc: Global, header: &Report, allowed: Allowed) -> Result<Re
     copy.with_allowed(alloc, allowed)
 }
 
-/// A report that declares this value, where one is given; else another owner of the same. Which facts it has is not looked at.
-fn declaring(
+/// A report that declares this value, if one is given; else another owner of this report. Its facts are not looked at.
+fn share_declaring(
     alloc: Global,
     header: &Arc<Report>,
     declared: Option<Allowed>,
@@ -96,7 +97,7 @@ fn facts_with(
 impl StampedReport {
     /// A report that is loaded as this version. It takes no memory.
     pub(crate) fn new(alloc: Global, report: IndexedReport, number: u64) -> StampedReport
-        ensures { filed_of result ≡ newly_filed number report }
+        ensures { stamped_report_of result ≡ new_stamped_report number report }
     {
         let (header, facts) = report.into_parts();
         StampedReport {
@@ -108,16 +109,16 @@ impl StampedReport {
         }
     }
 
-    /// The facts with puts laid over them, and the stamps of their parts, which have this number where the puts touch them.
-    fn moved(
+    /// The facts with puts laid over them, and the stamps of their parts: this number where the puts touch one.
+    fn facts_and_stamps_after(
         &self,
         alloc: Global,
         puts: &TextPages<Option<IndexedFact>>,
         number: u64,
     ) -> Result<(Facts, Stamps), AllocError>
         requires { (part : Part) → stamp_in self.now.stamps part ≤ number }
-        ensures facts { IfOk result (λ moved. moved.0 ≡ with_changes puts.now.entries self.now.report.facts) }
-        ensures stamps { IfOk result (λ moved. stamp_in moved.1
+        ensures facts { IfOk result (λ after. after.0 ≡ with_changes puts.now.entries self.now.report.facts) }
+        ensures stamps { IfOk result (λ after. stamp_in after.1
             ≡ stamped_by (fact_changes_of puts.now.entries self.now.report.facts) number (stamp_in self.now.stamps)) }
     {
         let fact_changes = self.facts.fact_changes(alloc, puts)?;
@@ -134,14 +135,15 @@ impl StampedReport {
         number: u64,
     ) -> Result<StampedReport, AllocError>
         requires { (part : Part) → stamp_in self.now.stamps part ≤ number }
-        ensures { IfOk result (λ f. filed_of f ≡ changed_filed number change.now (filed_of self.now)) }
+        ensures { IfOk result (λ f. stamped_report_of f
+            ≡ changed_stamped_report number change.now (stamped_report_of self.now)) }
     {
         let declared = match change.declared() {
             Some(_) => number,
             None => self.declared,
         };
-        let header = declaring(alloc, &self.header, change.declared())?;
-        let (facts, stamps) = self.moved(alloc, change.facts(), number)?;
+        let header = share_declaring(alloc, &self.header, change.declared())?;
+        let (facts, stamps) = self.facts_and_stamps_after(alloc, change.facts(), number)?;
         Ok(StampedReport {
             header,
             facts,
@@ -179,10 +181,10 @@ impl StampedReport {
         number: u64,
     ) -> Result<StampedReport, AllocError>
         requires { (part : Part) → stamp_in self.now.stamps part ≤ number }
-        ensures { IfOk result (λ f. filed_of f
-            ≡ record (filed_of self.now) { report = changed change.now self.now.report }) }
+        ensures { IfOk result (λ f. stamped_report_of f
+            ≡ record (stamped_report_of self.now) { report = changed change.now self.now.report }) }
     {
-        let header = declaring(alloc, &self.header, change.declared())?;
+        let header = share_declaring(alloc, &self.header, change.declared())?;
         let stamps = self.stamps_again(alloc, number)?;
         let facts = self.facts_after(alloc, change.facts())?;
         Ok(StampedReport {
@@ -200,10 +202,10 @@ impl StampedReport {
         alloc: Global,
         change: &ChangedReport,
     ) -> Result<StampedReport, AllocError>
-        ensures { IfOk result (λ f. filed_of f
-            ≡ record (filed_of self) { report = changed change.now self.report }) }
+        ensures { IfOk result (λ f. stamped_report_of f
+            ≡ record (stamped_report_of self) { report = changed change.now self.report }) }
     {
-        let header = declaring(alloc, &self.header, change.declared())?;
+        let header = share_declaring(alloc, &self.header, change.declared())?;
         let StampedReport {
             header: _,
             facts: before,
@@ -317,14 +319,14 @@ impl StampedReport {
     }
 
     /// The number of its load.
-    pub(crate) fn loaded(&self) -> u64
+    pub(crate) fn load_stamp(&self) -> u64
         ensures { result ≡ self.now.loaded }
     {
         self.loaded
     }
 
     /// The number of the last commit that declared its value, or 0.
-    pub(crate) fn declared(&self) -> u64
+    pub(crate) fn policy_stamp(&self) -> u64
         ensures { result ≡ self.now.declared }
     {
         self.declared

@@ -1,6 +1,8 @@
 //! `RepoVersion`: one unchanging state of the repository.
-ghost use Rattle.std.specs.Prelude.{◌≡◌, ◌≤◌, ◌+◌, ◌<◌, ◌^◌, [], ◌∷◌, max, None, Some, Ok, true, Option, option_map, option_and_then, string_bytes, unwrap_or, IfOk, IfSome};
+ghost use Rattle.std.specs.Prelude.{◌≡◌, ◌≤◌, ◌+◌, ◌<◌, ◌^◌, [], ◌∷◌, max, None, Some, Ok, true, Option, option_map};
+ghost use Rattle.std.specs.Prelude.{option_and_then, string_bytes, unwrap_or, IfOk, IfSome};
 ghost use Rattle.std.specs.Arc.{arc_value};
+ghost use Rattle.std.specs.Option.{option_map_or};
 ghost use Rattle.filing_model.specs.Common.Text.{Text};
 ghost use Rattle.filing_model.specs.Common.TextMap.{get as value_at, insert, remove};
 ghost use Rattle.filing_model.specs.Sessions.Repository.{Repository, report_at, fact_in, with_report_at};
@@ -15,8 +17,9 @@ ghost use Rattle.filing_facts.specs.FactChanges.{Part};
 ghost use Rattle.filing_facts.specs.PeriodFilterRef.{period_filter_of};
 ghost use Rattle.filing_stamps.specs.Stamps.{stamp_in as part_stamp};
 ghost use Rattle.filing_version.specs.Found.{got_of};
-ghost use Rattle.filing_version.specs.Filed.{StampedReport as PlainStampedReport, KeepsItsStamps, version_in, repository_in};
-ghost use Rattle.filing_version.specs.Filed.{mapped, filed_of, filed_after, changed_filed, IsStampedUpTo};
+ghost use Rattle.filing_version.specs.StampedReports.{StampedReportValue, KeepsItsStamps, version_in, repository_in};
+ghost use Rattle.filing_version.specs.StampedReports.{mapped, stamped_report_of, stamped_reports_after, thing_in};
+ghost use Rattle.filing_version.specs.StampedReports.{IsStampedUpTo};
 
 use crate::change::Change;
 use crate::changed_report::ChangedReport;
@@ -26,6 +29,7 @@ use crate::indexed_report::IndexedReport;
 use crate::stamped_report::StampedReport;
 use filing_facts::PeriodFilterRef;
 use filing_index::{Facts, Ids};
+use filing_stamps::Stamps;
 use oim_fact::{Allowed, Class, DimSet, Fact, Names};
 use oim_report::Report;
 use std::alloc::{AllocError, Global};
@@ -33,8 +37,9 @@ use std::marker::Model;
 use std::sync::Arc;
 use text_map::{NamedValue, TextPages};
 
-/// One state of the repository, which never changes: its reports, and the stamp of each thing, the number of the last load or commit that touched it.
-/// Reports and facts are shared with other versions. Contracts see the plain repository with its stamps, by `version_in`.
+/// One state of the repository, which never changes: its reports, and the stamp of each thing,
+/// the number of the last load or commit that touched it. Reports and facts are shared with other versions.
+/// Contracts see the plain repository with its stamps, by `version_in`.
 #[derive(Drop)]
 pub struct RepoVersion {
     number: u64,
@@ -42,27 +47,27 @@ pub struct RepoVersion {
 }
 
 impl Model for RepoVersion {
-    ghost use Rattle.filing_version.specs.Filed.{mapped, filed_of, IsStampedUpTo, StampedReports};
+    ghost use Rattle.filing_version.specs.StampedReports.{mapped, stamped_report_of, IsStampedUpTo, StampedReports};
 
     ghost Value = { StampedReports };
 
     ghost view = { λ v. record { number = v.number; reports = v.reports } };
 
-    ghost invariant = { λ v. IsStampedUpTo v.number (mapped filed_of v.reports) };
+    ghost invariant = { λ v. IsStampedUpTo v.number (mapped stamped_report_of v.reports) };
 }
 
 /// A report under its name with a change laid over it, in place where no other version holds what changes.
 fn changed_entry(
     alloc: Global,
     name: String,
-    filed: StampedReport,
+    stamped: StampedReport,
     change: &ChangedReport,
 ) -> Result<NamedValue<StampedReport>, AllocError>
     ensures name { IfOk result (λ n. n.0 ≡ string_bytes name) }
-    ensures report { IfOk result (λ n. filed_of n.1
-        ≡ record (filed_of filed) { report = changed change.now filed.report }) }
+    ensures report { IfOk result (λ n. stamped_report_of n.1
+        ≡ record (stamped_report_of stamped) { report = changed change.now stamped.report }) }
 {
-    let changed = filed.into_with_change(alloc, change)?;
+    let changed = stamped.into_with_change(alloc, change)?;
     NamedValue::new(alloc, name, changed)
 }
 
@@ -95,7 +100,7 @@ fn with_entry(
     reports: TextPages<StampedReport>,
     entry: Result<NamedValue<StampedReport>, AllocError>,
 ) -> Result<TextPages<StampedReport>, AllocError>
-    ensures { IfOk result (λ next. (made : Text × PlainStampedReport) × (entry ≡ Ok made)
+    ensures { IfOk result (λ next. (made : Text × StampedReportValue) × (entry ≡ Ok made)
         × (next ≡ insert reports made.0 made.1)) }
 {
     match entry {
@@ -107,36 +112,37 @@ fn with_entry(
     }
 }
 
-/// The reports with the change of one of them laid over it, stamped with this number; none where it is not there.
+/// The reports with the change of one of them laid over it, stamped with this number; none if it is not there.
 fn with_stamped_part(
     alloc: Global,
     reports: &TextPages<StampedReport>,
     part: &NamedValue<ChangedReport>,
     number: u64,
 ) -> Result<Option<TextPages<StampedReport>>, AllocError>
-    requires { IsStampedUpTo number (mapped filed_of reports.now) }
-    ensures { IfOk result (λ o. unwrap_or (option_map (mapped filed_of) o) (mapped filed_of reports.now)
-        ≡ filed_after number (part.now ∷ []) (mapped filed_of reports.now)) }
+    requires { IsStampedUpTo number (mapped stamped_report_of reports.now) }
+    ensures { IfOk result (λ o. unwrap_or (option_map (mapped stamped_report_of) o)
+        (mapped stamped_report_of reports.now)
+        ≡ stamped_reports_after number (part.now ∷ []) (mapped stamped_report_of reports.now)) }
 {
-    let Some(filed) = reports.get(part.name()) else {
+    let Some(stamped) = reports.get(part.name()) else {
         return Ok(None);
     };
     let name = String::from_str(alloc, part.name())?;
-    let next = filed.after(alloc, part.value(), number)?;
+    let next = stamped.after(alloc, part.value(), number)?;
     let reports = reports.with(alloc, name, next)?;
     Ok(Some(reports))
 }
 
-/// The reports with the change of one of them laid over it, stamped with this number; as they are where it is not there.
+/// The reports with the change of one of them laid over it, stamped with this number; unchanged if it is not there.
 fn into_stamped_part(
     alloc: Global,
     reports: TextPages<StampedReport>,
     part: &NamedValue<ChangedReport>,
     number: u64,
 ) -> Result<TextPages<StampedReport>, AllocError>
-    requires { IsStampedUpTo number (mapped filed_of reports) }
-    ensures { IfOk result (λ next. mapped filed_of next
-        ≡ filed_after number (part.now ∷ []) (mapped filed_of reports)) }
+    requires { IsStampedUpTo number (mapped stamped_report_of reports) }
+    ensures { IfOk result (λ next. mapped stamped_report_of next
+        ≡ stamped_reports_after number (part.now ∷ []) (mapped stamped_report_of reports)) }
 {
     match with_stamped_part(alloc, &reports, part, number) {
         Ok(None) => Ok(reports),
@@ -174,10 +180,10 @@ impl RepoVersion {
     pub fn get(&self, report: &str, id: &str) -> Got<'_>
         ensures { got_of result ≡ option_map (λ r. fact_in r id.now) (report_at (repository_in self.now) report.now) }
     {
-        let Some(filed) = self.reports.get(report) else {
+        let Some(stamped) = self.reports.get(report) else {
             return Got::NoReport;
         };
-        match filed.facts().get(id) {
+        match stamped.facts().get(id) {
             Some(fact) => Got::Found(fact),
             None => Got::Absent,
         }
@@ -200,8 +206,8 @@ impl RepoVersion {
         Some(facts.cell(dims))
     }
 
-    /// The identifiers, in byte order, of the facts with a concept and a period that passes the filter. None where the report is not there.
-    /// If `after` is given, they are all greater than it.
+    /// The identifiers, in byte order, of the facts with a concept and a period that passes the filter;
+    /// if `after` is given, only those greater than it. None if the report is not there.
     pub fn query<'a>(
         &'a self,
         report: &str,
@@ -242,7 +248,7 @@ impl RepoVersion {
         Some(self.reports.get(report)?.names())
     }
 
-    /// The version with a change laid over it, which counts one more. What the change touches has that number as its stamp.
+    /// The version with a change laid over it, which counts one more. What the change touches has that number.
     pub fn after(&self, alloc: Global, change: &Change) -> Result<RepoVersion, AllocError>
         requires there { (name : Text) → report_at (repository_in self.now) name ≡ None
             → value_at change.now name ≡ None }
@@ -269,8 +275,8 @@ impl RepoVersion {
         ensures { IfOk result (λ v. version_in v ≡ version_with (string_bytes name) report (version_in self.now)) }
     {
         let number = self.number + 1;
-        let filed = StampedReport::new(alloc, report, number);
-        let reports = self.reports.with(alloc, name, filed)?;
+        let stamped = StampedReport::new(alloc, report, number);
+        let reports = self.reports.with(alloc, name, stamped)?;
         Ok(RepoVersion { number, reports })
     }
 
@@ -290,8 +296,8 @@ impl RepoVersion {
         self.with_indexed_report(alloc, name, indexed)
     }
 
-    /// The version once more, which shares its reports.
-    fn again(&self, alloc: Global) -> Result<RepoVersion, AllocError>
+    /// A copy of the version, which shares its reports.
+    fn share(&self, alloc: Global) -> Result<RepoVersion, AllocError>
         ensures { IfOk result (λ v. version_in v ≡ version_in self.now) }
     {
         let reports = self.reports.share(alloc)?;
@@ -302,25 +308,25 @@ impl RepoVersion {
     }
 
     /// The version with another report of a name that it has, whose stamps are as they were.
-    fn with_filed(
+    fn with_stamped_report(
         &self,
         alloc: Global,
         name: String,
-        filed: StampedReport,
+        stamped: StampedReport,
     ) -> Result<RepoVersion, AllocError>
-        requires { (old : PlainStampedReport) × KeepsItsStamps self.now.reports (string_bytes name) old filed }
+        requires { (old : StampedReportValue) × KeepsItsStamps self.now.reports (string_bytes name) old stamped }
         ensures { IfOk result (λ v. version_in v ≡ record (version_in self.now) {
-          repository = with_report_at (repository_in self.now) (string_bytes name) filed.report;
+          repository = with_report_at (repository_in self.now) (string_bytes name) stamped.report;
         }) }
     {
-        let reports = self.reports.with(alloc, name, filed)?;
+        let reports = self.reports.with(alloc, name, stamped)?;
         Ok(RepoVersion {
             number: self.number,
             reports,
         })
     }
 
-    /// The version with the change of one report laid over it; the same where the report is not there.
+    /// The version with the change of one report laid over it; unchanged if the report is not there.
     fn with_part(
         &self,
         alloc: Global,
@@ -329,12 +335,12 @@ impl RepoVersion {
         ensures { IfOk result (λ v. version_in v
             ≡ record (version_in self.now) { repository = changed_at (repository_in self.now) part.now }) }
     {
-        let Some(filed) = self.reports.get(part.name()) else {
-            return self.again(alloc);
+        let Some(stamped) = self.reports.get(part.name()) else {
+            return self.share(alloc);
         };
         let name = String::from_str(alloc, part.name())?;
-        let changed = filed.with_change(alloc, part.value(), self.number)?;
-        self.with_filed(alloc, name, changed)
+        let changed = stamped.with_change(alloc, part.value(), self.number)?;
+        self.with_stamped_report(alloc, name, changed)
     }
 
     /// The version with a change laid over it, but for reports that are not there. Its number and its stamps stay.
@@ -343,11 +349,11 @@ impl RepoVersion {
         ensures { IfOk result (λ v. version_in v
             ≡ record (version_in self.now) { repository = laid_over change.now (repository_in self.now) }) }
     {
-        let version = self.again(alloc)?;
+        let version = self.share(alloc)?;
         version.into_with_change(alloc, change)
     }
 
-    /// The version as `with_part` has it, in the place of this one, which is dropped.
+    /// The version with the change of one report laid over a copy of it. This version is dropped.
     fn into_with_copied_part(
         self,
         alloc: Global,
@@ -373,8 +379,8 @@ impl RepoVersion {
         let RepoVersion { number, reports } = self;
         let (reports, taken) = take_alone(alloc, reports, part.name())?;
         match taken {
-            Some((name, filed)) => {
-                let changed = changed_entry(alloc, name, filed, part.value());
+            Some((name, stamped)) => {
+                let changed = changed_entry(alloc, name, stamped, part.value());
                 let reports = with_entry(alloc, reports, changed)?;
                 Ok(RepoVersion { number, reports })
             }
@@ -385,7 +391,8 @@ impl RepoVersion {
         }
     }
 
-    /// The version with a change laid over it, as `with_change` has it, in place where no other version holds what changes.
+    /// The version with a change laid over it, but for reports that are not there. Its number and its stamps stay.
+    /// What no other version holds is changed in place.
     pub fn into_with_change(self, alloc: Global, change: &Change) -> Result<RepoVersion, AllocError>
         ensures { IfOk result (λ v. version_in v
             ≡ record (version_in self) { repository = laid_over change.now (repository_in self) }) }
@@ -403,7 +410,7 @@ impl RepoVersion {
     {
         match self.reports.get(name) {
             None => Ok(None),
-            Some(filed) => Ok(Some(filed.report(alloc)?)),
+            Some(stamped) => Ok(Some(stamped.report(alloc)?)),
         }
     }
 
@@ -414,7 +421,7 @@ impl RepoVersion {
         Some(self.reports.get(report)?.allowed())
     }
 
-    /// In the version that a change made: the least report with a disallowed cell, and the least dimensions of such a cell in it.
+    /// In the version that a change made: the least report with a disallowed cell, with the least such cell.
     /// It looks at the cells of the facts that are put, and at all cells of a report for which a value is declared.
     ///
     /// Where the version before obeyed, this decides the commit: it is the least of all.
@@ -427,8 +434,8 @@ impl RepoVersion {
             ≡ option_map (λ d. refusal_at (repository_in self.now) (d.0.now, d.1.now)) result }
     {
         for part in change.reports() {
-            if let Some(filed) = self.reports.get(part.name()) {
-                if let Some(dims) = filed.least_changed(part.value()) {
+            if let Some(stamped) = self.reports.get(part.name()) {
+                if let Some(dims) = stamped.least_changed(part.value()) {
                     return Some((part.name(), dims));
                 }
             }
@@ -450,9 +457,23 @@ impl RepoVersion {
         ensures { result ≡ (version_in self.now).stamp (thing.Report name.now) }
     {
         match self.reports.get(name) {
-            Some(filed) => filed.loaded(),
+            Some(stamped) => stamped.load_stamp(),
             None => 0,
         }
+    }
+
+    /// The stamps of a report if any of them can be newer than `since`. None where the report is not there.
+    fn stamps_since(&self, report: &str, since: u64) -> Option<&Stamps>
+        ensures { (part : Part) → max since (option_map_or (λ s. part_stamp s.now part) result 0)
+            ≡ max since ((version_in self.now).stamp (thing_in report.now part)) }
+    {
+        if self.number <= since {
+            return None;
+        }
+        let Some(stamped) = self.reports.get(report) else {
+            return None;
+        };
+        Some(stamped.stamps())
     }
 
     /// The number of the last commit that touched an identifier, or 0.
@@ -462,15 +483,12 @@ impl RepoVersion {
         self.stamp_id_since(report, id, 0)
     }
 
-    /// The identifier's stamp if it is greater than `since`; otherwise any number up to `since`. Nothing is looked for where no version came since.
+    /// The identifier's stamp if it is newer than `since`; otherwise any number up to `since`.
     pub fn stamp_id_since(&self, report: &str, id: &str, since: u64) -> u64
         ensures { max since result ≡ max since ((version_in self.now).stamp (thing.Id report.now id.now)) }
     {
-        if self.number <= since {
-            return 0;
-        }
-        match self.reports.get(report) {
-            Some(filed) => filed.stamps().of_id_since(id, since),
+        match self.stamps_since(report, since) {
+            Some(stamps) => stamps.of_id_since(id, since),
             None => 0,
         }
     }
@@ -482,15 +500,12 @@ impl RepoVersion {
         self.stamp_cell_since(report, dims, 0)
     }
 
-    /// The cell's stamp if it is greater than `since`; otherwise any number up to `since`. Nothing is looked for where no version came since.
+    /// The cell's stamp if it is newer than `since`; otherwise any number up to `since`.
     pub fn stamp_cell_since(&self, report: &str, dims: &DimSet, since: u64) -> u64
         ensures { max since result ≡ max since ((version_in self.now).stamp (thing.Cell report.now dims.now)) }
     {
-        if self.number <= since {
-            return 0;
-        }
-        match self.reports.get(report) {
-            Some(filed) => filed.stamps().of_cell_since(dims, since),
+        match self.stamps_since(report, since) {
+            Some(stamps) => stamps.of_cell_since(dims, since),
             None => 0,
         }
     }
@@ -513,8 +528,8 @@ impl RepoVersion {
         self.stamp_range_since(report, concept, period, after, upto, 0)
     }
 
-    /// The stamp of what a query finds, up to an identifier if one is given, if it is greater than `since`; otherwise any number up to `since`.
-    /// Nothing is looked for where no version came since.
+    /// The stamp of what a query finds, up to an identifier if one is given, if it is newer than `since`;
+    /// otherwise any number up to `since`.
     pub fn stamp_range_since(
         &self,
         report: &str,
@@ -530,14 +545,8 @@ impl RepoVersion {
           after = option_map (λ t. t.now) after.entry;
         }) (option_map (λ t. t.now) upto.entry))) }
     {
-        if self.number <= since {
-            return 0;
-        }
-        match self.reports.get(report) {
-            Some(filed) => {
-                let stamps = filed.stamps();
-                stamps.of_range_since(concept, period, after, upto, since)
-            }
+        match self.stamps_since(report, since) {
+            Some(stamps) => stamps.of_range_since(concept, period, after, upto, since),
             None => 0,
         }
     }
@@ -547,7 +556,7 @@ impl RepoVersion {
         ensures { result ≡ (version_in self.now).stamp (thing.Policy report.now) }
     {
         match self.reports.get(report) {
-            Some(filed) => filed.declared(),
+            Some(stamped) => stamped.policy_stamp(),
             None => 0,
         }
     }

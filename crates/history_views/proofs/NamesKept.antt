@@ -35,13 +35,15 @@ module _ {X : Type 0} (names names' : TextMap X) where
   one_name_more : (c : Repository) (name : Text) (r : Report) (x : X) → names' ≡ insert names name x → HasNames names c → (q : Text)
       → is_some (get names' q) ≡ is_some (get (insert c.reports name r) q)
   one_name_more c name r x is has q =
-      ap (λ (m : TextMap X). is_some (get m q)) is ∙ ap is_some (get-insert names name x q) ∙ by (text_eq q name) ∙ sym (ap is_some (get-insert c.reports name r q))
+      ap (λ (m : TextMap X). is_some (get m q)) is ∙ ap is_some (get-insert names name x q) ∙ by (text_eq q name) ∙ sym
+      (ap is_some (get-insert c.reports name r q))
     where
       by : (b : Bool) → is_some (cond b (Some x) (get names q)) ≡ is_some (cond b (Some r) (report_at c q))
       by true = refl
       by false = has q
 
-  pub names_after : (h : History) (e : Entry) → IsNext h e → IsWith (name_loaded e) names names' → HasNames names (repository h) → HasNames names' (repository (e ∷ h))
+  pub names_after : (h : History) (e : Entry) → IsNext h e → IsWith (name_loaded e) names names' → HasNames names (repository h) → HasNames names'
+      (repository (e ∷ h))
   names_after h e next with has = by (entry_case h e next)
     where
       by : EntryCase h e → HasNames names' (repository (e ∷ h))

@@ -1,5 +1,6 @@
 -- The versions of a history by their numbers, after one entry more.
-use Rattle.std.proofs.Common.{◌≡◌, ◌∙◌, ap, sym, refl, subst, ℕ, zero, suc, ◌+◌, arith, Bool, true, false, cond, List, [], ◌∷◌, ◌++◌, length, length-append, append-nil, Option, Some, None, is_some, unwrap_or}
+use Rattle.std.proofs.Common.{◌≡◌, ◌∙◌, ap, sym, refl, subst, ℕ, zero, suc, ◌+◌, Bool, true, false, cond, List, [], ◌∷◌, ◌++◌}
+use Rattle.std.proofs.Common.{length, Option, Some, None, is_some, unwrap_or}
 use Rattle.std.specs.List.{slice_get}
 use Rattle.filing_model.specs.Common.TextMap.{TextMap}
 use Rattle.filing_model.specs.Sessions.Repository.{Repository}
@@ -7,7 +8,8 @@ use Rattle.filing_model.specs.Histories.History.{Entry, History, repository}
 use Rattle.filing_model.specs.Histories.Lawful.{IsLawful}
 use Rattle.filing_model.specs.Histories.Versions.{counts, versions}
 use Rattle.filing_laws.proofs.Touching.EntryCases.{quiet_repository}
-use Rattle.filing_laws.proofs.Stamping.RisingNumbers.{counted}
+use Rattle.filing_laws.proofs.Stamping.RisingNumbers.{counted, quiet_count}
+use Rattle.filing_laws.proofs.Stamping.CountedVersions.{one_more, no_more, length_of_versions}
 use Rattle.history_views.specs.Names.{HasNames}
 use Rattle.history_views.specs.Versions.{IsSought, version_at}
 
@@ -30,39 +32,21 @@ elsewhere (y ∷ ys) x (suc n) apart = elsewhere ys x n (λ same. apart (ap suc 
 
 -- ---- one entry more
 
-one_more : (e : Entry) (h : History) → counts e.reply ≡ true → versions (e ∷ h) ≡ versions h ++ repository (e ∷ h) ∷ []
-one_more e h makes = ap (λ b. versions h ++ cond b (repository (e ∷ h) ∷ []) []) makes
-
-no_more : (e : Entry) (h : History) → counts e.reply ≡ false → versions (e ∷ h) ≡ versions h
-no_more e h quiet = ap (λ b. versions h ++ cond b (repository (e ∷ h) ∷ []) []) quiet ∙ append-nil (versions h)
-
-same_count : (e : Entry) (h : History) → counts e.reply ≡ false → (repository (e ∷ h)).count ≡ (repository h).count
-same_count e h quiet = ap (λ (c : Repository). c.count) (quiet_repository h e quiet)
-
-how_many : (h : History) → IsLawful h → length (versions h) ≡ (repository h).count + 1
-how_many [] lawful = refl
-how_many (e ∷ h) lawful = by (counts e.reply) refl (how_many h lawful.0)
-  where
-    by : (b : Bool) → counts e.reply ≡ b → length (versions h) ≡ (repository h).count + 1 → length (versions (e ∷ h)) ≡ (repository (e ∷ h)).count + 1
-    by true makes before =
-        let one : (repository (e ∷ h)).count ≡ (repository h).count + 1 = (counted h e lawful.1 makes).count in
-        omega (arith, ap length (one_more e h makes), length-append (versions h) (repository (e ∷ h) ∷ []), before, one)
-    by false quiet before = omega (arith, ap length (no_more e h quiet), before, same_count e h quiet)
-
 -- the last version has the number of the repository
 pub last_version : (h : History) → IsLawful h → version_at h (repository h).count ≡ Some (repository h)
 last_version [] lawful = refl
 last_version (e ∷ h) lawful = by (counts e.reply) refl (last_version h lawful.0)
   where
-    by : (b : Bool) → counts e.reply ≡ b → version_at h (repository h).count ≡ Some (repository h) → version_at (e ∷ h) (repository (e ∷ h)).count ≡ Some (repository (e ∷ h))
+    by : (b : Bool) → counts e.reply ≡ b → version_at h (repository h).count ≡ Some (repository h)
+        → version_at (e ∷ h) (repository (e ∷ h)).count ≡ Some (repository (e ∷ h))
     by true makes before =
-        let many : length (versions h) ≡ (repository h).count + 1 = how_many h lawful.0 in
+        let many : length (versions h) ≡ (repository h).count + 1 = length_of_versions h lawful.0 in
         let place : (repository (e ∷ h)).count ≡ length (versions h) = (counted h e lawful.1 makes).count ∙ sym many in
         ap (slice_get (versions (e ∷ h))) place
         ∙ ap (λ vs. slice_get vs (length (versions h))) (one_more e h makes)
         ∙ seam (versions h) (repository (e ∷ h))
     by false quiet before =
-        (λ i. slice_get (no_more e h quiet i) (same_count e h quiet i)) ∙ before ∙ ap Some (sym (quiet_repository h e quiet))
+        (λ i. slice_get (no_more e h quiet i) (quiet_count h e quiet i)) ∙ before ∙ ap Some (sym (quiet_repository h e quiet))
 
 -- what was found stays
 stays_found : (e : Entry) (h : History) (n : ℕ) (c : Repository) → version_at h n ≡ Some c → version_at (e ∷ h) n ≡ Some c
@@ -74,7 +58,7 @@ other_number e h n lawful apart = by (counts e.reply) refl
   where
     by : (b : Bool) → counts e.reply ≡ b → version_at (e ∷ h) n ≡ version_at h n
     by true makes =
-        let many : length (versions h) ≡ (repository h).count + 1 = how_many h lawful.0 in
+        let many : length (versions h) ≡ (repository h).count + 1 = length_of_versions h lawful.0 in
         let place : (repository (e ∷ h)).count ≡ length (versions h) = (counted h e lawful.1 makes).count ∙ sym many in
         ap (λ vs. slice_get vs n) (one_more e h makes)
         ∙ elsewhere (versions h) (repository (e ∷ h)) n (λ same. apart (same ∙ sym place))
@@ -83,7 +67,8 @@ other_number e h n lawful apart = by (counts e.reply) refl
 -- ---- what is sought
 
 -- it was found before
-pub sought_before : (asked : Option ℕ) (found : Option Repository) (e : Entry) (h : History) → is_some found ≡ true → IsSought asked found h → IsSought asked found (e ∷ h)
+pub sought_before : (asked : Option ℕ) (found : Option Repository) (e : Entry) (h : History) → is_some found ≡ true → IsSought asked found h
+    → IsSought asked found (e ∷ h)
 sought_before None found e h some is = is
 sought_before (Some n) None e h some is = cc
 sought_before (Some n) (Some c) e h some is = sym (stays_found e h n c (sym is))
@@ -120,12 +105,14 @@ newly_met e h n c none some = by (counts e.reply) refl
 
 -- nothing more is looked at once it is met
 pub named_before : {X : Type 0} (names : TextMap X) (asked : Option ℕ) (found : Option Repository) (e : Entry) (h : History) → is_some found ≡ true
-    → IsSought asked found h × HasNames names (unwrap_or found (repository h)) → IsSought asked found (e ∷ h) × HasNames names (unwrap_or found (repository (e ∷ h)))
+    → IsSought asked found h × HasNames names (unwrap_or found (repository h))
+    → IsSought asked found (e ∷ h) × HasNames names (unwrap_or found (repository (e ∷ h)))
 named_before names asked None e h some (is, has) = cc
 named_before names asked (Some c) e h some (is, has) = (sought_before asked (Some c) e h some is, has)
 
 -- until then the names are those of the reports so far
-pub named_so_far : {X : Type 0} (names : TextMap X) (found : Option Repository) (h : History) → is_some found ≡ false → HasNames names (unwrap_or found (repository h)) → HasNames names (repository h)
+pub named_so_far : {X : Type 0} (names : TextMap X) (found : Option Repository) (h : History) → is_some found ≡ false
+    → HasNames names (unwrap_or found (repository h)) → HasNames names (repository h)
 named_so_far names None h none has = has
 named_so_far names (Some c) h none has = cc
 

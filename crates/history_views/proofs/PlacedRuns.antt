@@ -46,7 +46,8 @@ pub difference_at_end : (table : Table) (source source' : SourceState) (engine :
     → (h : History) × (IsHistoryFollowed table source source' engine h × SeeksPlacedOn first v h)
     → (h : History) × (IsHistoryFollowed table source source' engine h × (version_kept v.from.found ≡ version_at h from)
     × (version_kept v.to.found ≡ version_at h to) × (text ≡ difference_asked from to report h))
-difference_at_end table source source' engine first v from to report text first_from first_to tells (h, (followed, (same_from, same_to, (seeks_from, seeks_to, knows)))) =
+difference_at_end table source source' engine first v from to report text first_from first_to tells
+    (h, (followed, (same_from, same_to, (seeks_from, seeks_to, knows)))) =
     let from_is : version_kept v.from.found ≡ version_at h from = subst (λ o. IsSought o (version_kept v.from.found) h) (same_from ∙ first_from) seeks_from in
     let to_is : version_kept v.to.found ≡ version_at h to = subst (λ o. IsSought o (version_kept v.to.found) h) (same_to ∙ first_to) seeks_to in (
       h,

@@ -1,5 +1,6 @@
 -- The versions of a history differ at its places alone.
-use Rattle.std.proofs.Common.{◌≡◌, ◌∙◌, ap, sym, refl, subst, ℕ, zero, suc, ◌+◌, Bool, true, false, cond, ◌&&◌, List, [], ◌∷◌, ◌++◌, Option, Some, None, is_some, option_map, option_and_then, true≢false}
+use Rattle.std.proofs.Common.{◌≡◌, ◌∙◌, ap, sym, refl, subst, ℕ, zero, suc, ◌+◌, Bool, true, false, cond, ◌&&◌, List, [], ◌∷◌, ◌++◌, Option, Some}
+use Rattle.std.proofs.Common.{None, is_some, option_map, option_and_then, true≢false}
 use Rattle.std.proofs.lemmas.Bool.{or_from}
 use Rattle.std.specs.List.{list_any, slice_get, cons_option}
 use Rattle.std.specs.Option.{option_map_or}
@@ -52,7 +53,8 @@ module _ (name : Text) where
   abbrev IsUnloaded : History → Type 0
   IsUnloaded h = IsNever (λ e. loads_name name e.step) h
 
-  still_gone : (h : History) (e : Entry) → IsNext h e → loads_name name e.step ≡ false → report_at (repository h) name ≡ None → report_at (repository (e ∷ h)) name ≡ None
+  still_gone : (h : History) (e : Entry) → IsNext h e → loads_name name e.step ≡ false → report_at (repository h) name ≡ None → report_at
+      (repository (e ∷ h)) name ≡ None
   still_gone h e next other gone = by (entry_case h e next)
     where
       by : EntryCase h e → report_at (repository (e ∷ h)) name ≡ None
@@ -84,11 +86,13 @@ module _ (name id : Text) where
   abbrev asks_at : Call → Bool
   asks_at ask = option_map_or (is_place name id) (place_of_call ask) false
 
-  staged_never : (r : Reply) (o : Option (Text × Text)) → option_map_or (is_place name id) o false ≡ false → option_map_or (is_place name id) (if_staged r o) false ≡ false
+  staged_never : (r : Reply) (o : Option (Text × Text)) → option_map_or (is_place name id) o false ≡ false → option_map_or (is_place name id)
+      (if_staged r o) false ≡ false
   staged_never reply.Staged o never = never
   staged_never _ o never = refl
 
-  one_place : (o : Option (Text × Text)) (ps : List (Text × Text)) → option_map_or (is_place name id) o false ≡ false → IsNever (is_place name id) ps → IsNever (is_place name id) (cons_option o ps)
+  one_place : (o : Option (Text × Text)) (ps : List (Text × Text)) → option_map_or (is_place name id) o false ≡ false → IsNever (is_place name id) ps
+      → IsNever (is_place name id) (cons_option o ps)
   one_place None ps never rest = rest
   one_place (Some p) ps never rest = or_from (is_place name id p) (list_any (is_place name id) ps) never rest
 
@@ -97,7 +101,8 @@ module _ (name id : Text) where
   places_never (ask ∷ calls) [] never = refl
   places_never (ask ∷ calls) (r ∷ replies) never =
       let parts = never_parts asks_at ask calls never in
-      one_place (if_staged r (place_of_call ask)) (staged_places calls replies) (staged_never r (place_of_call ask) parts.0) (places_never calls replies parts.1)
+      one_place (if_staged r (place_of_call ask)) (staged_places calls replies) (staged_never r (place_of_call ask) parts.0)
+      (places_never calls replies parts.1)
 
   abbrev IsUnstaged : History → Type 0
   IsUnstaged h = IsNever (λ e. stages_at name id e.step) h
@@ -142,7 +147,8 @@ module _ (name id : Text) where
     stands = λ there. (ap is_some same ∙ there, ap (option_and_then (λ r. fact_in r id)) (sym same));
   }
 
-  loaded_stands : (c : Repository) (loaded : Text) (x : Report) → is_some (report_at c loaded) ≡ false → (b : Bool) → text_eq name loaded ≡ b → Stands (with_report c loaded x) c
+  loaded_stands : (c : Repository) (loaded : Text) (x : Report) → is_some (report_at c loaded) ≡ false → (b : Bool) → text_eq name loaded ≡ b → Stands
+      (with_report c loaded x) c
   loaded_stands c loaded x new true same = record {
     stands = λ there. absurd (true≢false (sym there ∙ ap (λ n. is_some (report_at c n)) (text_same name loaded same) ∙ new));
   }
@@ -159,7 +165,8 @@ module _ (name id : Text) where
       let calls = calls_of s h in
       record {
         stands = λ there. (
-          sym (is_some-mapped (report_at (solo_copy Amend c calls) name)) ∙ ap is_some (run_leaves_names Amend calls c name) ∙ is_some-mapped (report_at c name) ∙ there,
+          sym (is_some-mapped (report_at (solo_copy Amend c calls) name)) ∙ ap is_some (run_leaves_names Amend calls c name) ∙ is_some-mapped
+              (report_at c name) ∙ there,
           sym (run_leaves_facts Amend calls c name id (places_never calls (solo_replies Amend c calls) (calls_never s h never))),
         );
       }
@@ -183,12 +190,14 @@ module _ (name id : Text) where
   stands_always (e ∷ h) lawful never =
       let parts = never_parts (λ (e : Entry). stages_at name id e.step) e h never in
       one_more (Stands (repository (e ∷ h))) e h
-      (each_mapped (Stands (repository h)) (Stands (repository (e ∷ h))) (λ c earlier. stands_then (repository (e ∷ h)) (repository h) c (entry_stands h e lawful.1 parts.1) earlier) (versions h)
+      (each_mapped (Stands (repository h)) (Stands (repository (e ∷ h)))
+      (λ c earlier. stands_then (repository (e ∷ h)) (repository h) c (entry_stands h e lawful.1 parts.1) earlier) (versions h)
       (stands_always h lawful.0 parts.1)) (stands_itself (repository (e ∷ h)))
 
 -- ---- two versions
 
-module _ (places : Places) (h : History) (lawful : IsLawful h) (has : HasPlaces places h) (n m : ℕ) (c d : Repository) (is_c : version_at h n ≡ Some c) (is_d : version_at h m ≡ Some d) where
+module _ (places : Places) (h : History) (lawful : IsLawful h) (has : HasPlaces places h) (n m : ℕ) (c d : Repository)
+    (is_c : version_at h n ≡ Some c) (is_d : version_at h m ≡ Some d) where
   same_fact : (name : Text) → CoverFacts (ids_at places name) c d name
   same_fact name id r s is_r is_s none =
       let all = stands_always name id h lawful (has.ids name id none) in
@@ -212,7 +221,8 @@ module _ (places : Places) where
   met_at None c h is = cc
   met_at (Some n) c h is = (n, sym is)
 
-  pub known_after : (h : History) → IsLawful h → (n m : Option ℕ) (from to : Option Repository) → IsSought n from h → IsSought m to h → HasPlaces places h → KnowsPlaces places from to h
+  pub known_after : (h : History) → IsLawful h → (n m : Option ℕ) (from to : Option Repository) → IsSought n from h → IsSought m to h
+      → HasPlaces places h → KnowsPlaces places from to h
   known_after h lawful n m None to is_from is_to has = has
   known_after h lawful n m (Some c) None is_from is_to has = has
   known_after h lawful n m (Some c) (Some d) is_from is_to has =
@@ -221,7 +231,8 @@ module _ (places : Places) where
       versions_covered places h lawful has one.0 other.0 c d one.1 other.1
 
   -- nothing more is looked at once both are met
-  pub known_before : (from to : Option Repository) (h : History) (e : Entry) → (is_some from && is_some to) ≡ true → KnowsPlaces places from to h → KnowsPlaces places from to (e ∷ h)
+  pub known_before : (from to : Option Repository) (h : History) (e : Entry) → (is_some from && is_some to) ≡ true → KnowsPlaces places from to h
+      → KnowsPlaces places from to (e ∷ h)
   known_before (Some c) (Some d) h e met knows = knows
   known_before (Some c) None h e met knows = absurd (true≢false (sym met))
   known_before None to h e met knows = absurd (true≢false (sym met))

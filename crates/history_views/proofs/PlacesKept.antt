@@ -18,7 +18,8 @@ pub record IsPlaced (step : Step) (places places' : Places) : Type 0 where
   pub names : (q : Text) → get places' q ≡ None → (loads_name q step ≡ false) × (get places q ≡ None)
   pub ids : (q id : Text) → get (ids_at places' q) id ≡ None → (stages_at q id step ≡ false) × (get (ids_at places q) id ≡ None)
 
-pub places_after : (step : Step) (places places' : Places) (h : History) (e : Entry) → IsPlaced step places places' → e.step ≡ step → HasPlaces places h → HasPlaces places' (e ∷ h)
+pub places_after : (step : Step) (places places' : Places) (h : History) (e : Entry) → IsPlaced step places places' → e.step ≡ step
+    → HasPlaces places h → HasPlaces places' (e ∷ h)
 places_after step places places' h e placed is has = record {
   names = λ q none.
       let both = placed.names q none in
@@ -60,11 +61,13 @@ name_placed places name r = record {
 
 -- ---- one identifier more
 
-id_placed : (places : Places) (name id q i : Text) → get (ids_at (with_place places name id) q) i ≡ None → ((text_eq q name && text_eq i id) ≡ false) × (get (ids_at places q) i ≡ None)
+id_placed : (places : Places) (name id q i : Text) → get (ids_at (with_place places name id) q) i ≡ None → ((text_eq q name && text_eq i id) ≡ false)
+    × (get (ids_at places q) i ≡ None)
 id_placed places name id q i none =
     by (text_eq q name) refl (sym (ap (λ (ids : Ids). get ids i) (ids_of_insert places name q (insert (ids_at places name) id tt))) ∙ none)
   where
-    by : (b : Bool) → text_eq q name ≡ b → get (cond b (insert (ids_at places name) id tt) (ids_at places q)) i ≡ None → ((b && text_eq i id) ≡ false) × (get (ids_at places q) i ≡ None)
+    by : (b : Bool) → text_eq q name ≡ b → get (cond b (insert (ids_at places name) id tt) (ids_at places q)) i ≡ None → ((b && text_eq i id) ≡ false)
+        × (get (ids_at places q) i ≡ None)
     by true same gone =
         let both = missing (ids_at places name) id i tt gone in
         (both.0, ap (λ n. get (ids_at places n) i) (text_same q name same) ∙ both.1)
@@ -88,7 +91,8 @@ module _ (places : Places) (name id : Text) where
 module _ (places places' : Places) (h : History) (e : Entry) (has : HasPlaces places h) where
   pub name_added : (name given : Text) (r : Report) → e.step ≡ Load name r → given ≡ name → places' ≡ with_name places given → HasPlaces places' (e ∷ h)
   name_added name given r is same added =
-      places_after (Load name r) places places' h e (subst (IsPlaced (Load name r) places) (sym (added ∙ ap (with_name places) same)) (name_placed places name r)) is has
+      places_after (Load name r) places places' h e (subst (IsPlaced (Load name r) places) (sym (added ∙ ap (with_name places) same))
+      (name_placed places name r)) is has
 
   abbrev AddedTo : Text → Text → Text → Text → Type 0
   AddedTo name id given_name given_id = (given_name ≡ name) × (given_id ≡ id) × (places' ≡ with_place places given_name given_id)
@@ -96,7 +100,8 @@ module _ (places places' : Places) (h : History) (e : Entry) (has : HasPlaces pl
   placed_there : (name id given_name given_id : Text) → AddedTo name id given_name given_id → places' ≡ with_place places name id
   placed_there name id given_name given_id (same_name, same_id, added) = added ∙ (λ i. with_place places (same_name i) (same_id i))
 
-  addition_added : (name id given_name given_id : Text) (raw : RawFact) → e.step ≡ Ask (call.Add name id raw) → AddedTo name id given_name given_id → HasPlaces places' (e ∷ h)
+  addition_added : (name id given_name given_id : Text) (raw : RawFact) → e.step ≡ Ask (call.Add name id raw) → AddedTo name id given_name given_id
+      → HasPlaces places' (e ∷ h)
   addition_added name id given_name given_id raw is added =
       places_after (Ask (call.Add name id raw)) places places' h e
       (subst (IsPlaced (Ask (call.Add name id raw)) places) (sym (placed_there name id given_name given_id added)) (addition_placed places name id raw)) is has

@@ -1,5 +1,5 @@
 -- What is told of the sessions of a history. All of it is the project's own.
-use Rattle.std.specs.Prelude.{ℕ, ◌+◌, ◌==◌, ◌&&◌, ◌++◌, cond, Bool, true, false, List, [], ◌∷◌, Option, Some, None, option_map, option_and_then, codes, decimal}
+use Rattle.std.specs.Prelude.{◌≡◌, ◌⊎◌, ℕ, ◌+◌, ◌==◌, ◌&&◌, ◌++◌, cond, Bool, true, false, List, [], ◌∷◌, Option, Some, None, option_map, option_and_then, Result, Err, codes, decimal}
 use Rattle.std.specs.List.{filter_map, range_with_len}
 use Rattle.filing_model.specs.Common.Text.{Text}
 use Rattle.filing_model.specs.Sessions.Replies as reply
@@ -10,10 +10,16 @@ use Rattle.filing_model.specs.Histories.Touches.{number_in}
 use Rattle.filing_model.specs.Histories.Versions.{counts}
 use Rattle.filing_model.specs.declared.kind.Kind.{Kind}
 use Rattle.filing_model.specs.declared.kind.Kind.TheVariants.{Review, Amend}
+use Rattle.line_io.specs.Devices.{SinkState}
+use Rattle.line_io.specs.declared.fault.ScriptFault.{ScriptFault}
+use Rattle.line_io.specs.declared.fault.ScriptFault.TheVariants.{NoMemory}
 use Rattle.script_format.specs.ReplyText.{reply_text}
 use Rattle.history_format.specs.EntryText.{session_text}
 use Rattle.session_pictures.specs.Told.{End, Told}
+use Rattle.script_runs.specs.HistoryRun.{WritesText}
 use Rattle.session_pictures.specs.Columns.{touching}
+use Rattle.session_pictures.specs.Picture.{Shows, picture_in, text_in}
+use Rattle.session_pictures.specs.declared.drawing.Drawing.{Drawing}
 use Rattle.session_pictures.specs.declared.told.Ending.{Ending}
 use Rattle.session_pictures.specs.declared.told.Ending.TheVariants.{Committed, Conflict, Closed, Disallowed}
 
@@ -94,3 +100,10 @@ session_lines s (t ∷ ts) = session_line s t ++ session_lines (s + 1) ts
 -- a line for each session, in the order of their openings
 abbrev pub log_of : History → Text
 log_of h = session_lines 1 (sessions_of h)
+
+-- a drawing of at most 200 sessions, from the one of this number on, is written;
+-- or memory was refused for it, and nothing is
+abbrev pub WritesPicture : ℕ → List Told → Result (Unit {0}) ScriptFault → SinkState → SinkState → Type 0
+WritesPicture first ts result sink sink' =
+    ((drawing : Drawing) × (Shows first ts (picture_in drawing) × WritesText (text_in drawing) 1 result sink sink'))
+    ⊎ ((result ≡ Err (NoMemory 1)) × (sink' ≡ sink))

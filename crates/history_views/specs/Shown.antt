@@ -20,7 +20,9 @@ report_line r = exported_text r ++ 10 ∷ []
 abbrev pub report_shown : Text → Repository → Option Text
 report_shown name c = option_map report_line (report_at c name)
 
--- of the text that a version may have, where there is that version: it has it, and that is written; or it has none, or there is no such version, and nothing is written. Or a write failed after a front of the text; or memory was refused before the first write
+-- Of the text that a version may have, where there is that version: it has it, and that is written;
+-- or it has none, or there is no such version, and nothing is written.
+-- Or a write failed after a front of the text; or memory was refused before the first write
 abbrev pub ShowsText : Option (Option Text) → Result Shown ScriptFault → SinkState → SinkState → Type 0
 ShowsText found (Ok Written) sink sink' = (text : Text) × ((found ≡ Some (Some text)) × Took sink sink' text 0)
 ShowsText found (Ok NoReport) sink sink' = (found ≡ Some None) × (sink' ≡ sink)

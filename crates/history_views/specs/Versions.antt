@@ -7,7 +7,7 @@ use Rattle.std.specs.declared.sync.Arc.{Arc}
 use Rattle.filing_model.specs.Sessions.Repository.{Repository}
 use Rattle.filing_model.specs.Histories.History.{History, repository}
 use Rattle.filing_model.specs.Histories.Versions.{versions}
-use Rattle.filing_version.specs.Filed.{StampedReports, repository_in}
+use Rattle.filing_version.specs.StampedReports.{StampedReports, repository_in}
 use Rattle.history_views.specs.declared.sought.SoughtVersion.{SoughtVersion}
 
 -- the version of a number: the repository after so many accepted loads and commits, where there were so many

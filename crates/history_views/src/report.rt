@@ -2,7 +2,7 @@
 
 ghost use Rattle.std.specs.Prelude.{◌≡◌, option_map, string_bytes, IfOk};
 ghost use Rattle.filing_model.specs.Sessions.Repository.{report_at};
-ghost use Rattle.filing_version.specs.Filed.{repository_in};
+ghost use Rattle.filing_version.specs.StampedReports.{repository_in};
 ghost use Rattle.script_format.specs.ReplyText.{exported_text};
 ghost use Rattle.history_views.specs.Shown.{ShowsText, report_shown};
 ghost use Rattle.history_views.specs.Versions.{version_kept};
@@ -15,7 +15,11 @@ use script_format::exported_reply_of;
 use std::alloc::{AllocError, Global};
 
 /// A report as an export of that version replies it, or none where it is not there.
-fn exported(alloc: Global, version: &RepoVersion, name: &str) -> Result<Option<String>, AllocError>
+fn export_report(
+    alloc: Global,
+    version: &RepoVersion,
+    name: &str,
+) -> Result<Option<String>, AllocError>
     ensures { IfOk result (λ o. option_map string_bytes o
         ≡ option_map exported_text (report_at (repository_in version.now) name.now)) }
 {
@@ -33,7 +37,7 @@ fn exported_line(
 ) -> Result<Option<String>, AllocError>
     ensures { IfOk result (λ o. option_map string_bytes o ≡ report_shown name.now (repository_in version.now)) }
 {
-    let Some(mut line) = exported(alloc, version, name)? else {
+    let Some(mut line) = export_report(alloc, version, name)? else {
         return Ok(None);
     };
     let _text = line.as_str();

@@ -1,5 +1,6 @@
 -- A run, read by read.
-use Rattle.std.proofs.Common.{◌≡◌, ℕ, suc, ◌+◌, ◌*◌, ◌≤◌, Bool, true, false, cond, List, [], ◌∷◌, ◌++◌, length, OnOk, refl, sym, ◌∙◌, ap, subst, inl, inr, arith, length-append, append_assoc, append-nil}
+use Rattle.std.proofs.Common.{◌≡◌, ℕ, suc, ◌+◌, ◌*◌, ◌≤◌, Bool, true, false, cond, List, [], ◌∷◌, ◌++◌, length, OnOk, refl, sym, ◌∙◌, ap, subst}
+use Rattle.std.proofs.Common.{inl, inr, arith, length-append, append_assoc, append-nil}
 use Rattle.std.specs.declared.result.Result.{Result}
 use Rattle.std.specs.declared.result.Result.TheVariants.{Ok, Err}
 use Rattle.std.specs.Io.KnownBytes.{Consumes, Keeps, IsAtEnd}
@@ -12,7 +13,8 @@ use Rattle.line_io.specs.Lines.{whole_lines, lines_of, lines_read, line_begun, s
 use Rattle.line_io.specs.Conduct.{Conduct, KeepsOn}
 use Rattle.line_io.specs.Run.{IsStarved}
 use Rattle.line_io.specs.KeptRun.{WentOn, IsUnwrittenKept, IsUnkept, IsStarvedKept, RunsKept}
-use Rattle.line_io.specs.Pieces.{whole_from, rest_from, count_from, Standing, standing, Tells, Untold, HasAnswered, HasSent, HasFailed, HasNotKept, TakesOut, WritesOut}
+use Rattle.line_io.specs.Pieces.{whole_from, rest_from, count_from, Standing, standing, Tells, Untold, HasAnswered, HasSent, HasFailed, HasNotKept}
+use Rattle.line_io.specs.Pieces.{TakesOut, WritesOut}
 use Rattle.line_io.proofs.DeviceSteps.{took_none, consumes_none, consumes_more, consumes_kept}
 use Rattle.line_io.proofs.CutLines.{whole_from-append, rest_from-append, whole_lines_lem, lines_of_lem}
 use Rattle.line_io.proofs.SentReplies.{part_of_some}

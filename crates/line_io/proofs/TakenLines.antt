@@ -16,7 +16,8 @@ use Rattle.line_io.specs.KeptRun.{AnswersKept}
 use Rattle.std.specs.List.{before_first, after_first, position_or_len}
 use Rattle.line_io.proofs.CutLines.{whole_at, rest_at, whole_none, rest_none}
 use Rattle.line_io.specs.Pieces.{whole_from, rest_from, count_from, IsCut, Sent, Standing, standing}
-use Rattle.line_io.specs.Pieces.{Tells, Untold, HoldsOrTells, Waits, WasTold, HasAnswered, HasSent, HasFailed, HasNotKept, HasBroken, HasStarved, HasStopped, Takes}
+use Rattle.line_io.specs.Pieces.{Tells, Untold, HoldsOrTells, Waits, WasTold, HasAnswered, HasSent, HasFailed, HasNotKept, HasBroken, HasStarved}
+use Rattle.line_io.specs.Pieces.{HasStopped, Takes}
 use Rattle.line_io.proofs.DeviceSteps.{took_none, took_more, part_after}
 use Rattle.line_io.proofs.KeptAnswers.{Answers-append, AnswersKept-append, kept_answers, kept_after, went_longer}
 
@@ -460,7 +461,8 @@ module _ {M : Type 0} (C : Conduct M) (on : KeepsOn C) where
       line_begun_one (rest_from begun piece) (omega (arith, long, longer, some)) in
       let same_length : length (whole_from begun piece) ≡ length p.taken = ap length whole in
       let there : HasStarved C b (standing a s w) (whole_from begun piece) (count_from begun piece) (lines + 1) (lines' + 1) =
-      starved_end b (standing a s w) p.taken (whole_from begun piece) (count_from begun piece) (lines + 1) (lines' + 1) p.answered whole (omega (arith, p.counted)) (omega (arith, one, same_length)) in
+      starved_end b (standing a s w) p.taken (whole_from begun piece) (count_from begun piece) (lines + 1) (lines' + 1) p.answered whole
+      (omega (arith, p.counted)) (omega (arith, one, same_length)) in
       subst (λ f. Takes {X = Unit {0}} C (Err f) b (standing a s w2) (whole_from begun piece) (count_from begun piece) (lines + 1))
       (sym fault)
       (subst (λ w3. HasStarved C b (standing a s w3) (whole_from begun piece) (count_from begun piece) (lines + 1) (lines' + 1))

@@ -9,7 +9,8 @@ use Rattle.line_io.specs.Devices.{SinkState, Took, TookPart}
 use Rattle.line_io.specs.Lines.{line_begun, spoken, lines_text}
 use Rattle.line_io.specs.Conduct.{Conduct, KeepsOn}
 use Rattle.line_io.specs.KeptRun.{WentOn}
-use Rattle.line_io.specs.Pieces.{Standing, standing, Tells, Untold, KeepsNot, WasTold, HasAnswered, HasSent, HasNotKept, HasBroken, HasStarved, HasStopped, Takes, TakesOut, WritesOut}
+use Rattle.line_io.specs.Pieces.{Standing, standing, Tells, Untold, KeepsNot, WasTold, HasAnswered, HasSent, HasNotKept, HasBroken, HasStarved}
+use Rattle.line_io.specs.Pieces.{HasStopped, Takes, TakesOut, WritesOut}
 use Rattle.line_io.proofs.DeviceSteps.{took_more}
 use Rattle.line_io.proofs.KeptAnswers.{kept_after, went_after}
 use Rattle.line_io.proofs.TakenLines.{sent_of, sent_out, part_out, answered_none}

@@ -161,7 +161,8 @@ module _ {M : Type 0} (C : Conduct M) (before after : Standing M) (lines : List 
     pub tells : C.may_tell after.machine
 
 -- what holds of each result of taking some lines
-abbrev pub Takes : {X M : Type 0} → Conduct M → Result X ScriptFault → Standing M → Standing M → List Text → ℕ → ℕ → Type 0
+abbrev pub Takes : {X M : Type 0} → Conduct M → Result X ScriptFault → Standing M → Standing M → List Text → ℕ → ℕ
+    → Type 0
 Takes C (Ok x) before after lines count first = HasAnswered C before after lines
 Takes C (Err Write) before after lines count first = HasBroken C before after lines
 Takes C (Err (NoMemory number)) before after lines count first = HasStarved C before after lines count first number
@@ -169,7 +170,8 @@ Takes C (Err Read) before after lines count first = ⊥
 Takes C (Err Endless) before after lines count first = ⊥
 
 -- what holds once their replies are written, too
-abbrev pub TakesOut : {X M : Type 0} → Conduct M → Result X ScriptFault → Standing M → Standing M → List Text → ℕ → ℕ → Type 0
+abbrev pub TakesOut : {X M : Type 0} → Conduct M → Result X ScriptFault → Standing M → Standing M → List Text → ℕ → ℕ
+    → Type 0
 TakesOut C (Ok x) before after lines count first = HasAnswered C before after lines
 TakesOut C (Err Write) before after lines count first = HasBroken C before after lines
 TakesOut C (Err (NoMemory number)) before after lines count first = HasStopped C before after lines count first number

@@ -1,39 +1,56 @@
-//! Counts of a device's calls, held in ledgers.
+//! `ReadCounts` and `WriteCounts`: counts of a device's calls, which clauses alone read. They take no memory, and cannot overflow.
 
-ghost use Rattle.std.specs.Prelude.{◌≡◌, ◌+◌, ◌<◌, ◌≤◌};
+ghost use Rattle.std.specs.Prelude.{◌≡◌, ℕ, ◌+◌};
+ghost use Rattle.std.specs.Borrow.{ftrue};
 
-use std::sync::ledger::{Blank, Book, Ledger, Share};
+use std::marker::{Model, PhantomData};
 
-/// Counts of a source's reads: all, those that met the end, and those that failed. They are tokens that take no bytes and cannot overflow.
+/// How many calls there were.
 #[derive(Drop)]
-pub(crate) struct ReadCounts<L: Ledger> {
-    book: Book<L>,
-    pub(crate) reads: Share<L>,
-    pub(crate) ends: Share<L>,
-    pub(crate) failed: Share<L>,
-    ghost reads_count: { 0 < reads.parts },
-    ghost ends_count: { 0 < ends.parts },
-    ghost failed_count: { 0 < failed.parts },
+pub struct Count {
+    marker: PhantomData<u8>,
+    pub ghost amount: { ℕ },
 }
 
-impl<L: Ledger> ReadCounts<L> {
-    /// Counts that begin at 0, made of a new ledger of three parts.
-    pub(crate) fn new(blank: Blank) -> ReadCounts<L>
-        requires name { blank.name ≡ L.name }
-        requires parts { blank.parts ≡ L.parts }
-        requires three { 3 ≤ blank.parts }
+impl Model for Count {
+    ghost also_owns = { λ _. ftrue };
+}
+
+impl Count {
+    /// A count that begins at 0.
+    pub(crate) fn new() -> Count
+        ensures { result.amount ≡ 0 }
+    {
+        Count {
+            marker: PhantomData,
+        }
+    }
+
+    /// Counts a call.
+    pub(crate) fn add(&mut self)
+        ensures { self.new.amount ≡ self.old.amount + 1 }
+    {}
+}
+
+/// Counts of a source's reads: all, those that met the end, and those that failed.
+#[derive(Drop)]
+pub(crate) struct ReadCounts {
+    pub(crate) reads: Count,
+    pub(crate) ends: Count,
+    pub(crate) failed: Count,
+}
+
+impl ReadCounts {
+    /// Counts that begin at 0.
+    pub(crate) fn new() -> ReadCounts
         ensures reads { result.reads.amount ≡ 0 }
         ensures ends { result.ends.amount ≡ 0 }
         ensures failed { result.failed.amount ≡ 0 }
     {
-        let (book, mut reads) = blank.open();
-        let ends = reads.split_off(1, 0);
-        let failed = reads.split_off(1, 0);
         ReadCounts {
-            book,
-            reads,
-            ends,
-            failed,
+            reads: Count::new(),
+            ends: Count::new(),
+            failed: Count::new(),
         }
     }
 
@@ -42,7 +59,7 @@ impl<L: Ledger> ReadCounts<L> {
         ensures ends { self.new.ends.amount ≡ self.old.ends.amount }
         ensures failed { self.new.failed.amount ≡ self.old.failed.amount }
     {
-        self.book.add(&mut self.reads, 1);
+        self.reads.add();
     }
 
     pub(crate) fn count_end(&mut self)
@@ -50,7 +67,7 @@ impl<L: Ledger> ReadCounts<L> {
         ensures ends { self.new.ends.amount ≡ self.old.ends.amount + 1 }
         ensures failed { self.new.failed.amount ≡ self.old.failed.amount }
     {
-        self.book.add(&mut self.ends, 1);
+        self.ends.add();
     }
 
     pub(crate) fn count_failed(&mut self)
@@ -58,33 +75,29 @@ impl<L: Ledger> ReadCounts<L> {
         ensures ends { self.new.ends.amount ≡ self.old.ends.amount }
         ensures failed { self.new.failed.amount ≡ self.old.failed.amount + 1 }
     {
-        self.book.add(&mut self.failed, 1);
+        self.failed.add();
     }
 }
 
-/// The count of a sink's writes that failed: a token that takes no bytes and cannot overflow.
+/// The count of a sink's writes that failed.
 #[derive(Drop)]
-pub(crate) struct WriteCounts<L: Ledger> {
-    book: Book<L>,
-    pub(crate) failed: Share<L>,
-    ghost failed_count: { 0 < failed.parts },
+pub(crate) struct WriteCounts {
+    pub(crate) failed: Count,
 }
 
-impl<L: Ledger> WriteCounts<L> {
-    /// A count that begins at 0, made of a new ledger.
-    pub(crate) fn new(blank: Blank) -> WriteCounts<L>
-        requires name { blank.name ≡ L.name }
-        requires parts { blank.parts ≡ L.parts }
-        requires some { 0 < blank.parts }
+impl WriteCounts {
+    /// A count that begins at 0.
+    pub(crate) fn new() -> WriteCounts
         ensures { result.failed.amount ≡ 0 }
     {
-        let (book, failed) = blank.open();
-        WriteCounts { book, failed }
+        WriteCounts {
+            failed: Count::new(),
+        }
     }
 
     pub(crate) fn count_failed(&mut self)
         ensures { self.new.failed.amount ≡ self.old.failed.amount + 1 }
     {
-        self.book.add(&mut self.failed, 1);
+        self.failed.add();
     }
 }

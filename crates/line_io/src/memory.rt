@@ -1,6 +1,6 @@
 //! Devices over memory, whose calls can be made to fail.
 
-ghost use Rattle.std.specs.Prelude.{◌≡◌, ◌<◌, ◌≤◌, [], Some, IfOk};
+ghost use Rattle.std.specs.Prelude.{◌≡◌, ◌<◌, [], Some, IfOk};
 ghost use Rattle.line_io.specs.Devices.{new_source, new_sink};
 
 use crate::counts::{ReadCounts, WriteCounts};
@@ -8,7 +8,6 @@ use crate::fault::Failed;
 use crate::sink::Sink;
 use crate::source::Source;
 use std::alloc::{AllocError, Global};
-use std::sync::ledger::{Blank, Ledger};
 
 // Counts the calls down to one, from 1, that goes wrong; none does where there is no number.
 #[derive(Drop)]
@@ -29,41 +28,38 @@ impl Countdown {
 
 /// A source over memory. A read gives at most `piece` bytes.
 #[derive(Drop)]
-pub struct MemoryIn<'a, L: Ledger> {
+pub struct MemoryIn<'a> {
     rest: &'a [u8],
     piece: usize,
     failing: Countdown,
-    counts: ReadCounts<L>,
+    counts: ReadCounts,
     ghost some_piece: { 0 < piece },
 }
 
-impl<'a, L: Ledger> MemoryIn<'a, L> {
-    /// A source of these bytes, which counts its reads in a new ledger of three parts.
-    pub fn new(bytes: &'a [u8], piece: usize, blank: Blank) -> MemoryIn<'a, L>
-        requires name { blank.name ≡ L.name }
-        requires parts { blank.parts ≡ L.parts }
-        requires three { 3 ≤ blank.parts }
+impl<'a> MemoryIn<'a> {
+    /// A source of these bytes.
+    pub fn new(bytes: &'a [u8], piece: usize) -> MemoryIn<'a>
         requires some { 0 < piece }
-        ensures { ⟦<MemoryIn<'a, L> as Source>⟧.state result ≡ new_source (Some bytes.entry.now) }
+        ensures { ⟦<MemoryIn<'a> as Source>⟧.state result ≡ new_source (Some bytes.entry.now) }
     {
         MemoryIn {
             rest: bytes,
             piece,
             failing: Countdown { calls: None },
-            counts: ReadCounts::new(blank),
+            counts: ReadCounts::new(),
         }
     }
 
     /// This source, whose read of this number, from 1 on, fails.
-    pub fn failing_at(mut self, read: u64) -> MemoryIn<'a, L>
-        ensures { ⟦<MemoryIn<'a, L> as Source>⟧.state result ≡ ⟦<MemoryIn<'a, L> as Source>⟧.state self.entry }
+    pub fn failing_at(mut self, read: u64) -> MemoryIn<'a>
+        ensures { ⟦<MemoryIn<'a> as Source>⟧.state result ≡ ⟦<MemoryIn<'a> as Source>⟧.state self.entry }
     {
         self.failing = Countdown { calls: Some(read) };
         self
     }
 }
 
-impl<'a, L: Ledger> Source for MemoryIn<'a, L> {
+impl<'a> Source for MemoryIn<'a> {
     ghost state = { λ s. record {
       rest = Some s.rest.now;
       reads = s.counts.reads.amount;
@@ -90,61 +86,53 @@ impl<'a, L: Ledger> Source for MemoryIn<'a, L> {
 
 /// A sink over memory. A write takes at most `piece` bytes, and one that is refused memory fails.
 #[derive(Drop)]
-pub struct MemoryOut<L: Ledger> {
+pub struct MemoryOut {
     written: Vec<u8>,
     piece: usize,
     failing: Countdown,
     idle: Countdown,
-    counts: WriteCounts<L>,
+    counts: WriteCounts,
 }
 
-impl<L: Ledger> MemoryOut<L> {
-    /// A sink with capacity for `room` bytes, which are written without a growth. It counts its writes that failed in a new ledger.
-    pub fn new(
-        alloc: Global,
-        room: usize,
-        piece: usize,
-        blank: Blank,
-    ) -> Result<MemoryOut<L>, AllocError>
-        requires name { blank.name ≡ L.name }
-        requires parts { blank.parts ≡ L.parts }
-        requires some { 0 < blank.parts }
-        ensures { IfOk result (λ sink. ⟦<MemoryOut<L> as Sink>⟧.state sink ≡ new_sink (Some [])) }
+impl MemoryOut {
+    /// A sink with capacity for `room` bytes, which are written without a growth.
+    pub fn new(alloc: Global, room: usize, piece: usize) -> Result<MemoryOut, AllocError>
+        ensures { IfOk result (λ sink. ⟦<MemoryOut as Sink>⟧.state sink ≡ new_sink (Some [])) }
     {
         Ok(MemoryOut {
             written: Vec::with_capacity(alloc, room)?,
             piece,
             failing: Countdown { calls: None },
             idle: Countdown { calls: None },
-            counts: WriteCounts::new(blank),
+            counts: WriteCounts::new(),
         })
     }
 
     /// This sink, whose write of this number, from 1 on, fails.
-    pub fn failing_at(mut self, write: u64) -> MemoryOut<L>
-        ensures { ⟦<MemoryOut<L> as Sink>⟧.state result ≡ ⟦<MemoryOut<L> as Sink>⟧.state self }
+    pub fn failing_at(mut self, write: u64) -> MemoryOut
+        ensures { ⟦<MemoryOut as Sink>⟧.state result ≡ ⟦<MemoryOut as Sink>⟧.state self }
     {
         self.failing = Countdown { calls: Some(write) };
         self
     }
 
     /// This sink, whose write of this number, from 1 on, takes nothing.
-    pub fn idle_at(mut self, write: u64) -> MemoryOut<L>
-        ensures { ⟦<MemoryOut<L> as Sink>⟧.state result ≡ ⟦<MemoryOut<L> as Sink>⟧.state self }
+    pub fn idle_at(mut self, write: u64) -> MemoryOut
+        ensures { ⟦<MemoryOut as Sink>⟧.state result ≡ ⟦<MemoryOut as Sink>⟧.state self }
     {
         self.idle = Countdown { calls: Some(write) };
         self
     }
 
     /// What is written.
-    pub fn written(&self) -> &[u8]
-        ensures { (⟦<MemoryOut<L> as Sink>⟧.state self.now).written ≡ Some result.now }
+    pub fn contents(&self) -> &[u8]
+        ensures { (⟦<MemoryOut as Sink>⟧.state self.now).written ≡ Some result.now }
     {
         self.written.as_slice()
     }
 }
 
-impl<L: Ledger> Sink for MemoryOut<L> {
+impl Sink for MemoryOut {
     ghost state = { λ s. record { written = Some s.written.items; failed = s.counts.failed.amount } };
 
     fn write(&mut self, bytes: &[u8]) -> Result<usize, Failed> {

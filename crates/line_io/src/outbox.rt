@@ -70,7 +70,8 @@ impl Outbox {
     fn flush<M, D: Mode<M>, W: Sink>(&mut self, machine: &mut M, sink: &mut W) -> Result<(), Failed>
         ensures written { MatchResult result
             (λ _. Tells D.conduct machine.old machine.new (W.state sink.old) (W.state sink.new) self.old.waiting.items)
-            (λ _. Untold D.conduct machine.old machine.new (W.state sink.old) (W.state sink.new) self.old.waiting.items) }
+            (λ _. Untold D.conduct machine.old machine.new (W.state sink.old) (W.state sink.new)
+            self.old.waiting.items) }
         ensures empty { OnOk result (self.new.waiting.items ≡ []) }
     {
         D::keep(machine)?;

@@ -29,13 +29,13 @@ use Rattle.oim_report.proofs.ReadBackValues.{read_back}
 
 -- ---- the object
 
-abbrev nullable : Option Text → Data
-nullable None = null
-nullable (Some text) = string text
+abbrev pub nullable_data : Option Text → Data
+nullable_data None = null
+nullable_data (Some text) = string text
 
-abbrev dims_members : Dims → Members
+abbrev pub dims_members : Dims → Members
 dims_members [] = no_members
-dims_members (d ∷ ds) = member d.0 (nullable d.1) (dims_members ds)
+dims_members (d ∷ ds) = member d.0 (nullable_data d.1) (dims_members ds)
 
 abbrev with_links : Option Members → Members → Members
 with_links None ms = ms
@@ -48,7 +48,7 @@ with_decimals (Some z) ms = member (codes "decimals") (number (of_integer z)) ms
 abbrev pub fact_members : Option ℤ → Dims → Option Members → Option Text → Members
 fact_members decimals dims links value =
     with_decimals decimals (member (codes "dimensions") (object (dims_members dims))
-    (with_links links (member (codes "value") (nullable value) no_members)))
+    (with_links links (member (codes "value") (nullable_data value) no_members)))
 
 abbrev compact_links : Option Members → Option Text
 compact_links links = option_map (λ ms. compact_text (object ms)) links
@@ -59,14 +59,14 @@ raw_with decimals dims links value = record { dims = dims; value = value; decima
 
 -- ---- what is written
 
-nullable_written : (value : Option Text) → compact_text (nullable value) ≡ nullable_text value
+nullable_written : (value : Option Text) → compact_text (nullable_data value) ≡ nullable_text value
 nullable_written None = refl
 nullable_written (Some text) = refl
 
 regrouped : (comma q v rest : Text) → comma ++ (q ++ 58 ∷ (v ++ rest)) ≡ comma ++ ((q ++ 58 ∷ v) ++ rest)
 regrouped comma q v rest = ap (λ t. comma ++ t) (sym (append_assoc q (58 ∷ v) rest))
 
-dims_listed : (later : Bool) (ds : Dims)
+pub dims_listed : (later : Bool) (ds : Dims)
     → members_text later (dims_members ds) ≡ listed later (λ d. member_text d.0 (nullable_text d.1)) ds ++ codes "}"
 dims_listed later [] = refl
 dims_listed later (d ∷ ds) =
@@ -75,7 +75,7 @@ dims_listed later (d ∷ ds) =
     ∙ simp append_assoc
 
 tail_written : (links : Option Members) (value : Option Text)
-    → members_text true (with_links links (member (codes "value") (nullable value) no_members))
+    → members_text true (with_links links (member (codes "value") (nullable_data value) no_members))
     ≡ links_text (compact_links links) ++ (codes ",\"value\":" ++ (nullable_text value ++ codes "}"))
 unfolding escape_byte
 tail_written None value = ap (λ t. codes ",\"value\":" ++ (t ++ codes "}")) (nullable_written value)
@@ -104,7 +104,7 @@ fact_written decimals dims links value = sym (head_written decimals dims _ _ (ta
 
 -- ---- what stands for it reads back
 
-reads_nullable : (value : Option Text) → Reads (nullable value)
+reads_nullable : (value : Option Text) → Reads (nullable_data value)
 reads_nullable None = record { numbers = tt; back = refl }
 reads_nullable (Some text) = record { numbers = tt; back = refl }
 
@@ -120,7 +120,7 @@ dims_each : (ds : Dims) → EachReads (dims_members ds)
 dims_each [] = tt
 dims_each (d ∷ ds) = (reads_nullable d.1, dims_each ds)
 
-reads_dims : (ds : Dims) → AreDims ds → Reads (object (dims_members ds))
+pub reads_dims : (ds : Dims) → AreDims ds → Reads (object (dims_members ds))
 reads_dims ds are = Reads-object (dims_members ds) (subst T (sym (dims_sorted ds)) are.rise) (dims_each ds)
 
 whole_decimals : (z : ℤ) → AreWholeDecimals (Some z) → IsWhole (of_integer z)
@@ -151,13 +151,13 @@ reads_fact (Some z) dims (Some ms) value whole are writable =
 
 -- ---- what is read
 
-nullable_read : (value : Option Text) → as_nullable (nullable value) ≡ Some value
+pub nullable_read : (value : Option Text) → as_nullable (nullable_data value) ≡ Some value
 nullable_read None = refl
 nullable_read (Some text) = refl
 
-dims_read : (ds : Dims) → each dim_of (pairs (dims_members ds)) ≡ Ok ds
-dims_read [] = refl
-dims_read (d ∷ ds) = λ i. (ok_or (nullable_read d.1 i) trouble.WrongShape >>= λ value. Ok (d.0, value)) >>= λ y. dims_read ds i >>= λ ys. Ok (y ∷ ys)
+pub each_dim_read : (ds : Dims) → each dim_of (pairs (dims_members ds)) ≡ Ok ds
+each_dim_read [] = refl
+each_dim_read (d ∷ ds) = λ i. (ok_or (nullable_read d.1 i) trouble.WrongShape >>= λ value. Ok (d.0, value)) >>= λ y. each_dim_read ds i >>= λ ys. Ok (y ∷ ys)
 
 integer_read : (z : ℤ) → AreWholeDecimals (Some z) → as_i64 (of_integer z) ≡ Some z
 integer_read (pos n) h = ap (λ b. cond b (Some (pos n)) None) (lt-ltb n _ h)
@@ -165,8 +165,8 @@ integer_read (negsuc n) h = refl
 
 named_read : (decimals : Option ℤ) (dims : Dims) (links : Option Members) (value : Option Text)
     → named_dims (object (fact_members decimals dims links value)) ≡ Ok dims
-named_read None dims links value = dims_read dims
-named_read (Some z) dims links value = dims_read dims
+named_read None dims links value = each_dim_read dims
+named_read (Some z) dims links value = each_dim_read dims
 
 value_read : (decimals : Option ℤ) (dims : Dims) (links : Option Members) (value : Option Text)
     → option_and_then as_nullable (get (codes "value") (object (fact_members decimals dims links value))) ≡ Some value

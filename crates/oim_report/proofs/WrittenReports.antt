@@ -17,7 +17,8 @@ use Rattle.filing_model.specs.Reading.JsonText.{json_of, without_mark, pairs}
 use Rattle.filing_model.specs.Oim.Numerals.{most_fraction_digits, most_whole_digits, number_of}
 use Rattle.filing_model.specs.Oim.Intervals.{accuracy_of, are_decimals}
 use Rattle.filing_model.specs.Oim.Dimensions.{AreDims, concept_of}
-use Rattle.filing_model.specs.Oim.Facts.{RawFact, Fact, FactValue, Names, fit_of, fit_bound, with_value, value_of, numeric_value, number_with, expanded, are_bound, is_numeric, is_misplaced, written_value}
+use Rattle.filing_model.specs.Oim.Facts.{RawFact, Fact, FactValue, Names, fit_of, fit_bound, with_value}
+use Rattle.filing_model.specs.Oim.Facts.{value_of, numeric_value, number_with, expanded, are_bound, is_numeric, is_misplaced, written_value}
 use Rattle.filing_model.specs.Reading.Fitted.{AreLinks, IsFitted}
 use Rattle.filing_model.specs.Oim.Reports.{Report}
 use Rattle.filing_model.specs.Reading.ReadFact.{raw_fact_of}
@@ -183,7 +184,7 @@ facts_read : (names : Names) (facts : Members) (all : TextMap Fact)
     → each (entry_of names) (pairs facts) ≡ Ok all.entries → facts_of names (Some (object facts)) ≡ Ok all
 facts_read names facts all read = ap (λ r. r >>= λ entries. Ok (from_entries entries)) read ∙ ap (λ m. Ok m) (from_entries-entries all)
 
-report_read : (report : Report) (is : IsInfo report.info report.names.prefixes report.allowed) (facts : Members)
+pub report_read : (report : Report) (is : IsInfo report.info report.names.prefixes report.allowed) (facts : Members)
     → each (entry_of report.names) (pairs facts) ≡ Ok report.facts.entries
     → report_of report.names.table (object (report_members is.members facts)) ≡ Ok report
 report_read report is facts read =

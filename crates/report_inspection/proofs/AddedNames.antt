@@ -46,7 +46,8 @@ seen_as names k b is name same = ap (has_name names) (text_same name k.now same)
 abbrev pub told : NameSet → NameSet → Text → Bool → Bool → Bool
 told repeated seen name h d = has_name repeated name || ((has_name seen name && h) || d)
 
-pub told_seen : (k : Bor Text) (repeated more seen again : NameSet) → Updates name_cmp repeated more k true → has_name seen k.now ≡ true → again.keys ≡ seen.keys
+pub told_seen : (k : Bor Text) (repeated more seen again : NameSet) → Updates name_cmp repeated more k true → has_name seen k.now ≡ true
+    → again.keys ≡ seen.keys
     → (name : Text) (h d : Bool) → told more again name h d ≡ told repeated seen name (text_eq name k.now || h) ((text_eq name k.now && h) || d)
 told_seen k repeated more seen again u is same name h d =
     (λ i. one_added k repeated more u name i || ((has_name record { keys = same i } name && h) || d))

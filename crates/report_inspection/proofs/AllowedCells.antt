@@ -27,7 +27,8 @@ few_may_stand allowed.Never (e ∷ []) h = refl
 few_may_stand allowed.Complete (e ∷ []) h = refl
 few_may_stand allowed.Consistent (e ∷ []) h = refl
 few_may_stand allowed.All (e ∷ []) h = refl
-few_may_stand a (e ∷ f ∷ es) h = let no : nat_lt 1 (length (e ∷ f ∷ es)) ≡ true = lt-ltb 1 (length (e ∷ f ∷ es)) (omega arith) in absurd (true≢false (sym no ∙ h))
+few_may_stand a (e ∷ f ∷ es) h = let no : nat_lt 1 (length (e ∷ f ∷ es)) ≡ true = lt-ltb 1 (length (e ∷ f ∷ es)) (omega arith) in absurd
+    (true≢false (sym no ∙ h))
 
 -- a cell that is told may stand where all may
 told_at : (a : Allowed) (es : List Entry) (dims : Dims) (c : ToldCell) (others b : Bool) → IsCell a es c → c.allowed ≡ true → dims_eq dims c.dims ≡ b

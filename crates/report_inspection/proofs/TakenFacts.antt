@@ -122,11 +122,14 @@ pub put_behind : (ps : List PlaceRef) (k : Bor Text) (v : Bor (TextValue Global)
     → places_behind (insert_entry name_cmp ps k v) ≡ insert_entry name_cmp (places_behind ps) k v.now
 put_behind [] k v = refl
 put_behind (p ∷ ps) k v =
-    by_order (name_cmp k p.0) ∙ ap (λ qs. match_ordering (name_cmp k p.0) ((k, v.now) ∷ places_behind (p ∷ ps)) ((p.0, v.now) ∷ places_behind ps) ((p.0, p.1.now) ∷ qs)) (put_behind ps k v)
+    by_order (name_cmp k p.0)
+    ∙ ap (λ qs. match_ordering (name_cmp k p.0) ((k, v.now) ∷ places_behind (p ∷ ps)) ((p.0, v.now) ∷ places_behind ps) ((p.0, p.1.now) ∷ qs))
+    (put_behind ps k v)
   where
     by_order : (o : Ordering)
         → places_behind (match_ordering o ((k, v) ∷ p ∷ ps) ((p.0, v) ∷ ps) (p ∷ insert_entry name_cmp ps k v))
-        ≡ match_ordering o ((k, v.now) ∷ places_behind (p ∷ ps)) ((p.0, v.now) ∷ places_behind ps) ((p.0, p.1.now) ∷ places_behind (insert_entry name_cmp ps k v))
+        ≡ match_ordering o ((k, v.now) ∷ places_behind (p ∷ ps)) ((p.0, v.now) ∷ places_behind ps)
+        ((p.0, p.1.now) ∷ places_behind (insert_entry name_cmp ps k v))
     by_order Less = refl
     by_order Equal = refl
     by_order Greater = refl

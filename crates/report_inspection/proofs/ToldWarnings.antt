@@ -116,7 +116,8 @@ all_more P (x ∷ xs) ys (h, hs) k = (h, all_more P xs ys hs k)
 pub no_concept : (before : List Warning) → Tells AreOfConcepts before before
 no_concept before = record { told_now = []; are = tt; behind = sym (append-nil (map told before)) }
 
-pub one_concept : (w : Told) (before after : List Warning) → is_of_concept w.0 ≡ true → map told after ≡ map told before ++ w ∷ [] → Tells AreOfConcepts before after
+pub one_concept : (w : Told) (before after : List Warning) → is_of_concept w.0 ≡ true → map told after ≡ map told before ++ w ∷ []
+    → Tells AreOfConcepts before after
 one_concept w before after of is = record { told_now = w ∷ []; are = (of, tt); behind = is }
 
 pub more_concepts : (a b c : List Warning) → Tells AreOfConcepts a b → Tells AreOfConcepts b c → Tells AreOfConcepts a c

@@ -1,4 +1,5 @@
--- The cells of a report that have more than one fact (Open Information Model 1.0, `xbrl:allowedDuplicates`). How they are told is the project's own.
+-- The cells of a report that have more than one fact (Open Information Model 1.0, `xbrl:allowedDuplicates`).
+-- How they are told is the project's own.
 use Rattle.std.specs.Prelude.{◌≡◌, IsTrue, Bool, nat_lt, if◌then◌else◌, List, [], ◌∷◌, ◌++◌, map, length}
 use Rattle.std.specs.List.{list_all, list_any, AllByRecursion}
 use Rattle.std.specs.List.Sorted.{IsStrictlySortedBy}
@@ -20,7 +21,8 @@ pub record ToldCell : Type 0 where
 abbrev pub class_at : List (Text × Fact) → Dims → Class
 class_at entries dims = class_of (facts_of (cell_of dims entries))
 
--- the cell of these dimensions: its class by all pairs, all its identifiers in the order of the entries, and whether it may stand
+-- the cell of these dimensions: its class by all pairs, all its identifiers in the order of the entries,
+-- and whether it may stand
 abbrev pub cell_at : Allowed → List (Text × Fact) → Dims → ToldCell
 cell_at a entries dims = record {
   dims = dims;

@@ -1,4 +1,5 @@
--- Every fault of a report, where a reading of it stops at the first. That each check of a reading is made, whatever the others say, is the project's own.
+-- Every fault of a report, where a reading of it stops at the first.
+-- That each check of a reading is made, whatever the others say, is the project's own.
 use Rattle.std.specs.Prelude.{ℕ, List, [], ◌∷◌, ◌++◌, codes, Option, None, Some, Result, Ok, Err, option_and_then, option_map, unwrap_or}
 use Rattle.std.specs.List.{filter_map, flat_map}
 use Rattle.std.specs.Option.{option_map_or, option_flatten}
@@ -39,7 +40,8 @@ abbrev pub info_faults : Table → Data → List ReportFault
 info_faults table info =
     fault_in (allowed_declared info) ++ (fault_in (declared_names table info) ++ fault_in (whole_text_of info))
 
--- the names by which facts are judged: those that it binds, whatever else is wrong. Where they are not known, no fact is fitted to them
+-- the names by which facts are judged: those that it binds, whatever else is wrong.
+-- Where they are not known, no fact is fitted to them
 abbrev pub names_known : Table → Data → Option Names
 names_known table d = option_and_then (λ info. value_in (declared_names table info)) (info_in d)
 
@@ -89,7 +91,8 @@ facts_read names members = filter_map (member_fact names) members
 
 -- ---- the whole
 
--- in the order of a reading: `documentInfo`, what it declares, the shape of `facts`, and each refused fact in byte order of the identifiers
+-- in the order of a reading: `documentInfo`, what it declares, the shape of `facts`,
+-- and each refused fact in byte order of the identifiers
 abbrev pub report_faults : Table → Data → List ReportFault
 report_faults table d = fault_in (document_info_at (get (codes "documentInfo") d))
     ++ (option_map_or (info_faults table) (info_in d) []
@@ -103,7 +106,8 @@ data_in bytes = json_of (without_mark bytes)
 abbrev pub faults_in : Table → List ℕ → List ReportFault
 faults_in table bytes = option_map_or (report_faults table) (data_in bytes) (NotJson ∷ [])
 
--- of the text of a report, whatever is wrong with it: the members that stand for facts, the facts among them, and the declared value
+-- of the text of a report, whatever is wrong with it: the members that stand for facts, the facts among them,
+-- and the declared value
 abbrev pub members_in : List ℕ → List (Text × Data)
 members_in bytes = option_map_or fact_members (data_in bytes) []
 

@@ -7,7 +7,8 @@ use Rattle.filing_model.specs.Reading.ReadReport.{ReportFault, read_report_of}
 use Rattle.script_reasons.specs.ToldFacts.{is_refused}
 use Rattle.report_inspection.specs.EachFault.{allowed_in, facts_in, faults_in, fault_in, fact_judged}
 
--- there is none where the text is read as a report, whose facts and declared value are those that are told; else a reading is told the first
+-- there is none where the text is read as a report, whose facts and declared value are those that are told;
+-- else a reading is told the first
 abbrev pub BeginWith : Table → List ℕ → Result Report ReportFault → Type 0
 BeginWith table bytes (Ok r) =
     (faults_in table bytes ≡ []) × (facts_in table bytes ≡ r.facts.entries) × (allowed_in bytes ≡ r.allowed)

@@ -13,7 +13,8 @@ use Rattle.report_inspection.specs.EachFault.{allowed_in, allowed_known, fact_me
 use Rattle.report_inspection.specs.declared.fault.Fault.{Fault}
 use Rattle.report_inspection.specs.declared.inspection.Inspection.{Inspection}
 
--- whether a load under a free name would be answered `loaded`, as if the report declared the asked value where there is one:
+-- whether a load under a free name would be answered `loaded`,
+-- as if the report declared the asked value where there is one:
 -- it is read as a report, which obeys that value, or else the declared one
 abbrev pub loads : Option Allowed → Result Report ReportFault → Bool
 loads asked (Err fault) = false
@@ -52,5 +53,6 @@ pub record IsInspection (table : Table) (asked : Option Allowed) (bytes : List �
 pub record TellsOf (table : Table) (asked : Option Allowed) (d : Data) (i : Inspection) : Type 0 where
   pub facts : i.facts ≡ length (fact_members d)
   pub faults : AreFaults (report_faults table d) i.faults.items
-  pub cells : AreCells (unwrap_or asked (allowed_known d)) (facts_read (names_known table d) (fact_members d)) i.cells.items
+  pub cells : AreCells (unwrap_or asked (allowed_known d)) (facts_read (names_known table d) (fact_members d))
+      i.cells.items
   pub loads : i.would_load_as_asked ≡ ((length i.faults.items == 0) && are_allowed i.cells.items)

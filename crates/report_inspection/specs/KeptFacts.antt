@@ -22,7 +22,8 @@ kept_of ms = kept_after [] ms
 abbrev pub members_seen : List PlaceRef → List (Text × Json)
 members_seen places = map (λ p. (p.0.now, value_view p.1.now)) places
 
--- these are the members of what stands at `facts`, as a reading keeps them and as they were read; none where that is no object
+-- these are the members of what stands at `facts`, as a reading keeps them and as they were read;
+-- none where that is no object
 pub record AreKept (facts : Option Data) (read : List (Text × Json)) (places : List PlaceRef) : Type 0 where
   pub members : members_of facts ≡ pairs (members_at (places_behind places))
   pub range : IsTrue (are_in_range (places_behind places))

@@ -57,7 +57,8 @@ reasons_of f = map string_bytes f.reasons.items ++ more_reason f.more
 -- a line for each. Want of memory is no fault
 abbrev pub fault_lines : Text → Fault → Text
 fault_lines file f =
-    option_map_or (λ fault. flat_map (reason_line file (fault_id fault) (fault_word fault)) (reasons_of f)) (reading_fault f) []
+    option_map_or (λ fault. flat_map (reason_line file (fault_id fault) (fault_word fault)) (reasons_of f))
+    (reading_fault f) []
 
 -- `["cell",file,class,dims`
 abbrev pub cell_head : Text → ToldCell → Text
@@ -92,8 +93,8 @@ abbrev pub warning_line : Text → Warning → Text
 warning_line file w =
     warning_head file (kind_word w.kind) ++ warning_end (option_map string_bytes w.fact) (string_bytes w.name)
 
-abbrev pub disallowed : List ToldCell → ℕ
-disallowed cells = count_by (λ cell. not cell.allowed) cells
+abbrev pub count_disallowed : List ToldCell → ℕ
+count_disallowed cells = count_by (λ cell. not cell.allowed) cells
 
 -- a comma and a count
 abbrev pub count_text : ℕ → Text
@@ -103,7 +104,7 @@ count_text n = codes "," ++ decimal n
 abbrev pub summary_line : Text → Inspection → Text
 summary_line file i = (head_text (codes "inspected") file ++ (count_text i.facts ++ count_text (vec_len i.cells)))
     ++ (count_text (vec_len i.faults)
-    ++ (count_text (disallowed i.cells.items) ++ (count_text (vec_len i.warnings) ++ codes "]\n")))
+    ++ (count_text (count_disallowed i.cells.items) ++ (count_text (vec_len i.warnings) ++ codes "]\n")))
 
 -- all lines of an inspection: faults, cells, warnings, and how many there are
 abbrev pub inspection_text : Text → Inspection → Text

@@ -89,7 +89,8 @@ abbrev pub has_idle_decimals : Json → Bool
 has_idle_decimals fact = is_idle (get (codes "value") fact) (get (codes "decimals") fact)
 
 abbrev pub of_decimals : Text → Json → List Told
-of_decimals id fact = if has_idle_decimals fact then (warning.DecimalsBesideNull, (Some id, codes "decimals")) ∷ [] else []
+of_decimals id fact =
+    if has_idle_decimals fact then (warning.DecimalsBesideNull, (Some id, codes "decimals")) ∷ [] else []
 
 -- of a fact under this identifier
 abbrev pub AreOfFact : Text → Json → List Told → Type 0

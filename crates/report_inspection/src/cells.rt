@@ -9,14 +9,14 @@ ghost use Rattle.report_inspection.specs.Cells.{AreCells, are_allowed, cell_at, 
 ghost use Rattle.report_inspection.specs.Runs.{AreInOrder, HaveDims, IsRun, dims_in, run_length};
 
 use crate::cell::Cell;
-use crate::crowds::crowded;
+use crate::crowds::crowded_facts;
 use filing_model::{Allowed, allows};
 use oim_fact::{Fact, class_of};
 use std::alloc::{AllocError, Global};
 use std::sync::Arc;
 
 /// The facts in the order of their dimension sets; those of one set keep their order.
-fn in_order(facts: Vec<(String, Arc<Fact>)>) -> Result<Vec<(String, Arc<Fact>)>, AllocError>
+fn sort_by_dims(facts: Vec<(String, Arc<Fact>)>) -> Result<Vec<(String, Arc<Fact>)>, AllocError>
     ensures { IfOk result (λ v. AreInOrder (facts_view facts.items) (facts_view v.items)) }
 {
     let mut facts = facts;
@@ -66,7 +66,7 @@ fn ids_of(alloc: Global, run: &[(String, Arc<Fact>)]) -> Result<Vec<String>, All
 }
 
 /// Other owners of these facts.
-fn shared(alloc: Global, run: &[(String, Arc<Fact>)]) -> Result<Vec<Arc<Fact>>, AllocError>
+fn other_owners(alloc: Global, run: &[(String, Arc<Fact>)]) -> Result<Vec<Arc<Fact>>, AllocError>
     ensures { IfOk result (λ v. map arc_value v.items ≡ facts_of (facts_view run.now)) }
 {
     let mut facts = Vec::with_capacity(alloc, run.len())?;
@@ -87,7 +87,7 @@ fn cell_of(
     ensures { IfOk result (λ c. c ≡ cell_at allowed (facts_view run.now) (dims_in (fact_view first.now))) }
 {
     let ids = ids_of(alloc, run)?;
-    let class = class_of(&shared(alloc, run)?);
+    let class = class_of(&other_owners(alloc, run)?);
     Ok(Cell {
         fact: first.1.clone()?,
         class,
@@ -119,7 +119,8 @@ fn split_run<'a>(
     facts: &'a [(String, Arc<Fact>)],
     first: &(String, Arc<Fact>),
 ) -> (&'a [(String, Arc<Fact>)], &'a [(String, Arc<Fact>)])
-    ensures run { IsRun (dims_in (fact_view first.now)) (facts_view facts.now) (facts_view result.0.now) (facts_view result.1.now) }
+    ensures run { IsRun (dims_in (fact_view first.now)) (facts_view facts.now)
+        (facts_view result.0.now) (facts_view result.1.now) }
     ensures len { length result.0.now ≡ run_length (dims_in (fact_view first.now)) (facts_view facts.now) }
     ensures rest { length result.1.now + length result.0.now ≡ length facts.now }
 {
@@ -134,7 +135,7 @@ fn cells_in(
 ) -> Result<Vec<Cell>, AllocError>
     ensures { IfOk result (λ v. AreCells allowed (facts_view facts.items) v.items) }
 {
-    let facts = in_order(facts)?;
+    let facts = sort_by_dims(facts)?;
     let mut cells = Vec::new(alloc);
     let mut left: &[(String, Arc<Fact>)] = &facts;
     while let [first, ..] = left {
@@ -153,7 +154,7 @@ pub(crate) fn cells_of(
 ) -> Result<Vec<Cell>, AllocError>
     ensures { IfOk result (λ v. AreCells allowed (facts_view facts.items) v.items) }
 {
-    let facts = crowded(alloc, facts)?;
+    let facts = crowded_facts(alloc, facts)?;
     cells_in(alloc, allowed, facts)
 }
 

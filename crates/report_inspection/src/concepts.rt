@@ -45,7 +45,7 @@ fn has_number(fact: &json::Value<'_>) -> bool {
 }
 
 /// The URI and the local name of a concept whose prefix is bound.
-fn expanded<'n, 'a>(names: &'n Names, concept: &'a str) -> Option<(&'n str, &'a str)> {
+fn expanded_name<'n, 'a>(names: &'n Names, concept: &'a str) -> Option<(&'n str, &'a str)> {
     let (prefix, local) = concept.split_once(':')?;
     Some((names.uri(prefix)?, local))
 }
@@ -181,7 +181,8 @@ impl<'n, 'a> Concepts<'n, 'a> {
         self.warn_of_others(alloc, warnings, table, uris, id, local)
     }
 
-    /// Warns of each concept that has a number and that the table lacks, where it has the local name at another of these URIs.
+    /// Warns of each concept that has a number and that the table lacks,
+    /// where it has the local name at another of these URIs.
     #[tactic(auto, using(crate::proofs::ToldWarnings::no_concept, crate::proofs::ToldWarnings::more_concepts))]
     fn warn_of_numbers(
         &self,
@@ -223,7 +224,7 @@ fn concepts_of<'n, 'a>(
         facts: BTreeMap::new(alloc),
     };
     for (concept, first) in written_concepts(alloc, facts)? {
-        if let Some(name) = expanded(names, concept) {
+        if let Some(name) = expanded_name(names, concept) {
             drop(concepts.facts.insert(name, first)?);
         }
     }
@@ -258,7 +259,8 @@ fn namespaces_of<'a, 'b>(report: &'b json::Value<'a>) -> Option<&'b json::Value<
 
 /// Warns of concepts of these facts that the table lacks: of those with a unit,
 /// and of those with a number whose local name it has at another URI.
-/// Each kind comes in byte order of the URIs and the local names. None is warned of where the names of the report are not known.
+/// Each kind comes in byte order of the URIs and the local names.
+/// None is warned of where the names of the report are not known.
 #[tactic(auto, using(crate::proofs::ToldWarnings::no_concept, crate::proofs::ToldWarnings::more_concepts))]
 pub(crate) fn warn_of_concepts<'a>(
     alloc: Global,

@@ -1,6 +1,7 @@
 //! The facts that may share a cell.
 //!
-//! A fact whose dimensions have a hash of their own is alone in its cell. The others, most often few, are put in order and compared.
+//! A fact whose dimensions have a hash of their own is alone in its cell.
+//! The others, most often few, are put in order and compared.
 
 ghost use Rattle.std.specs.Prelude.{◌≡◌, IfOk};
 ghost use Rattle.oim_report.specs.Parts.{fact_view, facts_view};
@@ -53,7 +54,7 @@ fn with_hashes(
 }
 
 /// The facts that may share a cell, in their order.
-pub(crate) fn crowded(
+pub(crate) fn crowded_facts(
     alloc: Global,
     facts: Vec<(String, Arc<Fact>)>,
 ) -> Result<Vec<(String, Arc<Fact>)>, AllocError>

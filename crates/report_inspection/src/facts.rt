@@ -23,7 +23,7 @@ use crate::fault::{Fault, push_told};
 use filing_model::Trouble;
 use oim_fact::{Fact, Names, fit};
 use oim_report::{ReportFault, copied, raw_fact_from};
-use script_reasons::{told_of_fact, told_of_facts};
+use script_reasons::{faults_of_fact, faults_of_facts};
 use serde_json::Value;
 use std::alloc::{AllocError, Global};
 use std::collections::BTreeMap;
@@ -37,7 +37,7 @@ pub(crate) struct Found {
 }
 
 /// A fact by these names; none where no names are known.
-fn judged(alloc: Global, names: &Option<Names>, value: Value) -> Result<Option<Fact>, Trouble>
+fn judge_fact(alloc: Global, names: &Option<Names>, value: Value) -> Result<Option<Fact>, Trouble>
     ensures { Gives fact_trouble same result (fact_judged names.now (view value)) }
 {
     let raw = raw_fact_from(alloc, value)?;
@@ -80,7 +80,7 @@ fn tell_fact(
     if let Trouble::NoMemory = trouble {
         return Err(AllocError);
     }
-    let told = told_of_fact(alloc, names.as_ref(), &owned_copy(alloc, value)?)?;
+    let told = faults_of_fact(alloc, names.as_ref(), &owned_copy(alloc, value)?)?;
     let fault = ReportFault::BadFact(String::from_str(alloc, id)?, trouble);
     push_told(alloc, faults, fault, told)
 }
@@ -97,7 +97,7 @@ impl Found {
         requires { IsInRange value.now }
         ensures { OnOk result (Takes names.now (id.now, data_of value.now) self.old self.new) }
     {
-        match judged(alloc, names, owned_copy(alloc, value)?) {
+        match judge_fact(alloc, names, owned_copy(alloc, value)?) {
             Ok(Some(fact)) => {
                 let id = String::from_str(alloc, id)?;
                 self.facts.push((id, Arc::new(alloc, fact)?))?;
@@ -110,7 +110,7 @@ impl Found {
 }
 
 /// The members in byte order of their names, of which the last of a name stays.
-fn in_order<'a, 'b>(
+fn sort_members<'a, 'b>(
     alloc: Global,
     members: &'b Vec<(&'a str, json::Value<'a>)>,
 ) -> Result<BTreeMap<&'a str, &'b json::Value<'a>>, AllocError>
@@ -154,7 +154,7 @@ fn tell_shape(alloc: Global, found: &mut Found, facts: &json::Value<'_>) -> Resu
     ensures facts { OnOk result (found.new.facts ≡ found.old.facts) }
 {
     let facts = owned_copy(alloc, facts)?;
-    let told = told_of_facts(alloc, &facts)?;
+    let told = faults_of_facts(alloc, &facts)?;
     drop(facts);
     push_told(alloc, &mut found.faults, ReportFault::WrongShape, told)
 }
@@ -168,7 +168,7 @@ fn kept_in<'a, 'b>(
     ensures { IfOk result (λ m. AreKept (Some (data_of facts.now)) (kept_in (value_view facts.now)) m.entries) }
 {
     match members_in(facts) {
-        Some(members) => in_order(alloc, members),
+        Some(members) => sort_members(alloc, members),
         None => Ok(BTreeMap::new(alloc)),
     }
 }
@@ -179,7 +179,8 @@ pub(crate) fn kept_facts<'a, 'b>(
     report: &'b json::Value<'a>,
 ) -> Result<BTreeMap<&'a str, &'b json::Value<'a>>, AllocError>
     requires { IsInRange report.now }
-    ensures { IfOk result (λ m. AreKept (get (codes "facts") (data_of report.now)) (kept_facts (value_view report.now)) m.entries) }
+    ensures { IfOk result (λ m. AreKept (get (codes "facts") (data_of report.now)) (kept_facts (value_view report.now))
+        m.entries) }
 {
     match part_of(report, "facts") {
         Some(facts) => kept_in(alloc, facts),
@@ -219,7 +220,8 @@ fn take_members(
     kept: &BTreeMap<&str, &json::Value<'_>>,
 ) -> Result<(), AllocError>
     requires { IsTrue (are_in_range (places_behind kept.now.entries)) }
-    ensures { OnOk result (TakesEach names.now (pairs (members_at (places_behind kept.now.entries))) found.old found.new) }
+    ensures { OnOk result (TakesEach names.now (pairs (members_at (places_behind kept.now.entries)))
+        found.old found.new) }
 {
     for (id, value) in kept {
         found.take(alloc, names, id, value)?;
@@ -236,7 +238,8 @@ pub(crate) fn take_facts(
     kept: &BTreeMap<&str, &json::Value<'_>>,
 ) -> Result<u64, AllocError>
     requires range { IsInRange report.now }
-    requires kept { AreKept (get (codes "facts") (data_of report.now)) (kept_facts (value_view report.now)) kept.now.entries }
+    requires kept { AreKept (get (codes "facts") (data_of report.now)) (kept_facts (value_view report.now))
+        kept.now.entries }
     ensures count { IfOk result (λ n. n ≡ length (fact_members (data_of report.now))) }
     ensures takes { OnOk result (TakesFacts names.now (get (codes "facts") (data_of report.now)) found.old found.new) }
 {

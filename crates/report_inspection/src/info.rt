@@ -20,7 +20,9 @@ use oim_fact::{Names, NumericTable};
 use oim_report::{
     ReportFault, allowed_of_info, copied, has_document_type, names_of_info, owned_at, whole_text,
 };
-use script_reasons::{Told, features_fault, info_faults, names_of, not_whole, type_fault};
+use script_reasons::{
+    Told, names_of, tell_features_fault, tell_info_faults, tell_not_whole, tell_type_fault,
+};
 use serde_json::{Map, Value};
 use std::alloc::{AllocError, Global};
 use std::sync::Arc;
@@ -36,13 +38,14 @@ pub(crate) struct Head {
 /// Tells a document type that is missing or another one.
 fn check_type(alloc: Global, faults: &mut Vec<Fault>, info: &Value) -> Result<(), AllocError>
     requires { IsTrue (is_some (as_object (view info.now))) }
-    ensures { OnOk result (AddsFaults (fault_in (document_info_at (Some (view info.now)))) faults.old.items faults.new.items) }
+    ensures { OnOk result (AddsFaults (fault_in (document_info_at (Some (view info.now))))
+        faults.old.items faults.new.items) }
 {
     if has_document_type(info) {
         return Ok(());
     }
     let mut told = Told::new(alloc);
-    type_fault(alloc, &mut told, info.get("documentType"))?;
+    tell_type_fault(alloc, &mut told, info.get("documentType"))?;
     push_told(alloc, faults, ReportFault::WrongDocumentType, told)
 }
 
@@ -53,13 +56,14 @@ fn check_features(
     info: &Value,
 ) -> Result<Option<Allowed>, AllocError>
     ensures allowed { IfOk result (λ o. o ≡ value_in (allowed_declared (view info.now))) }
-    ensures faults { OnOk result (AddsFaults (fault_in (allowed_declared (view info.now))) faults.old.items faults.new.items) }
+    ensures faults { OnOk result (AddsFaults (fault_in (allowed_declared (view info.now)))
+        faults.old.items faults.new.items) }
 {
     match allowed_of_info(info) {
         Ok(allowed) => Ok(Some(allowed)),
         Err(fault) => {
             let mut told = Told::new(alloc);
-            features_fault(alloc, &mut told, info.get("features"))?;
+            tell_features_fault(alloc, &mut told, info.get("features"))?;
             push_told(alloc, faults, fault, told)?;
             Ok(None)
         }
@@ -74,7 +78,8 @@ fn check_names(
     table: &Arc<NumericTable>,
 ) -> Result<Option<Names>, AllocError>
     ensures names { IfOk result (λ o. o ≡ value_in (declared_names (arc_value table.now) (view info.now))) }
-    ensures faults { OnOk result (AddsFaults (fault_in (declared_names (arc_value table.now) (view info.now))) faults.old.items faults.new.items) }
+    ensures faults { OnOk result (AddsFaults (fault_in (declared_names (arc_value table.now) (view info.now)))
+        faults.old.items faults.new.items) }
 {
     match names_of_info(alloc, info, table) {
         Ok(names) => Ok(Some(names)),
@@ -96,7 +101,7 @@ fn check_numbers(alloc: Global, faults: &mut Vec<Fault>, info: &Value) -> Result
         return Ok(());
     }
     let mut told = Told::new(alloc);
-    not_whole(alloc, &mut told, "documentInfo", info)?;
+    tell_not_whole(alloc, &mut told, "documentInfo", info)?;
     push_told(alloc, faults, ReportFault::NotWhole, told)
 }
 
@@ -119,7 +124,11 @@ fn head_of(alloc: Global, info: &Value, table: &Arc<NumericTable>) -> Result<Hea
 }
 
 /// A report with this member `documentInfo` alone; any other value stays.
-fn alone(alloc: Global, value: &json::Value<'_>, info: Option<Value>) -> Result<Value, AllocError> {
+fn report_of_info(
+    alloc: Global,
+    value: &json::Value<'_>,
+    info: Option<Value>,
+) -> Result<Value, AllocError> {
     if !matches!(value, json::Value::Object(_)) {
         return match copied(alloc, value)? {
             Some(value) => Ok(value),
@@ -143,9 +152,9 @@ fn no_head(
     requires { option_and_then an_object (option_map view info) ≡ None }
     ensures { IfOk result (IsHead (arc_value table.now) (option_map view info)) }
 {
-    let report = alone(alloc, value, info)?;
+    let report = report_of_info(alloc, value, info)?;
     let mut told = Told::new(alloc);
-    drop(info_faults(alloc, &mut told, &report, table)?);
+    drop(tell_info_faults(alloc, &mut told, &report, table)?);
     drop(report);
     let mut faults = Vec::new(alloc);
     push_told(alloc, &mut faults, ReportFault::WrongShape, told)?;

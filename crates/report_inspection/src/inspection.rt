@@ -21,7 +21,7 @@ use filing_model::Allowed;
 use json::Scratch;
 use oim_fact::NumericTable;
 use oim_report::{ReportFault, text_value};
-use script_reasons::{Told, told_of_text, without_mark};
+use script_reasons::{Told, faults_of_text, without_mark};
 use std::alloc::{AllocError, Global};
 use std::str::from_utf8;
 use std::sync::Arc;
@@ -42,13 +42,14 @@ pub struct Inspection {
     /// - the concepts that the table lacks;
     /// - the numbers at other URIs.
     pub warnings: Vec<Warning>,
-    /// Whether a load under a free name would be answered `loaded`, as if the report declared the value that was asked for, where one was.
+    /// Whether a load under a free name would be answered `loaded`,
+    /// as if the report declared the value that was asked for, where one was.
     pub would_load_as_asked: bool,
 }
 
 /// What is wrong with a text that is no JSON.
-fn told_of_bytes(alloc: Global, bytes: &[u8]) -> Result<Told, AllocError> {
-    let mut told = told_of_text(alloc, bytes)?;
+fn faults_of_bytes(alloc: Global, bytes: &[u8]) -> Result<Told, AllocError> {
+    let mut told = faults_of_text(alloc, bytes)?;
     if let Err(fault) = from_utf8(bytes) {
         let place = fault.valid_up_to();
         told.tell(format!(in alloc;
@@ -65,7 +66,7 @@ fn no_json(alloc: Global, bytes: &[u8]) -> Result<Inspection, AllocError>
     ensures cells { IfOk result (λ i. i.cells.items ≡ []) }
     ensures loads { IfOk result (λ i. i.would_load_as_asked ≡ false) }
 {
-    let told = told_of_bytes(alloc, bytes)?;
+    let told = faults_of_bytes(alloc, bytes)?;
     let mut faults = Vec::new(alloc);
     push_told(alloc, &mut faults, ReportFault::NotJson, told)?;
     Ok(Inspection {
@@ -116,7 +117,8 @@ fn inspect_value(
 /// Inspects the text of a report, after one byte order mark, by this numeric table.
 /// Where an allowed value is asked for, it takes the place of the declared one.
 ///
-/// Each check of a reading is made, whatever the others say, and each fact is read by itself. Out of memory is an error, and says nothing of the report.
+/// Each check of a reading is made, whatever the others say, and each fact is read by itself.
+/// Out of memory is an error, and says nothing of the report.
 pub fn inspect(
     alloc: Global,
     bytes: &[u8],

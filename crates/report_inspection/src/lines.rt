@@ -5,7 +5,7 @@ ghost use Rattle.std.specs.List.{flat_map};
 ghost use Rattle.filing_model.specs.Reading.Writing.{nullable_text};
 ghost use Rattle.oim_report.specs.Faults.{report_fault};
 ghost use Rattle.script_format.specs.ReplyText.{bool_text, texts_text};
-ghost use Rattle.report_inspection.specs.Lines.{cell_end, cell_head, cell_line, count_text, disallowed, fault_end, fault_head, fault_id, fault_lines, head_text, inspection_text, more_reason, reason_line, summary_line, warning_end, warning_head, warning_line};
+ghost use Rattle.report_inspection.specs.Lines.{cell_end, cell_head, cell_line, count_disallowed, count_text, fault_end, fault_head, fault_id, fault_lines, head_text, inspection_text, more_reason, reason_line, summary_line, warning_end, warning_head, warning_line};
 
 use crate::cell::Cell;
 use crate::fault::Fault;
@@ -226,8 +226,8 @@ fn is_disallowed(cell: &Cell) -> bool
 }
 
 /// How many cells may not stand.
-pub(crate) fn disallowed(cells: &[Cell]) -> usize
-    ensures { result ≡ disallowed cells.now }
+pub(crate) fn count_disallowed(cells: &[Cell]) -> usize
+    ensures { result ≡ count_disallowed cells.now }
 {
     let mut count = 0;
     for cell in cells {
@@ -278,7 +278,7 @@ fn push_summary(out: &mut String, file: &str, inspection: &Inspection) -> Result
     push_last_counts(
         out,
         inspection.faults.len() as u64,
-        disallowed(&inspection.cells) as u64,
+        count_disallowed(&inspection.cells) as u64,
         inspection.warnings.len() as u64,
     )?;
     Ok(())

@@ -3,7 +3,7 @@
 use crate::cell::Cell;
 use crate::fault::Fault;
 use crate::inspection::Inspection;
-use crate::lines::{disallowed, fault_id};
+use crate::lines::{count_disallowed, fault_id};
 use crate::warning::{Warning, WarningKind};
 use oim_report::{push_dims, push_quoted};
 use script_format::class_word;
@@ -53,7 +53,7 @@ fn push_plain_cell(out: &mut String, file: &str, cell: &Cell) -> Result<(), Allo
 }
 
 /// What is said of a name before it, and after it.
-fn said(kind: WarningKind) -> (&'static str, &'static str) {
+fn words_around(kind: WarningKind) -> (&'static str, &'static str) {
     match kind {
         WarningKind::NameTwice => ("the name ", " stands twice: the last counts"),
         WarningKind::NotRead => ("the member ", " is not read"),
@@ -71,7 +71,7 @@ fn said(kind: WarningKind) -> (&'static str, &'static str) {
 
 /// Appends the line of a warning.
 fn push_plain_warning(out: &mut String, file: &str, warning: &Warning) -> Result<(), AllocError> {
-    let (before, behind) = said(warning.kind);
+    let (before, behind) = words_around(warning.kind);
     push_place(out, file, warning.fact.as_deref())?;
     out.push_str("warning: ")?;
     out.push_str(before)?;
@@ -80,7 +80,8 @@ fn push_plain_warning(out: &mut String, file: &str, warning: &Warning) -> Result
     out.push_str("\n")
 }
 
-/// Appends an inspection as lines for people: its faults, its cells of more than one fact, its warnings, and how many of each there are.
+/// Appends an inspection as lines for people: its faults, its cells of more than one fact, its warnings,
+/// and how many of each there are.
 pub fn push_plain(out: &mut String, file: &str, inspection: &Inspection) -> Result<(), AllocError> {
     for fault in &inspection.faults {
         push_plain_fault(out, file, fault)?;
@@ -98,7 +99,7 @@ pub fn push_plain(out: &mut String, file: &str, inspection: &Inspection) -> Resu
         inspection.facts,
         inspection.faults.len(),
         inspection.cells.len(),
-        disallowed(&inspection.cells),
+        count_disallowed(&inspection.cells),
         inspection.warnings.len()
     )
 }

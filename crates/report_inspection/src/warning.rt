@@ -11,13 +11,15 @@ use std::alloc::{AllocError, Global};
 pub enum WarningKind {
     /// A name stands twice in an object, of which a reading keeps the last.
     NameTwice,
-    /// A reading passes over a member of the report or of a fact, or `documentInfo` has a member that xBRL-JSON 1.0 does not define.
+    /// A reading passes over a member of the report or of a fact,
+    /// or `documentInfo` has a member that xBRL-JSON 1.0 does not define.
     NotRead,
     /// The decimals of a value that is null are dropped.
     DecimalsBesideNull,
     /// A concept has a unit, and the numeric table lacks it.
     NotInTable,
-    /// A number has the local name of a numeric concept, at another URI. No fact has that concept, and the report binds its URI as one of its first hundred.
+    /// A number has the local name of a numeric concept, at another URI.
+    /// No fact has that concept, and the report binds its URI as one of its first hundred.
     OtherNamespace,
 }
 

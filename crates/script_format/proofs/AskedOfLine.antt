@@ -9,7 +9,9 @@ use Rattle.filing_step.specs.declared.step.Step.{Step}
 use Rattle.script_format.specs.AskedStep.{AreAsked, IsAsked, asking_in}
 use Rattle.script_format.specs.Script.{call_read}
 use Rattle.script_format.specs.ScriptLines.{◌>>=◌, Asking, Line, Load, Open, Ask, Commit, Close, Export}
-use Rattle.script_format.specs.ScriptLines.{text_at, ends_at, report_part_at, load_of, asking_at, asking_of_word, line_of, line_of_word}
+use Rattle.script_format.specs.ScriptLines.{text_at, ends_at, report_part_at, load_of, asking_at, asking_line, asking_of_verb, line_of, line_of_word}
+use Rattle.script_format.specs.Verbs.{verb_of_word}
+use Rattle.script_format.specs.declared.verb.Verb.{Verb}
 use Rattle.script_format.proofs.LinesByWord.{HoldsOfOthers, of_word, then}
 
 -- a line that asks something has it in the value
@@ -31,14 +33,15 @@ of_load d =
     then (HasAsking d) (others d) (report_part_at 2 d) _ (λ report.
     then (HasAsking d) (others d) (ends_at 3 d) _ (λ ended. tt)))
 
-asks : (d : Data) (word session : Text) (o : Option Asking) → text_at 0 d ≡ Some word → asking_at word 2 d ≡ o
-    → HasAsking d (o >>= λ asking. Some (Ask session asking))
-asks d word session None first is = tt
-asks d word session (Some asking) first is = ap (λ o. o >>= λ word. asking_at word 2 d) first ∙ is
+asks : (d : Data) (word session : Text) (v : Verb) (o : Option Asking) → text_at 0 d ≡ Some word → verb_of_word word ≡ Some v
+    → asking_of_verb v 2 d ≡ o → HasAsking d (o >>= λ asking. Some (Ask session asking))
+asks d word session v None first named is = tt
+asks d word session v (Some asking) first named is =
+    ap (λ o. o >>= λ word. asking_at word 2 d) first ∙ ap (λ o. o >>= λ v. asking_of_verb v 2 d) named ∙ is
 
-of_asking : (d : Data) (word : Text) → text_at 0 d ≡ Some word → HasAsking d (asking_of_word word d)
-of_asking d word first =
-    then (HasAsking d) (others d) (text_at 1 d) _ (λ session. asks d word session (asking_at word 2 d) first refl)
+of_asking : (d : Data) (word : Text) → text_at 0 d ≡ Some word → (v : Verb) → verb_of_word word ≡ Some v → HasAsking d (asking_line v d)
+of_asking d word first v named =
+    then (HasAsking d) (others d) (text_at 1 d) _ (λ session. asks d word session v (asking_of_verb v 2 d) first named refl)
 
 by_first : (d : Data) (o : Option Text) → text_at 0 d ≡ o → HasAsking d (o >>= λ word. line_of_word word d)
 by_first d None first = tt

@@ -1,37 +1,33 @@
 -- Where the dimensions of a cell and the fact of an addition stand in the array that asks.
-use Rattle.std.proofs.Common.{◌≡◌, ◌∙◌, ap, sym, subst, refl, ℕ, ◌+◌, Bool, true, false, cond, codes, Option, Some, None, IsSome, is_some, unwrap_or, option_map, option_and_then, Result, String}
+use Rattle.std.proofs.Common.{◌≡◌, ◌∙◌, ap, sym, subst, refl, ℕ, ◌+◌, true, false, cond, Option, Some, None}
+use Rattle.std.proofs.Common.{IsSome, is_some, unwrap_or, option_map, option_and_then, Result, String}
 use Rattle.std.specs.declared.alloc.Global.{Global}
 use Rattle.std.specs.Result.{result_map_both}
 use Rattle.serde_json.specs.Data.{Data}
 use Rattle.serde_json.specs.Find.{at, as_object}
-use Rattle.filing_model.specs.Common.Text.{Text, text_eq}
+use Rattle.filing_model.specs.Common.Text.{Text}
 use Rattle.filing_model.specs.Reading.ReadReport.{allowed_of_word}
 use Rattle.filing_model.specs.Histories.History.{Ask}
 use Rattle.filing_step.specs.declared.step.Step.{Step}
 use Rattle.script_format.specs.AskedStep.{AreAsked, IsAsked, asking_in}
 use Rattle.script_format.specs.Script.{call_read}
-use Rattle.script_format.specs.ScriptLines.{◌>>=◌, Asking, Get, Cell, Page, Add, Remove, Declared, Declare, text_at}
+use Rattle.script_format.specs.ScriptLines.{◌>>=◌, Asking, Cell, Add, text_at}
 use Rattle.script_format.specs.ScriptLines.{object_at, asked_at, nullable_at, limit_at, ends_at, get_at, cell_at}
-use Rattle.script_format.specs.ScriptLines.{page_at, add_at, remove_at, declared_at, declare_at, asking_at}
+use Rattle.script_format.specs.ScriptLines.{page_at, add_at, remove_at, declared_at, declare_at, asking_at, asking_of_verb}
+use Rattle.script_format.specs.Verbs.{verb_of_word}
+use Rattle.script_format.specs.declared.verb.Verb.{Verb}
+use Rattle.script_format.specs.declared.verb.Verb.TheVariants as verb
 
 -- behind a report, or behind a report and an identifier
 abbrev HasPart : ℕ → Data → Option Asking → Type 0
-HasPart place d None = Unit {0}
-HasPart place d (Some (Get report id)) = Unit {0}
 HasPart place d (Some (Cell report dims)) = at (place + 1) d ≡ Some dims
-HasPart place d (Some (Page report query limit)) = Unit {0}
 HasPart place d (Some (Add report id fact)) = at (place + 2) d ≡ Some fact
-HasPart place d (Some (Remove report id)) = Unit {0}
-HasPart place d (Some (Declared report)) = Unit {0}
-HasPart place d (Some (Declare report allowed)) = Unit {0}
+HasPart place d _ = Unit {0}
 
-then : {A : Type 0} (place : ℕ) (d : Data) (first : Option A) (second : A → Option Asking) → ((x : A) → HasPart place d (second x)) → HasPart place d (first >>= second)
+then : {A : Type 0} (place : ℕ) (d : Data) (first : Option A) (second : A → Option Asking) → ((x : A) → HasPart place d (second x))
+    → HasPart place d (first >>= second)
 then place d None second h = tt
 then place d (Some x) second h = h x
-
-either : (place : ℕ) (d : Data) (b : Bool) (one other : Option Asking) → HasPart place d one → HasPart place d other → HasPart place d (cond b one other)
-either place d true one other p q = p
-either place d false one other p q = q
 
 -- with the object that stands at a place
 with_object : (place : ℕ) (d : Data) (n : ℕ) (second : Data → Option Asking)
@@ -77,15 +73,22 @@ of_declare place d =
     then place d (text_at place d) _ (λ report. then place d (option_and_then allowed_of_word (text_at (place + 1) d)) _ (λ allowed.
     then place d (ends_at (place + 2) d) _ (λ ended. tt)))
 
+of_verb : (v : Verb) (place : ℕ) (d : Data) → HasPart place d (asking_of_verb v place d)
+of_verb verb.Get place d = of_get place d
+of_verb verb.Cell place d = of_cell place d
+of_verb verb.Page place d = of_page place d
+of_verb verb.Add place d = of_add place d
+of_verb verb.Remove place d = of_remove place d
+of_verb verb.Declared place d = of_declared place d
+of_verb verb.Declare place d = of_declare place d
+of_verb verb.Load place d = tt
+of_verb verb.Open place d = tt
+of_verb verb.Commit place d = tt
+of_verb verb.Close place d = tt
+of_verb verb.Export place d = tt
+
 of_word : (word : Text) (place : ℕ) (d : Data) → HasPart place d (asking_at word place d)
-of_word word place d =
-    either place d (text_eq word (codes "get")) _ _ (of_get place d)
-    (either place d (text_eq word (codes "cell")) _ _ (of_cell place d)
-    (either place d (text_eq word (codes "page")) _ _ (of_page place d)
-    (either place d (text_eq word (codes "add")) _ _ (of_add place d)
-    (either place d (text_eq word (codes "remove")) _ _ (of_remove place d)
-    (either place d (text_eq word (codes "declared")) _ _ (of_declared place d)
-    (either place d (text_eq word (codes "declare")) _ None (of_declare place d) tt))))))
+of_word word place d = then place d (verb_of_word word) _ (λ v. of_verb v place d)
 
 cell_part : (word : Text) (place : ℕ) (d : Data) (report : Text) (dims : Data)
     → Some (Cell report dims) ≡ asking_at word place d → at (place + 1) d ≡ Some dims

@@ -6,7 +6,7 @@ use Rattle.filing_model.specs.Sessions.Calls.{Call}
 use Rattle.filing_model.specs.Histories.History as model
 use Rattle.filing_step.specs.Steps.{step_of}
 use Rattle.filing_step.specs.declared.step.Step.{Step}
-use Rattle.script_format.specs.Script.{State, ReplyNow, judged_asking}
+use Rattle.script_format.specs.Script.{State, ReplyNow, asking_outcome}
 use Rattle.script_format.specs.AskedStep.{IsAsked}
 
 -- the step in it, or another
@@ -32,6 +32,6 @@ refusal_of_asked text (Ok c) asked = absurd (true≢false (ap is_ok (sym asked))
 refusal_of_asked text (Err told) asked = ap (λ r. Err (text_in told r)) (sym asked)
 
 -- or to that reply
-pub refusal_is_judged : (state : State) (session : Text) (text : String Global) (reading : Result Call Text) → IsAsked (Err text) reading
-    → judged_asking state session reading ≡ ReplyNow (string_bytes text)
-refusal_is_judged state session text reading asked = ap (judged_asking state session) (refusal_of_asked text reading asked)
+pub refusal_outcome : (state : State) (session : Text) (text : String Global) (reading : Result Call Text) → IsAsked (Err text) reading
+    → asking_outcome state session reading ≡ ReplyNow (string_bytes text)
+refusal_outcome state session text reading asked = ap (asking_outcome state session) (refusal_of_asked text reading asked)

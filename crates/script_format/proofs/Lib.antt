@@ -9,6 +9,6 @@ pub mod AskedOfLine
 pub mod ReadValues
 pub mod ReadParts
 pub mod ReadLoads
-pub mod JudgedLines
+pub mod LineOutcomes
 -- ---- examples that compute
 pub mod Examples

@@ -1,5 +1,6 @@
 -- A text that begins with neither a bracket nor white space is no array, so its line is bad.
-use Rattle.std.proofs.Common.{◌≡◌, ◌∙◌, ap, sym, refl, ℕ, ◌-◌, Bool, true, false, true≢false, cond, ◌&&◌, ◌==◌, nat_eq, List, [], ◌∷◌, length, take, drop, Option, None, Some, option_map, option_and_then, unwrap_or}
+use Rattle.std.proofs.Common.{◌≡◌, ◌∙◌, ap, sym, refl, ℕ, ◌-◌, Bool, true, false, true≢false, cond, ◌&&◌, ◌==◌, nat_eq}
+use Rattle.std.proofs.Common.{List, [], ◌∷◌, length, take, drop, Option, None, Some, option_map, option_and_then, unwrap_or}
 use Rattle.std.proofs.lemmas.Bool.{eqb-true}
 use Rattle.std.specs.List.{slice_get, starts_with}
 use Rattle.std.specs.Bool.{⊤, if◌then◌else◌, OnFalse}
@@ -8,7 +9,8 @@ use Rattle.std.specs.Str.{is_utf8}
 use Rattle.json.specs.Ascii as ascii
 use Rattle.json.specs.Json as json
 use Rattle.json.specs.Json.{Parse, parse_map, if_last, value, value_with}
-use Rattle.json.specs.Lex.{Lexeme, token, comma, colon, Class, quote, backslash, operator, space, other, Mode, between, class, lex, lex_byte, operator_lexeme, string_token, Place, fresh, punctuate, place_token, tokens}
+use Rattle.json.specs.Lex.{Lexeme, token, comma, colon, Class, quote, backslash, operator, space, other, Mode, between}
+use Rattle.json.specs.Lex.{class, lex, lex_byte, operator_lexeme, string_token, Place, fresh, punctuate, place_token, tokens}
 use Rattle.json.specs.Token.{Token}
 use Rattle.json.specs.Word.{after_number, ends_word, head, is_space, literal, number_before, word}
 use Rattle.json.proofs.Grammar.{value_is}
@@ -17,7 +19,7 @@ use Rattle.serde_json.specs.Read.{of_json, of_members, number_of, max_depth, rea
 use Rattle.filing_model.specs.Reading.JsonText.{json_of}
 use Rattle.script_format.specs.ReplyText.{bad_line_text}
 use Rattle.script_format.specs.ScriptLines.{line_of}
-use Rattle.script_format.specs.Script.{ReplyNow, State, judged, judged_line}
+use Rattle.script_format.specs.Script.{ReplyNow, State, value_outcome, line_outcome}
 
 -- ---- of the value
 
@@ -126,7 +128,8 @@ unfolding punctuate
 of_token t ls h = placed t _ _ h
 
 operator_cases : (a b bracket c d : Bool) (ls : List Lexeme) → bracket ≡ false
-    → first_lexeme (cond a (token Token.begin_object) (cond b (token Token.end_object) (cond bracket (token Token.begin_array) (cond c (token Token.end_array) (cond d comma colon))))) ls
+    → first_lexeme (cond a (token Token.begin_object) (cond b (token Token.end_object)
+    (cond bracket (token Token.begin_array) (cond c (token Token.end_array) (cond d comma colon))))) ls
 unfolding punctuate
 operator_cases true b bracket c d ls h = tt
 operator_cases false true bracket c d ls h = tt
@@ -152,7 +155,8 @@ of_class operator byte rest k h = of_operator byte _ h
 of_class space byte rest k h = absurd h
 of_class other byte rest k h = of_token (word (byte ∷ rest)) _ (word_token (byte ∷ rest))
 
-class_first : (q s o w : Bool) (byte : ℕ) → (byte == ascii.open_bracket) ≡ false → w ≡ false → is_first (cond q quote (cond s backslash (cond o operator (cond w space other)))) byte
+class_first : (q s o w : Bool) (byte : ℕ) → (byte == ascii.open_bracket) ≡ false → w ≡ false
+    → is_first (cond q quote (cond s backslash (cond o operator (cond w space other)))) byte
 class_first true s o w byte b h = tt
 class_first false true o w byte b h = tt
 class_first false false true w byte b h = b
@@ -175,10 +179,11 @@ where_utf8 true o h = h
 where_utf8 false o h = refl
 
 no_array_is_bad : (byte : ℕ) (rest : List ℕ) → (byte == ascii.open_bracket) ≡ false → is_space byte ≡ false
-    → (state : State) → judged state (json_of (byte ∷ rest)) ≡ ReplyNow bad_line_text
+    → (state : State) → value_outcome state (json_of (byte ∷ rest)) ≡ ReplyNow bad_line_text
 unfolding json_of
 no_array_is_bad byte rest b h state =
-    ap (λ o. option_map_or (judged_line state) o (ReplyNow bad_line_text)) (where_utf8 (is_utf8 (byte ∷ rest)) (read (byte ∷ rest)) (line_read_of byte rest b h))
+    ap (λ o. option_map_or (line_outcome state) o (ReplyNow bad_line_text))
+    (where_utf8 (is_utf8 (byte ∷ rest)) (read (byte ∷ rest)) (line_read_of byte rest b h))
 
 unlike : (x y : ℕ) → (x ≡ y → ⊥) → (x == y) ≡ false
 unlike x y h =
@@ -188,10 +193,10 @@ unlike x y h =
     ] refl
 
 pub bad_where_no_array : (byte : ℕ) (line : List ℕ) (spaced : Bool) → Some byte ≡ slice_get line 0 → (byte ≡ ascii.open_bracket → ⊥) → spaced ≡ is_space byte
-    → OnFalse spaced ((state : State) → judged state (json_of line) ≡ ReplyNow bad_line_text)
+    → OnFalse spaced ((state : State) → value_outcome state (json_of line) ≡ ReplyNow bad_line_text)
 bad_where_no_array byte line true first no_bracket is = tt
 bad_where_no_array byte [] false first no_bracket is = absurd (cc)
 bad_where_no_array byte (b ∷ rest) false first no_bracket is = λ state.
     let same : byte ≡ b = ap (λ o. unwrap_or o byte) first in
-    ap (λ b. judged state (json_of (b ∷ rest))) (sym same)
+    ap (λ b. value_outcome state (json_of (b ∷ rest))) (sym same)
     ∙ no_array_is_bad byte rest (unlike byte ascii.open_bracket no_bracket) (sym is) state

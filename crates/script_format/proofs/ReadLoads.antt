@@ -9,7 +9,8 @@ use Rattle.serde_json.specs.Read.{of_json, of_members}
 use Rattle.filing_model.specs.Common.Text.{Text, text_eq}
 use Rattle.oim_report.proofs.InRange.{at_of, place_in, text_at_of, the_value}
 use Rattle.script_format.specs.Loads.{is_report, load_parts}
-use Rattle.script_format.specs.ScriptLines.{◌>>=◌, Load, ends_at, line_of, line_of_word, load_of, report_part_at, text_at}
+use Rattle.script_format.specs.declared.verb.Verb.TheVariants as verb
+use Rattle.script_format.specs.ScriptLines.{◌>>=◌, Load, ends_at, line_of, line_of_verb, line_of_word, report_part_at, text_at}
 
 three : (a b c : Bool) → (a && b && c) ≡ true → (a ≡ true) × (b ≡ true) × (c ≡ true)
 three true true true h = (refl, refl, refl)
@@ -77,7 +78,7 @@ loads_by : (d : Data) (word name : Text) (r : Data) → text_at 0 d ≡ Some wor
 unfolding line_of
 loads_by d word name r begins loads named third ends =
     ap (λ o. o >>= λ word. line_of_word word d) begins
-    ∙ picked (text_eq word (codes "load")) (load_of d) _ loads
+    ∙ ap (λ o. o >>= λ v. line_of_verb v d) (picked (text_eq word (codes "load")) (Some verb.Load) _ loads)
     ∙ ap (λ o. o >>= λ name. report_part_at 2 d >>= λ report. ends_at 3 d >>= λ ended. Some (Load name report)) named
     ∙ ap (λ o. o >>= λ report. ends_at 3 d >>= λ ended. Some (Load name report)) third
     ∙ ap (λ o. cond (is_some o) None (Some tt) >>= λ ended. Some (Load name r)) ends
@@ -86,7 +87,8 @@ loads_by d word name r begins loads named third ends =
 pub load_is : (j : read.Json) (d : Data) (name : Text) (report : read.Json) → of_json j ≡ Some d → load_parts j ≡ Some (name, report)
     → (is_some (of_json report) ≡ true) × (line_of d ≡ Some (Load name (unwrap_or (of_json report) null)))
 load_is j d name report is h =
-    let parts = parts_by (option_and_then found.as_str (found.at 0 j)) (option_and_then found.as_str (found.at 1 j)) (found.at 2 j) (found.at 3 j) name report h in
+    let parts = parts_by (option_and_then found.as_str (found.at 0 j)) (option_and_then found.as_str (found.at 1 j))
+    (found.at 2 j) (found.at 3 j) name report h in
     let inside = place_in 2 j report (ap is_some is) parts.third in
     let r = unwrap_or (of_json report) null in
     let third : at 2 d ≡ Some r = at_of 2 j d is ∙ ap (option_and_then of_json) parts.third ∙ the_value (of_json report) inside in (

@@ -6,11 +6,12 @@ use Rattle.serde_json.specs.Find.{at, as_str, as_object}
 use Rattle.std.specs.Option.{option_map_or}
 use Rattle.filing_model.specs.Common.Text.{Text}
 use Rattle.script_format.specs.ReplyText.{bad_line_text}
-use Rattle.script_format.specs.Script.{State, ReplyNow, report_in, judged_load, judged_line, answered, value_answer}
+use Rattle.script_format.specs.Script.{State, ReplyNow, report_in, load_outcome, line_outcome, answered, value_answer}
 use Rattle.script_format.specs.ScriptLines.{◌>>=◌, Asking, Line, Load, Open, Ask, Commit, Close, Export}
 use Rattle.script_format.proofs.LinesByWord.{HoldsOfOthers, of_word, then}
 use Rattle.script_format.specs.ScriptLines.{text_at, ends_at, load_of}
-use Rattle.script_format.specs.ScriptLines.{asking_at, asking_of_word, line_of}
+use Rattle.script_format.specs.ScriptLines.{asking_line, asking_of_verb, line_of}
+use Rattle.script_format.specs.declared.verb.Verb.{Verb}
 
 -- a load has its report as the third part of the value
 abbrev pub HasReport : Data → Option Line → Type 0
@@ -39,8 +40,8 @@ of_load d =
           ]
     ] refl)
 
-of_asking_word : (d : Data) (word : Text) → HasReport d (asking_of_word word d)
-of_asking_word d word = then (HasReport d) (others d) (text_at 1 d) _ (λ session. thus d session (asking_at word 2 d))
+of_asking : (d : Data) (v : Verb) → HasReport d (asking_line v d)
+of_asking d v = then (HasReport d) (others d) (text_at 1 d) _ (λ session. thus d session (asking_of_verb v 2 d))
   where
     thus : (d : Data) (session : Text) (o : Option Asking) → HasReport d (o >>= λ asking. Some (Ask session asking))
     thus d session None = tt
@@ -50,12 +51,12 @@ pub loaded_part : (d : Data) (name : Text) (r : Data) → Some (Load name r) ≡
 unfolding line_of
 loaded_part d name r is =
     subst (HasReport d) (sym is) (then (HasReport d) (others d) (text_at 0 d) _
-    (λ word. of_word (HasReport d) (others d) d word (of_load d) (of_asking_word d word)))
+    (λ word. of_word (HasReport d) (others d) d word (of_load d) (λ v named. of_asking d v)))
 
 load_told : (state after : State) (d r report : Data) (key name text : Text) → Some (Load key r) ≡ line_of d → name ≡ key → Some report ≡ at 2 d
-    → answered state (judged_load state name (report_in state.table report)) ≡ (text, after) → value_answer state (Some d) ≡ (text, after)
+    → answered state (load_outcome state name (report_in state.table report)) ≡ (text, after) → value_answer state (Some d) ≡ (text, after)
 load_told state after d r report key name text is named part told =
     let same : r ≡ report = ap (λ o. unwrap_or o r) (sym (part ∙ loaded_part d key r is)) in
-    ap (λ o. answered state (option_map_or (judged_line state) o (ReplyNow bad_line_text))) (sym is)
-    ∙ (λ i. answered state (judged_load state (sym named i) (report_in state.table (same i))))
+    ap (λ o. answered state (option_map_or (line_outcome state) o (ReplyNow bad_line_text))) (sym is)
+    ∙ (λ i. answered state (load_outcome state (sym named i) (report_in state.table (same i))))
     ∙ told

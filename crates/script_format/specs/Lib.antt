@@ -1,4 +1,5 @@
 -- ---- lines, and their parts
+pub mod Verbs
 pub mod ScriptLines
 pub mod LineView
 -- ---- replies

@@ -1,11 +1,12 @@
 -- What stands at a place of an array, in the value that was read.
-use Rattle.std.specs.Prelude.{ℕ, ⊤, Option, None, Some, true, false, is_some, if◌then◌else◌, option_and_then}
+use Rattle.std.specs.Prelude.{ℕ, Bool, ⊤, Option, None, Some, true, false, is_some, if◌then◌else◌, option_and_then}
 use Rattle.json.specs.Json.{Json, null, boolean, number, string, array, object}
 use Rattle.json.specs.Find.{at, as_number, as_str}
 use Rattle.serde_json.specs.Find.{as_u64}
 use Rattle.serde_json.specs.Read.{number_of}
 use Rattle.filing_model.specs.Common.Text.{Text}
 use Rattle.filing_model.specs.Sessions.Calls.{Limit, PeriodFilter, Any, Without, Exactly, limit_of}
+use Rattle.script_format.specs.Loads.{is_report}
 use Rattle.script_format.specs.ScriptLines.{◌>>=◌}
 
 abbrev pub text_at : ℕ → Json → Option Text
@@ -13,6 +14,24 @@ text_at place j = option_and_then as_str (at place j)
 
 abbrev pub ends_at : ℕ → Json → Option ⊤
 ends_at place j = if is_some (at place j) then None else Some tt
+
+abbrev pub is_object : Json → Bool
+is_object null = false
+is_object (boolean b) = false
+is_object (number s) = false
+is_object (string s) = false
+is_object (array js) = false
+is_object (object ms) = true
+
+abbrev pub object_at : ℕ → Json → Option Json
+object_at place j = do
+  part ← at place j
+  if is_object part then Some part else None
+
+abbrev pub report_part_at : ℕ → Json → Option Json
+report_part_at place j = do
+  part ← at place j
+  if is_report part then Some part else None
 
 abbrev pub as_nullable : Json → Option (Option Text)
 as_nullable null = Some None

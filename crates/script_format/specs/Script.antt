@@ -1,4 +1,5 @@
--- The output of a script by a numeric table: a reply to each line that is not blank, with the history so far and the names in use carried from line to line. All of it is the project's own.
+-- The output of a script by a numeric table: a reply to each line that is not blank. The project's own.
+-- The history so far and the names in use are carried from line to line.
 use Rattle.std.specs.Prelude.{ℕ, ◌+◌, if◌then◌else◌, [], Option, Some, None, is_some, option_and_then, Result, Ok, Err}
 use Rattle.std.specs.Option.{option_map_or}
 use Rattle.std.specs.Result.{result_map_both}
@@ -35,30 +36,30 @@ pub record State : Type 0 where
 abbrev pub start : Table → State
 start table = record { table = table; history = []; names = empty }
 
--- ---- the ruling on a line
+-- ---- the outcome of a line
 
 -- a reply at once, or a step under a session's number, with the names that are in use once it is taken
-pub data Ruling : Type 0 where
-  ReplyNow : Text → Ruling
-  StepDue : Option ℕ → Step → TextMap ℕ → Ruling
+pub data Outcome : Type 0 where
+  ReplyNow : Text → Outcome
+  StepDue : Option ℕ → Step → TextMap ℕ → Outcome
 
-abbrev pub judged_load : State → Text → Result Report ReportFault → Ruling
-judged_load state name (Err fault) = ReplyNow (bad_report_text fault)
-judged_load state name (Ok r) = StepDue None (step.Load name r) state.names
+abbrev pub load_outcome : State → Text → Result Report ReportFault → Outcome
+load_outcome state name (Err fault) = ReplyNow (bad_report_text fault)
+load_outcome state name (Ok r) = StepDue None (step.Load name r) state.names
 
 -- the name will be that of the next session
-abbrev pub judged_open : State → Text → Kind → Ruling
-judged_open state session kind =
+abbrev pub open_outcome : State → Text → Kind → Outcome
+open_outcome state session kind =
     if is_some (get state.names session) then ReplyNow name_in_use_text
     else StepDue None (step.Open kind) (insert state.names session (openings state.history + 1))
 
 -- a step of the session that has the name, which keeps it
-abbrev pub judged_step : State → Text → Step → Ruling
-judged_step state session s = option_map_or (λ number. StepDue (Some number) s state.names)
+abbrev pub step_outcome : State → Text → Step → Outcome
+step_outcome state session s = option_map_or (λ number. StepDue (Some number) s state.names)
     (get state.names session) (ReplyNow no_session_text)
 
-abbrev pub judged_call : State → Text → Call → Ruling
-judged_call state session c = judged_step state session (step.Ask c)
+abbrev pub call_outcome : State → Text → Call → Outcome
+call_outcome state session c = step_outcome state session (step.Ask c)
 
 -- how dimensions are refused in reading. A line whose dimensions are not texts and nulls is none of the kinds
 abbrev pub bad_dims_text : Trouble → Text
@@ -75,13 +76,13 @@ call_read (Remove name id) = Ok (call.Remove name id)
 call_read (Declared name) = Ok (call.Declared name)
 call_read (Declare name allowed) = Ok (call.Declare name allowed)
 
-abbrev pub judged_asking : State → Text → Result Call Text → Ruling
-judged_asking state session (Err text) = ReplyNow text
-judged_asking state session (Ok c) = judged_call state session c
+abbrev pub asking_outcome : State → Text → Result Call Text → Outcome
+asking_outcome state session (Err text) = ReplyNow text
+asking_outcome state session (Ok c) = call_outcome state session c
 
 -- a step that ends the session and frees its name
-abbrev pub judged_end : State → Text → Step → Ruling
-judged_end state session end = option_map_or
+abbrev pub end_outcome : State → Text → Step → Outcome
+end_outcome state session end = option_map_or
     (λ number. StepDue (Some number) end (remove state.names session))
     (get state.names session) (ReplyNow no_session_text)
 
@@ -91,21 +92,21 @@ report_in table (string text) = read_report_of table text
 report_in table d = report_of table d
 
 -- the report as the current version has it. That is no step
-abbrev pub judged_export : State → Text → Ruling
-judged_export state name =
+abbrev pub export_outcome : State → Text → Outcome
+export_outcome state name =
     ReplyNow (option_map_or exported_text (report_at (repository state.history) name) (reply_text NoReport))
 
-abbrev pub judged_line : State → Line → Ruling
-judged_line state (Load name r) = judged_load state name (report_in state.table r)
-judged_line state (Open session kind) = judged_open state session kind
-judged_line state (Ask session asking) = judged_asking state session (call_read asking)
-judged_line state (Commit session) = judged_end state session step.Commit
-judged_line state (Close session) = judged_end state session step.Close
-judged_line state (Export name) = judged_export state name
+abbrev pub line_outcome : State → Line → Outcome
+line_outcome state (Load name r) = load_outcome state name (report_in state.table r)
+line_outcome state (Open session kind) = open_outcome state session kind
+line_outcome state (Ask session asking) = asking_outcome state session (call_read asking)
+line_outcome state (Commit session) = end_outcome state session step.Commit
+line_outcome state (Close session) = end_outcome state session step.Close
+line_outcome state (Export name) = export_outcome state name
 
 -- of the value that the line is, where it is JSON
-abbrev pub judged : State → Option Data → Ruling
-judged state value = option_map_or (judged_line state) (option_and_then line_of value) (ReplyNow bad_line_text)
+abbrev pub value_outcome : State → Option Data → Outcome
+value_outcome state value = option_map_or (line_outcome state) (option_and_then line_of value) (ReplyNow bad_line_text)
 
 -- ---- replies
 
@@ -114,7 +115,7 @@ abbrev pub step_text : History → Option ℕ → Step → Text
 step_text h session s = option_map_or reply_text (next_reply h session s) no_session_text
 
 -- a reply, and what is carried on
-abbrev pub answered : State → Ruling → Text × State
+abbrev pub answered : State → Outcome → Text × State
 answered state (ReplyNow text) = (text, state)
 answered state (StepDue session s names) = (
   step_text state.history session s,
@@ -123,7 +124,7 @@ answered state (StepDue session s names) = (
 
 -- of a line that is this JSON value, or none
 abbrev pub value_answer : State → Option Data → Text × State
-value_answer state value = answered state (judged state value)
+value_answer state value = answered state (value_outcome state value)
 
 unfoldable pub line_answer : State → Text → Text × State
 line_answer state line = value_answer state (json_of line)

@@ -10,6 +10,9 @@ use Rattle.filing_model.specs.Sessions.Calls.{PeriodFilter, Any, Without, Exactl
 use Rattle.filing_model.specs.declared.duplicates.Allowed.{Allowed}
 use Rattle.filing_model.specs.declared.kind.Kind.{Kind}
 use Rattle.filing_model.specs.declared.kind.Kind.TheVariants.{Review, Amend}
+use Rattle.script_format.specs.Verbs.{verb_of_word}
+use Rattle.script_format.specs.declared.verb.Verb.{Verb}
+use Rattle.script_format.specs.declared.verb.Verb.TheVariants as verb
 
 -- what a line asks of a session, with its parts. The dimensions of a cell and the fact of an addition are not read yet
 pub data Asking : Type 0 where
@@ -154,17 +157,25 @@ declare_at place d = do
   ended ← ends_at (place + 2) d
   Some (Declare report allowed)
 
--- by the word, with the parts from a place on
+-- by the verb, with the parts from a place on. The others ask nothing
+abbrev pub asking_of_verb : Verb → ℕ → Data → Option Asking
+asking_of_verb verb.Get place d = get_at place d
+asking_of_verb verb.Cell place d = cell_at place d
+asking_of_verb verb.Page place d = page_at place d
+asking_of_verb verb.Add place d = add_at place d
+asking_of_verb verb.Remove place d = remove_at place d
+asking_of_verb verb.Declared place d = declared_at place d
+asking_of_verb verb.Declare place d = declare_at place d
+asking_of_verb verb.Load place d = None
+asking_of_verb verb.Open place d = None
+asking_of_verb verb.Commit place d = None
+asking_of_verb verb.Close place d = None
+asking_of_verb verb.Export place d = None
+
 abbrev pub asking_at : Text → ℕ → Data → Option Asking
-asking_at word place d =
-    if text_eq word (codes "get") then get_at place d
-    else if text_eq word (codes "cell") then cell_at place d
-    else if text_eq word (codes "page") then page_at place d
-    else if text_eq word (codes "add") then add_at place d
-    else if text_eq word (codes "remove") then remove_at place d
-    else if text_eq word (codes "declared") then declared_at place d
-    else if text_eq word (codes "declare") then declare_at place d
-    else None
+asking_at word place d = do
+  verb ← verb_of_word word
+  asking_of_verb verb place d
 
 -- ---- the end of a session, and what is exported
 
@@ -189,21 +200,30 @@ export_of d = do
 -- ---- by the first text
 
 -- a line that asks something of the session that it names
-abbrev pub asking_of_word : Text → Data → Option Line
-asking_of_word word d = do
+abbrev pub asking_line : Verb → Data → Option Line
+asking_line verb d = do
   session ← text_at 1 d
-  asking ← asking_at word 2 d
+  asking ← asking_of_verb verb 2 d
   Some (Ask session asking)
 
--- any line
+abbrev pub line_of_verb : Verb → Data → Option Line
+line_of_verb verb.Load d = load_of d
+line_of_verb verb.Open d = open_of d
+line_of_verb verb.Commit d = commit_of d
+line_of_verb verb.Close d = close_of d
+line_of_verb verb.Export d = export_of d
+line_of_verb verb.Get d = asking_line verb.Get d
+line_of_verb verb.Cell d = asking_line verb.Cell d
+line_of_verb verb.Page d = asking_line verb.Page d
+line_of_verb verb.Add d = asking_line verb.Add d
+line_of_verb verb.Remove d = asking_line verb.Remove d
+line_of_verb verb.Declared d = asking_line verb.Declared d
+line_of_verb verb.Declare d = asking_line verb.Declare d
+
 abbrev pub line_of_word : Text → Data → Option Line
-line_of_word word d =
-    if text_eq word (codes "load") then load_of d
-    else if text_eq word (codes "open") then open_of d
-    else if text_eq word (codes "commit") then commit_of d
-    else if text_eq word (codes "close") then close_of d
-    else if text_eq word (codes "export") then export_of d
-    else asking_of_word word d
+line_of_word word d = do
+  verb ← verb_of_word word
+  line_of_verb verb d
 
 -- the line that a JSON value is, where it is one of these by its length, its first text and the kinds of its parts
 unfoldable pub line_of : Data → Option Line

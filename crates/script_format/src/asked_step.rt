@@ -1,6 +1,6 @@
 //! The step that a line asks of a session.
 
-ghost use Rattle.std.specs.Prelude.{◌≡◌, ◌+◌, ◌<◌, ◌^◌, Ok, Some, option_map, IfOk, string_bytes};
+ghost use Rattle.std.specs.Prelude.{◌≡◌, ◌+◌, ◌<◌, ◌^◌, Ok, Some, is_some, option_map, IfOk, IfSome, string_bytes};
 ghost use Rattle.serde_json.specs.View.{view};
 ghost use Rattle.oim_fact.specs.Texts.{text_view};
 ghost use Rattle.filing_model.specs.Sessions.Calls as call;
@@ -9,11 +9,12 @@ ghost use Rattle.filing_step.specs.PeriodFilter.{period_filter_of};
 ghost use Rattle.filing_step.specs.Steps.{step_of};
 ghost use Rattle.script_format.specs.ScriptLines as model;
 ghost use Rattle.script_format.specs.ReplyText.{told_fault};
-ghost use Rattle.script_format.specs.LineView.{asking_view, period_view};
+ghost use Rattle.script_format.specs.LineView.{asking_view, is_plain, period_view};
 ghost use Rattle.script_format.specs.Script.{bad_dims_text, call_read};
 ghost use Rattle.script_format.specs.AskedStep.{AreAsked, IsAsked, asking_in};
 
-use crate::line::{Asking, Period, asking_at, taken_at, text_at};
+use crate::json_array::JsonArray;
+use crate::line::{Asking, Period, asking_at, taken_at};
 use crate::texts::{bad_fact_reply, bad_line_reply};
 use filing_model::Trouble;
 use filing_step::{Limit, PeriodFilter, Step};
@@ -101,35 +102,53 @@ fn add_asked(
     }
 }
 
-/// The step that a line asks of a session, or the reply that refuses its parts in reading.
-pub fn step_asked(alloc: Global, asking: &Asking<'_>) -> Result<Result<Step, String>, AllocError>
-    ensures { IfOk result (λ asked. IsAsked asked (call_read (asking_view asking.now))) }
+/// The step that a line asks of a session; none where a part of it is an object, which is not read yet.
+pub(crate) fn plain_step<V: JsonArray>(
+    alloc: Global,
+    asking: &Asking<'_, V::Part>,
+) -> Result<Option<Step>, AllocError>
+    ensures step { IfOk result
+        (λ o. IfSome o (λ s. IsAsked (Ok s) (call_read (asking_view V.part_seen asking.now)))) }
+    ensures none { IfOk result (λ o. is_some o ≡ is_plain asking.now) }
 {
     match asking {
-        Asking::Get { report, id } => Ok(Ok(Step::Get {
+        Asking::Get { report, id } => Ok(Some(Step::Get {
             report: String::from_str(alloc, report)?,
             id: String::from_str(alloc, id)?,
         })),
-        Asking::Cell { report, dims } => cell_asked(alloc, report, dims),
         Asking::Page {
             report,
             concept,
             period,
             after,
             limit,
-        } => Ok(Ok(page_step(alloc, report, concept, period, *after, *limit)?)),
-        Asking::Add { report, id, fact } => add_asked(alloc, report, id, fact),
-        Asking::Remove { report, id } => Ok(Ok(Step::Remove {
+        } => Ok(Some(page_step(alloc, report, concept, period, *after, *limit)?)),
+        Asking::Remove { report, id } => Ok(Some(Step::Remove {
             report: String::from_str(alloc, report)?,
             id: String::from_str(alloc, id)?,
         })),
-        Asking::Declared { report } => Ok(Ok(Step::Declared {
+        Asking::Declared { report } => Ok(Some(Step::Declared {
             report: String::from_str(alloc, report)?,
         })),
-        Asking::Declare { report, allowed } => Ok(Ok(Step::Declare {
+        Asking::Declare { report, allowed } => Ok(Some(Step::Declare {
             report: String::from_str(alloc, report)?,
             allowed: *allowed,
         })),
+        Asking::Cell { .. } | Asking::Add { .. } => Ok(None),
+    }
+}
+
+/// The step that a line asks of a session, or the reply that refuses its parts in reading.
+pub fn step_asked(alloc: Global, asking: &Asking<'_>) -> Result<Result<Step, String>, AllocError>
+    ensures { IfOk result (λ asked. IsAsked asked (call_read (asking_view view asking.now))) }
+{
+    match asking {
+        Asking::Cell { report, dims } => cell_asked(alloc, report, dims),
+        Asking::Add { report, id, fact } => add_asked(alloc, report, id, fact),
+        plain => match plain_step::<Value>(alloc, plain)? {
+            Some(step) => Ok(Ok(step)),
+            None => unreachable!(),
+        },
     }
 }
 
@@ -177,7 +196,7 @@ fn step_in(
     requires { place + 6 < 2 ^ 64 }
     ensures { IfOk result (λ asked. AreAsked asked (asking_in place (view value.old))) }
 {
-    let Some(word) = text_at(value, 0) else {
+    let Some(word) = value.text_at(0) else {
         return Ok(None);
     };
     let Some(asking) = asking_at(word, value, place) else {

@@ -12,14 +12,15 @@ ghost use Rattle.script_format.specs.LineView.{asking_view, line_view};
 ghost use Rattle.script_format.specs.AskedStep.{asking_in};
 ghost use Rattle.script_format.specs.ScriptLines.{Asking as Asked};
 ghost use Rattle.script_format.specs.ReplyText.{bad_line_text};
-ghost use Rattle.script_format.specs.Script.{ReplyNow, State, call_read, judged, judged_asking, judged_export, judged_line, judged_load, report_in};
-ghost use Rattle.script_format.specs.LineOutcomes.{ComesTo, ComesToBy, IsLineOutcome, judged_under};
+ghost use Rattle.script_format.specs.Script.{ReplyNow, State, call_read, value_outcome, asking_outcome, export_outcome, line_outcome, load_outcome, report_in};
+ghost use Rattle.script_format.specs.LineOutcomes.{ComesTo, ComesToBy, IsLineOutcome, outcome_under};
 
-use crate::asked_step::{step_asked, step_from};
+use crate::asked_step::{plain_step, step_from};
+use crate::json_array::JsonArray;
 use crate::line::{Asking, Line, line_of, taken_at};
 use crate::line_value::json_value_in;
 use crate::load::{Loaded, load_of_line, report_in};
-use crate::read_line::{begins_read, read_line};
+use crate::text_array::TextArray;
 use crate::texts::{bad_line_reply, bad_report_reply};
 use filing_step::Step;
 use json::Scratch;
@@ -48,13 +49,13 @@ impl LineOutcome {
     }
 
     fn export(alloc: Global, report: &str) -> Result<LineOutcome, AllocError>
-        ensures { IfOk result (ComesTo (λ state. judged_export state report.now)) }
+        ensures { IfOk result (ComesTo (λ state. export_outcome state report.now)) }
     {
         Ok(LineOutcome::Export(String::from_str(alloc, report)?))
     }
 
     fn step_due(alloc: Global, session: &str, step: Step) -> Result<LineOutcome, AllocError>
-        ensures { IfOk result (ComesTo (λ state. judged_under state session.now (step_of step))) }
+        ensures { IfOk result (ComesTo (λ state. outcome_under state session.now (step_of step))) }
     {
         let name = String::from_str(alloc, session)?;
         Ok(LineOutcome::StepDue { name, step })
@@ -63,21 +64,21 @@ impl LineOutcome {
 
 /// The step of a load of a report that was read.
 fn load_due(alloc: Global, name: String, report: Report) -> Result<LineOutcome, AllocError>
-    ensures { IfOk result (ComesTo (λ state. judged_load state (string_bytes name) (Ok report))) }
+    ensures { IfOk result (ComesTo (λ state. load_outcome state (string_bytes name) (Ok report))) }
 {
     let report = Arc::new(alloc, report)?;
     LineOutcome::step_due(alloc, "", Step::Load(name, report))
 }
 
 /// Classifies a load: its report is read.
-fn load_judged(
+fn load_outcome(
     alloc: Global,
     name: String,
     report: Value,
     table: &Arc<NumericTable>,
 ) -> Result<LineOutcome, AllocError>
     ensures { IfOk result (ComesToBy (arc_value table.now)
-        (λ state. judged_load state (string_bytes name) (report_in (arc_value table.now) (view report)))) }
+        (λ state. load_outcome state (string_bytes name) (report_in (arc_value table.now) (view report)))) }
 {
     match report_in(alloc, report, table) {
         Ok(report) => load_due(alloc, name, report),
@@ -86,10 +87,10 @@ fn load_judged(
 }
 
 /// Classifies what a value asks of a session: its fact or its dimensions move out of it, and are read.
-fn asking_judged(alloc: Global, session: String, value: Value) -> Result<LineOutcome, AllocError>
+fn asking_outcome(alloc: Global, session: String, value: Value) -> Result<LineOutcome, AllocError>
     requires { IsSome (asking_in 2 (view value)) }
     ensures { (asking : Asked) → asking_in 2 (view value) ≡ Some asking
-        → IfOk result (ComesTo (λ state. judged_asking state (string_bytes session) (call_read asking))) }
+        → IfOk result (ComesTo (λ state. asking_outcome state (string_bytes session) (call_read asking))) }
 {
     match step_from(alloc, value, 2)? {
         Some(Ok(step)) => Ok(LineOutcome::StepDue {
@@ -103,12 +104,12 @@ fn asking_judged(alloc: Global, session: String, value: Value) -> Result<LineOut
 
 /// Classifies a line that is JSON. The report of a load, a fact and dimensions move out of it.
 #[tactic(auto, using(crate::proofs::ReportOfLoad::loaded_part))]
-fn value_judged(
+fn value_outcome(
     alloc: Global,
     value: Value,
     table: &Arc<NumericTable>,
 ) -> Result<LineOutcome, AllocError>
-    ensures { IfOk result (ComesToBy (arc_value table.now) (λ state. judged state (Some (view value)))) }
+    ensures { IfOk result (ComesToBy (arc_value table.now) (λ state. value_outcome state (Some (view value)))) }
 {
     let mut value = value;
     let Some(line) = line_of(&value) else {
@@ -117,12 +118,12 @@ fn value_judged(
     match line {
         Line::Load { name, .. } => {
             let name = String::from_str(alloc, name)?;
-            load_judged(alloc, name, taken_at(&mut value, 2), table)
+            load_outcome(alloc, name, taken_at(&mut value, 2), table)
         }
         Line::Open { session, kind } => LineOutcome::step_due(alloc, session, Step::Open(kind)),
         Line::Ask { session, .. } => {
             let session = String::from_str(alloc, session)?;
-            asking_judged(alloc, session, value)
+            asking_outcome(alloc, session, value)
         }
         Line::Commit { session } => LineOutcome::step_due(alloc, session, Step::Commit),
         Line::Close { session } => LineOutcome::step_due(alloc, session, Step::Close),
@@ -130,27 +131,29 @@ fn value_judged(
     }
 }
 
-/// The outcome of a line that asks something of a session.
-fn asking_due(
+/// The outcome of a line that asks something of a session; none where a part of it is an object.
+fn asking_due<V: JsonArray>(
     alloc: Global,
-    session: String,
-    asking: &Asking<'_>,
-) -> Result<LineOutcome, AllocError>
-    ensures { IfOk result (ComesTo (λ state.
-        judged_asking state (string_bytes session) (call_read (asking_view asking.now)))) }
+    session: &str,
+    asking: &Asking<'_, V::Part>,
+) -> Result<Option<LineOutcome>, AllocError>
+    ensures { IfOk result (λ o. IfSome o (ComesTo (λ state.
+        asking_outcome state session.now (call_read (asking_view V.part_seen asking.now))))) }
 {
-    match step_asked(alloc, asking)? {
-        Ok(step) => Ok(LineOutcome::StepDue {
-            name: session,
-            step,
-        }),
-        Err(text) => Ok(LineOutcome::ReplyNow(text)),
-    }
+    let Some(step) = plain_step::<V>(alloc, asking)? else {
+        return Ok(None);
+    };
+    let outcome = LineOutcome::step_due(alloc, session, step)?;
+    Ok(Some(outcome))
 }
 
-/// The outcome of a line of which nothing is left to read. None of a load and of an export.
-fn line_due(alloc: Global, line: &Line<'_>) -> Result<Option<LineOutcome>, AllocError>
-    ensures { IfOk result (λ o. IfSome o (ComesTo (λ state. judged_line state (line_view line.now)))) }
+/// The outcome of a line of which nothing is left to read. None of a load and of an export, and where a part is an object.
+fn line_due<V: JsonArray>(
+    alloc: Global,
+    line: &Line<'_, V::Part>,
+) -> Result<Option<LineOutcome>, AllocError>
+    ensures { IfOk result (λ o. IfSome o
+        (ComesTo (λ state. line_outcome state (line_view V.part_seen line.now)))) }
 {
     match line {
         Line::Open { session, kind } => Ok(Some(LineOutcome::step_due(
@@ -158,10 +161,7 @@ fn line_due(alloc: Global, line: &Line<'_>) -> Result<Option<LineOutcome>, Alloc
             session,
             Step::Open(*kind),
         )?)),
-        Line::Ask { session, asking } => {
-            let session = String::from_str(alloc, session)?;
-            Ok(Some(asking_due(alloc, session, asking)?))
-        }
+        Line::Ask { session, asking } => asking_due::<V>(alloc, session, asking),
         Line::Commit { session } => Ok(Some(LineOutcome::step_due(alloc, session, Step::Commit)?)),
         Line::Close { session } => Ok(Some(LineOutcome::step_due(alloc, session, Step::Close)?)),
         Line::Load { .. } | Line::Export { .. } => Ok(None),
@@ -169,29 +169,40 @@ fn line_due(alloc: Global, line: &Line<'_>) -> Result<Option<LineOutcome>, Alloc
 }
 
 /// The outcome of a value without objects, where it is a line.
-fn read_due(alloc: Global, value: &json::Value<'_>) -> Result<Option<LineOutcome>, AllocError>
-    requires { IsInRange value.now }
-    ensures { IfOk result (λ o. IfSome o (ComesTo (λ state. judged state (Some (data_of value.now))))) }
+fn read_due(alloc: Global, value: json::Value<'_>) -> Result<Option<LineOutcome>, AllocError>
+    requires { IsInRange value }
+    ensures { IfOk result (λ o. IfSome o (ComesTo (λ state. value_outcome state (Some (data_of value.entry))))) }
 {
-    match read_line(value) {
-        Some(line) => line_due(alloc, &line),
+    let array = TextArray::of(value);
+    match line_of(&array) {
+        Some(line) => line_due::<TextArray<'_>>(alloc, &line),
         None => Ok(None),
     }
 }
 
+/// Whether a line begins as those mostly do in which no part is an object.
+fn begins_read(line: &[u8]) -> bool {
+    line.starts_with(b"[\"get\"")
+        || line.starts_with(b"[\"page\"")
+        || line.starts_with(b"[\"remove\"")
+        || line.starts_with(b"[\"open\"")
+        || line.starts_with(b"[\"commit\"")
+        || line.starts_with(b"[\"close\"")
+}
+
 /// Classifies a line that begins as lines without objects mostly do, also where it is no JSON. None of any other.
-fn read_judged(
+fn plain_outcome(
     alloc: Global,
     line: &[u8],
     room: &mut Scratch,
 ) -> Result<Option<LineOutcome>, AllocError>
-    ensures { IfOk result (λ o. IfSome o (ComesTo (λ state. judged state (json_of line.now)))) }
+    ensures { IfOk result (λ o. IfSome o (ComesTo (λ state. value_outcome state (json_of line.now)))) }
 {
     if !begins_read(line) {
         return Ok(None);
     }
     match text_value(alloc, line, room)? {
-        Some(value) => read_due(alloc, &value),
+        Some(value) => read_due(alloc, value),
         None => Ok(Some(LineOutcome::reply_now(alloc, bad_line_reply())?)),
     }
 }
@@ -205,7 +216,7 @@ fn is_space(byte: u8) -> bool
 
 /// Whether a line may be an array. One that begins with neither a bracket nor white space is none, whatever follows.
 fn may_be_array(line: &[u8]) -> bool
-    ensures { OnFalse result ((state : State) → judged state (json_of line.now) ≡ ReplyNow bad_line_text) }
+    ensures { OnFalse result ((state : State) → value_outcome state (json_of line.now) ≡ ReplyNow bad_line_text) }
 {
     match line.first() {
         Some(byte) => *byte == b'[' || is_space(*byte),
@@ -232,11 +243,11 @@ pub fn classify_line_in(
             Err(fault) => Ok(LineOutcome::ReplyNow(bad_report_reply(alloc, &fault)?)),
         };
     }
-    if let Some(outcome) = read_judged(alloc, line, room)? {
+    if let Some(outcome) = plain_outcome(alloc, line, room)? {
         return Ok(outcome);
     }
     match json_value_in(alloc, line, room)? {
-        Some(value) => value_judged(alloc, value, table),
+        Some(value) => value_outcome(alloc, value, table),
         None => LineOutcome::reply_now(alloc, bad_line_reply()),
     }
 }

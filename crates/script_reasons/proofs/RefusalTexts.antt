@@ -4,8 +4,9 @@ use Rattle.filing_model.specs.Common.Text.{Text}
 use Rattle.filing_model.specs.Reading.ReadReport as report
 use Rattle.filing_model.specs.Reading.ReadReport.{ReportFault}
 use Rattle.filing_model.specs.Sessions.Replies as reply
-use Rattle.script_format.specs.ReplyText.{bad_report_text}
-use Rattle.script_reasons.specs.Refusals.{refusal_in}
+use Rattle.filing_model.specs.Sessions.Replies.{Reply}
+use Rattle.script_format.specs.ReplyText.{bad_report_text, reply_text}
+use Rattle.script_reasons.specs.Refusals.{is_mistaken, refusal_in, tells_mistake}
 use Rattle.script_reasons.specs.RefusalLaws.{WordsTellReplies, WordsTellRefusals}
 use Rattle.script_reasons.specs.declared.refusal.Refusal.TheVariants as refused
 
@@ -45,3 +46,23 @@ words_tell_refusals line = record {
   name = refl;
   session = refl;
 }
+
+-- whether a reply tells a mistake, as its text does
+pub mistake_told : (r : Reply) → is_mistaken r ≡ tells_mistake (reply_text r)
+mistake_told reply.NoReport = refl
+mistake_told reply.Absent = refl
+mistake_told (reply.Found fact) = refl
+mistake_told (reply.Cell class ids) = refl
+mistake_told (reply.Page ids more) = refl
+mistake_told reply.ReadOnly = refl
+mistake_told reply.Taken = refl
+mistake_told (reply.BadFact fault) = refl
+mistake_told reply.Staged = refl
+mistake_told (reply.Declared allowed) = refl
+mistake_told (reply.Loaded number) = refl
+mistake_told reply.NameTaken = refl
+mistake_told (reply.Disallowed name class ids) = refl
+mistake_told reply.Opened = refl
+mistake_told reply.Closed = refl
+mistake_told (reply.Committed number) = refl
+mistake_told (reply.Conflict number thing) = refl

@@ -14,7 +14,8 @@ pub record IsStopOf (line : Text) (column : ℕ) : Type 0 where
   pub within : IsColumnOf line column
   pub no_json : json_of line ≡ None
 
--- some reasons of this line under this number: one at least and 100 at most; with a column only where its reading stopped, and of no facts but those that stand in the line
+-- some reasons of this line under this number: one at least and 100 at most.
+-- They have a column only where its reading stopped, and are of no facts but those in the line
 pub record AreReasonsOf (number : ℕ) (line : Text) (r : Reasons) : Type 0 where
   pub same : r.number ≡ number
   pub some : 0 < length r.reasons.items

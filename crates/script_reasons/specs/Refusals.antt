@@ -4,6 +4,8 @@ use Rattle.std.specs.List.{before_first, after_first}
 use Rattle.std.specs.Option.{option_map_or}
 use Rattle.filing_model.specs.Common.Text.{Text, text_eq}
 use Rattle.filing_model.specs.Reading.JsonText.{json_of}
+use Rattle.filing_model.specs.Sessions.Replies as reply
+use Rattle.filing_model.specs.Sessions.Replies.{Reply}
 use Rattle.script_format.specs.ScriptLines.{text_at}
 use Rattle.script_reasons.specs.declared.refusal.Refusal.{Refusal}
 use Rattle.script_reasons.specs.declared.refusal.Refusal.TheVariants as refused
@@ -61,7 +63,8 @@ refusal_in line reply =
     then (if is_removal line then Some refused.NotThere else None)
     else refusal_of_word (word_of reply)
 
--- whether a refusal tells that the line itself is malformed or out of place. The others tell what the repository had: a fact or a report that is there or not, duplicates, a conflict
+-- whether a refusal tells that the line itself is malformed or out of place.
+-- The others tell what the repository had: a fact or a report that is there or not, duplicates, a conflict
 abbrev pub is_mistake : Refusal → Bool
 is_mistake refused.BadLine = true
 is_mistake refused.BadReport = true
@@ -79,3 +82,10 @@ is_mistake refused.NotThere = false
 -- so does a reply, by its word
 abbrev pub tells_mistake : Text → Bool
 tells_mistake reply = option_map_or is_mistake (refusal_of_word (word_of reply)) false
+
+-- a reply to a step that tells that its line is out of place
+abbrev pub is_mistaken : Reply → Bool
+is_mistaken reply.NoReport = true
+is_mistaken reply.ReadOnly = true
+is_mistaken (reply.BadFact fault) = true
+is_mistaken r = false

@@ -41,7 +41,7 @@ fn column_of(line: &[u8], place: usize) -> u64
 }
 
 /// What is reported about a byte that is not UTF-8.
-fn no_utf8(alloc: Global, line: &[u8], place: usize) -> Result<String, AllocError> {
+fn reason_of_no_utf8(alloc: Global, line: &[u8], place: usize) -> Result<String, AllocError> {
     let Some(byte) = line.get(place).copied() else {
         return String::from_str(alloc, "the line is not UTF-8");
     };
@@ -76,7 +76,10 @@ fn text_fault(alloc: Global, line: &[u8], text: &str) -> Result<(Option<u64>, St
 }
 
 /// What is wrong with a line that is none of a script, with the column at which its reading stopped.
-pub(crate) fn bad_line(alloc: Global, line: &[u8]) -> Result<(Option<u64>, String), AllocError>
+pub(crate) fn explain_bad_line(
+    alloc: Global,
+    line: &[u8],
+) -> Result<(Option<u64>, String), AllocError>
     ensures { IfOk result (λ r. IfSome r.0 (IsStopOf line.now)) }
 {
     if let Some(said) = other_encoding(line) {
@@ -86,7 +89,10 @@ pub(crate) fn bad_line(alloc: Global, line: &[u8]) -> Result<(Option<u64>, Strin
         Ok(text) => text_fault(alloc, line, text),
         Err(fault) => {
             let place = fault.valid_up_to();
-            Ok((Some(column_of(line, place)), no_utf8(alloc, line, place)?))
+            Ok((
+                Some(column_of(line, place)),
+                reason_of_no_utf8(alloc, line, place)?,
+            ))
         }
     }
 }
@@ -102,7 +108,10 @@ pub fn reading_stop(alloc: Global, line: &[u8]) -> Result<Option<(u64, String)>,
         Ok(text) => Ok(Some(stop_in(alloc, line, text)?)),
         Err(fault) => {
             let place = fault.valid_up_to();
-            Ok(Some((column_of(line, place), no_utf8(alloc, line, place)?)))
+            Ok(Some((
+                column_of(line, place),
+                reason_of_no_utf8(alloc, line, place)?,
+            )))
         }
     }
 }

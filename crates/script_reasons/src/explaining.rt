@@ -3,11 +3,12 @@
 ghost use Rattle.std.specs.Prelude.{◌≡◌, ◌<◌, Bool, vec_len, IfOk, IfSome, OnOk, Some, option_map};
 ghost use Rattle.script_reasons.specs.Explained.{AreReasonsOf, IsStopOf};
 ghost use Rattle.filing_model.specs.Common.Text.{Text};
+ghost use Rattle.serde_json.specs.View.{view};
 ghost use Rattle.script_format.specs.LineView.{line_view};
 ghost use Rattle.script_reasons.specs.ToldFacts.{AreOfFactsIn, KeepsTo, line_has_fact};
 ghost use Rattle.script_reasons.specs.Refusals.{refusal_in, refusal_word, word_of};
 
-use crate::bad_line::bad_line;
+use crate::bad_line::explain_bad_line;
 use crate::gathered::Gathered;
 use crate::reasons::Reasons;
 use crate::refusal::{Refusal, refusal_in};
@@ -46,7 +47,7 @@ fn gather_line(
     table: &Arc<NumericTable>,
     reply: &str,
 ) -> Result<(), AllocError>
-    ensures { OnOk result (KeepsTo (λ id. line_has_fact id (Some (line_view line.now)))
+    ensures { OnOk result (KeepsTo (λ id. line_has_fact id (Some (line_view view line.now)))
         gathered.old.reasons.items gathered.new.reasons.items) }
 {
     match (refusal, line) {
@@ -90,7 +91,7 @@ fn some_of(alloc: Global, refusal: Refusal, gathered: Gathered) -> Result<Gather
 }
 
 /// The reasons of a refused line, with the column at which its reading stopped.
-fn gathered_of(
+fn gather_reasons(
     alloc: Global,
     refusal: Refusal,
     line: &[u8],
@@ -102,7 +103,7 @@ fn gathered_of(
     ensures facts { IfOk result (λ r. AreOfFactsIn line.now r.1.reasons.items) }
 {
     if let Refusal::BadLine = refusal {
-        let (column, said) = bad_line(alloc, line)?;
+        let (column, said) = explain_bad_line(alloc, line)?;
         return Ok((column, Gathered::of(alloc, said)?));
     }
     let gathered = reasons_of(alloc, refusal, line, table, reply)?;
@@ -125,7 +126,7 @@ pub fn explain(
     let Some(refusal) = refusal_in(alloc, line, reply)? else {
         return Ok(None);
     };
-    let (column, gathered) = gathered_of(alloc, refusal, line, table, reply)?;
+    let (column, gathered) = gather_reasons(alloc, refusal, line, table, reply)?;
     let Gathered { reasons, more } = gathered;
     Ok(Some(Reasons {
         number,

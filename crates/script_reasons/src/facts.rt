@@ -42,7 +42,7 @@ fn dim_fault(alloc: Global, name: &str, value: &Value) -> Result<String, AllocEr
 }
 
 /// Tells each dimension whose value is neither a text nor null.
-fn dims_shapes(
+fn tell_dims_shapes(
     alloc: Global,
     told: &mut Told,
     members: &Map<String, Value>,
@@ -56,9 +56,9 @@ fn dims_shapes(
 }
 
 /// Tells what is wrong with the shape of dimensions that may be missing.
-fn dims_shape(alloc: Global, told: &mut Told, dims: Option<&Value>) -> Result<(), AllocError> {
+fn tell_dims_shape(alloc: Global, told: &mut Told, dims: Option<&Value>) -> Result<(), AllocError> {
     match dims {
-        Some(Value::Object(members)) => dims_shapes(alloc, told, members),
+        Some(Value::Object(members)) => tell_dims_shapes(alloc, told, members),
         Some(value) => {
             let kind = kind_of(value);
             let said = format!(in alloc; "\"dimensions\" is {kind}, not an object")?;
@@ -69,7 +69,11 @@ fn dims_shape(alloc: Global, told: &mut Told, dims: Option<&Value>) -> Result<()
 }
 
 /// Tells what is wrong with the shape of a fact's value.
-fn value_shape(alloc: Global, told: &mut Told, value: Option<&Value>) -> Result<(), AllocError> {
+fn tell_value_shape(
+    alloc: Global,
+    told: &mut Told,
+    value: Option<&Value>,
+) -> Result<(), AllocError> {
     match value {
         Some(Value::Null | Value::String(_)) => Ok(()),
         Some(Value::Number(number)) => {
@@ -88,7 +92,7 @@ fn value_shape(alloc: Global, told: &mut Told, value: Option<&Value>) -> Result<
 }
 
 /// Tells what is wrong with the decimals of a fact as they are read.
-fn decimals_shape(
+fn tell_decimals_shape(
     alloc: Global,
     told: &mut Told,
     decimals: Option<&Value>,
@@ -112,7 +116,7 @@ fn decimals_shape(
 
 /// Tells each number that is not whole in a value, which stands in the member `place`.
 #[cycle(whole)]
-pub fn not_whole(
+pub fn tell_not_whole(
     alloc: Global,
     told: &mut Told,
     place: &str,
@@ -128,45 +132,49 @@ pub fn not_whole(
             )?;
             told.tell(said)
         }
-        Value::Array(items) => not_whole_items(alloc, told, place, items),
-        Value::Object(members) => not_whole_members(alloc, told, place, members),
+        Value::Array(items) => tell_not_whole_items(alloc, told, place, items),
+        Value::Object(members) => tell_not_whole_members(alloc, told, place, members),
         _ => Ok(()),
     }
 }
 
 /// Tells each number that is not whole in these items, which stand in the member `place`.
 #[cycle(whole)]
-fn not_whole_items(
+fn tell_not_whole_items(
     alloc: Global,
     told: &mut Told,
     place: &str,
     items: &Vec<Value>,
 ) -> Result<(), AllocError> {
     for item in items {
-        not_whole(alloc, told, place, item)?;
+        tell_not_whole(alloc, told, place, item)?;
     }
     Ok(())
 }
 
 /// Tells each number that is not whole in the values of these members, which stand in the member `place`.
 #[cycle(whole)]
-fn not_whole_members(
+fn tell_not_whole_members(
     alloc: Global,
     told: &mut Told,
     place: &str,
     members: &Map<String, Value>,
 ) -> Result<(), AllocError> {
     for (_, value) in members {
-        not_whole(alloc, told, place, value)?;
+        tell_not_whole(alloc, told, place, value)?;
     }
     Ok(())
 }
 
 /// Tells what is wrong with the links of a fact.
-fn links_shape(alloc: Global, told: &mut Told, links: Option<&Value>) -> Result<(), AllocError> {
+fn tell_links_shape(
+    alloc: Global,
+    told: &mut Told,
+    links: Option<&Value>,
+) -> Result<(), AllocError> {
     match links {
         None => Ok(()),
-        Some(Value::Object(members)) => not_whole_members(alloc, told, "links", members),
+        Some(Value::Object(members)) => tell_not_whole_members(alloc, told, "links", members),
         Some(value) => {
             let kind = kind_of(value);
             let said = format!(in alloc; "\"links\" is {kind}, not an object")?;
@@ -176,7 +184,7 @@ fn links_shape(alloc: Global, told: &mut Told, links: Option<&Value>) -> Result<
 }
 
 /// Tells each core dimension that is null.
-fn null_cores(
+fn tell_null_cores(
     alloc: Global,
     told: &mut Told,
     members: &Map<String, Value>,
@@ -199,7 +207,7 @@ fn is_long(name: &str, value: &Value) -> bool {
 }
 
 /// Tells each dimension with a name or a value that is too long.
-fn long_dims(
+fn tell_long_dims(
     alloc: Global,
     told: &mut Told,
     members: &Map<String, Value>,
@@ -217,7 +225,7 @@ fn long_dims(
 }
 
 /// Tells why dimensions of the right shape are no dimension set.
-pub(crate) fn set_faults(
+pub(crate) fn tell_set_faults(
     alloc: Global,
     told: &mut Told,
     dims: Option<&Value>,
@@ -225,25 +233,29 @@ pub(crate) fn set_faults(
     let Some(Value::Object(members)) = dims else {
         return Ok(());
     };
-    null_cores(alloc, told, members)?;
+    tell_null_cores(alloc, told, members)?;
     if members.get("concept").is_none() {
         let said = String::from_str(alloc, "there is no dimension \"concept\"")?;
         told.tell(said)?;
     }
-    long_dims(alloc, told, members)
+    tell_long_dims(alloc, told, members)
 }
 
 /// Tells all that is wrong with a fact as it is read.
-pub(crate) fn fact_faults(alloc: Global, told: &mut Told, fact: &Value) -> Result<(), AllocError> {
+pub(crate) fn tell_fact_faults(
+    alloc: Global,
+    told: &mut Told,
+    fact: &Value,
+) -> Result<(), AllocError> {
     if !fact.is_object() {
         let kind = kind_of(fact);
         let said = format!(in alloc; "it is {kind}, not an object")?;
         return told.tell(said);
     }
     let dims = fact.get("dimensions");
-    dims_shape(alloc, told, dims)?;
-    value_shape(alloc, told, fact.get("value"))?;
-    decimals_shape(alloc, told, fact.get("decimals"))?;
-    links_shape(alloc, told, fact.get("links"))?;
-    set_faults(alloc, told, dims)
+    tell_dims_shape(alloc, told, dims)?;
+    tell_value_shape(alloc, told, fact.get("value"))?;
+    tell_decimals_shape(alloc, told, fact.get("decimals"))?;
+    tell_links_shape(alloc, told, fact.get("links"))?;
+    tell_set_faults(alloc, told, dims)
 }

@@ -20,7 +20,7 @@ fn concept_of(fact: &Value) -> &str {
 }
 
 /// What is reported about a name whose prefix is not bound; none where it is.
-fn unbound(
+fn reason_of_unbound(
     alloc: Global,
     names: &Names,
     what: &str,
@@ -49,14 +49,14 @@ fn tell_unbound(
     what: &str,
     name: &str,
 ) -> Result<(), AllocError> {
-    match unbound(alloc, names, what, name)? {
+    match reason_of_unbound(alloc, names, what, name)? {
         Some(said) => told.tell(said),
         None => Ok(()),
     }
 }
 
 /// Tells each dimension whose prefix is not bound.
-fn unbound_dims(
+fn tell_unbound_dims(
     alloc: Global,
     told: &mut Told,
     names: &Names,
@@ -71,7 +71,7 @@ fn unbound_dims(
 }
 
 /// Tells each name of a fact whose prefix is not bound, the concept first.
-fn unbound_names(
+fn tell_unbound_names(
     alloc: Global,
     told: &mut Told,
     names: &Names,
@@ -79,13 +79,13 @@ fn unbound_names(
 ) -> Result<(), AllocError> {
     tell_unbound(alloc, told, names, "concept", concept_of(fact))?;
     match fact.get("dimensions") {
-        Some(Value::Object(members)) => unbound_dims(alloc, told, names, members),
+        Some(Value::Object(members)) => tell_unbound_dims(alloc, told, names, members),
         _ => Ok(()),
     }
 }
 
 /// What a fact has that only a numeric one may have.
-fn out_of_place(fact: &Value) -> &'static str {
+fn part_out_of_place(fact: &Value) -> &'static str {
     let has_unit = match fact.get("dimensions") {
         Some(dims) => dims.get("unit").is_some(),
         None => false,
@@ -94,13 +94,13 @@ fn out_of_place(fact: &Value) -> &'static str {
 }
 
 /// What is reported about a unit or decimals out of place. The line is what the numeric table lacks.
-fn misplaced(
+fn reason_of_misplaced(
     alloc: Global,
     fact: &Value,
     line: Option<(&str, &str)>,
 ) -> Result<String, AllocError> {
     let concept = Shown(concept_of(fact));
-    let what = out_of_place(fact);
+    let what = part_out_of_place(fact);
     match line {
         Some((uri, local)) => {
             format!(in alloc;
@@ -116,7 +116,7 @@ fn misplaced(
 }
 
 /// The URI and the local name of a fact's concept.
-fn expanded<'a>(names: &'a Names, fact: &'a Value) -> Option<(&'a str, &'a str)> {
+fn expanded_concept<'a>(names: &'a Names, fact: &'a Value) -> Option<(&'a str, &'a str)> {
     let (prefix, local) = concept_of(fact).split_once(':')?;
     Some((names.uri(prefix)?, local))
 }
@@ -169,7 +169,7 @@ fn number_fault(alloc: Global, fault: FactFault, fact: &Value) -> Result<String,
 }
 
 /// Tells why a fact does not fit the names of its report.
-pub(crate) fn fit_faults(
+pub(crate) fn tell_fit_faults(
     alloc: Global,
     told: &mut Told,
     names: &Names,
@@ -177,9 +177,9 @@ pub(crate) fn fit_faults(
     fact: &Value,
 ) -> Result<(), AllocError> {
     match fault {
-        FactFault::UnboundPrefix => unbound_names(alloc, told, names, fact),
+        FactFault::UnboundPrefix => tell_unbound_names(alloc, told, names, fact),
         FactFault::Misplaced => {
-            let said = misplaced(alloc, fact, expanded(names, fact))?;
+            let said = reason_of_misplaced(alloc, fact, expanded_concept(names, fact))?;
             told.tell(said)
         }
         fault => told.tell(number_fault(alloc, fault, fact)?),
@@ -201,7 +201,7 @@ pub(crate) fn fit_fault_in(
                 "the concept {concept} or another dimension has no prefix that the report {report} binds"
             )
         }
-        FactFault::Misplaced => misplaced(alloc, fact, None),
+        FactFault::Misplaced => reason_of_misplaced(alloc, fact, None),
         fault => number_fault(alloc, fault, fact),
     }
 }

@@ -3,11 +3,9 @@
 //! How many parts a line has, and what each is called, stands here.
 
 use crate::facts::dims_fault;
-use crate::nearest::nearest;
+use crate::nearest::nearest_word;
 use crate::shown::{Shown, ShownValue, kind_of};
-use filing_model::is_same_text;
-use filing_step::Limit;
-use script_format::{allowed_at, asked_at, kind_of_word, nullable_at, text_at};
+use script_format::{JsonArray, Verb, allowed_at, kind_of_word};
 use serde_json::Value;
 use std::alloc::{AllocError, Global};
 
@@ -46,7 +44,7 @@ impl Part {
         }
     }
 
-    fn wanted(self) -> &'static str {
+    fn requirement(self) -> &'static str {
         match self {
             Part::Report | Part::Session | Part::Id | Part::Concept => "a text",
             Part::Content => "an object or a text",
@@ -63,94 +61,60 @@ impl Part {
     fn fits(self, line: &Value, place: usize) -> bool {
         match self {
             Part::Report | Part::Session | Part::Id | Part::Concept => {
-                text_at(line, place).is_some()
+                line.text_at(place).is_some()
             }
-            Part::Content => is_content(line, place),
+            Part::Content => line.report_part_at(place).is_some(),
             Part::Purpose => is_purpose(line, place),
-            Part::Dims | Part::Fact => is_object(line, place),
-            Part::Period => asked_at(line, place).is_some(),
-            Part::After => nullable_at(line, place).is_some(),
-            Part::Limit => is_limit(line, place),
+            Part::Dims | Part::Fact => line.object_at(place).is_some(),
+            Part::Period => line.asked_at(place).is_some(),
+            Part::After => line.nullable_at(place).is_some(),
+            Part::Limit => line.limit_at(place).is_some(),
             Part::Allowed => allowed_at(line, place).is_some(),
         }
     }
 }
 
-fn is_object(line: &Value, place: usize) -> bool {
-    matches!(line.get(place), Some(Value::Object(_)))
-}
-
-fn is_content(line: &Value, place: usize) -> bool {
-    matches!(line.get(place), Some(Value::Object(_) | Value::String(_)))
-}
-
 fn is_purpose(line: &Value, place: usize) -> bool {
-    match text_at(line, place) {
+    match line.text_at(place) {
         Some(word) => kind_of_word(word).is_some(),
         None => false,
     }
 }
 
-fn limit_at(line: &Value, place: usize) -> Option<Limit> {
-    Limit::of(line.get(place)?.as_u64()?)
-}
-
-fn is_limit(line: &Value, place: usize) -> bool {
-    limit_at(line, place).is_some()
-}
-
-/// The parts after the word of a line that asks something of a session.
-fn asking_parts(word: &str) -> Option<&'static [Part]> {
-    if is_same_text(word, "get") || is_same_text(word, "remove") {
-        Some(&[Part::Session, Part::Report, Part::Id])
-    } else if is_same_text(word, "cell") {
-        Some(&[Part::Session, Part::Report, Part::Dims])
-    } else if is_same_text(word, "page") {
-        Some(&[
+/// The parts after the word of a line.
+fn parts_of(verb: Verb) -> &'static [Part] {
+    match verb {
+        Verb::Load => &[Part::Report, Part::Content],
+        Verb::Open => &[Part::Session, Part::Purpose],
+        Verb::Commit | Verb::Close => &[Part::Session],
+        Verb::Export => &[Part::Report],
+        Verb::Get | Verb::Remove => &[Part::Session, Part::Report, Part::Id],
+        Verb::Cell => &[Part::Session, Part::Report, Part::Dims],
+        Verb::Page => &[
             Part::Session,
             Part::Report,
             Part::Concept,
             Part::Period,
             Part::After,
             Part::Limit,
-        ])
-    } else if is_same_text(word, "add") {
-        Some(&[Part::Session, Part::Report, Part::Id, Part::Fact])
-    } else if is_same_text(word, "declared") {
-        Some(&[Part::Session, Part::Report])
-    } else if is_same_text(word, "declare") {
-        Some(&[Part::Session, Part::Report, Part::Allowed])
-    } else {
-        None
-    }
-}
-
-/// The parts after the word of a line; none where there is no such line.
-fn parts_of(word: &str) -> Option<&'static [Part]> {
-    if is_same_text(word, "load") {
-        Some(&[Part::Report, Part::Content])
-    } else if is_same_text(word, "open") {
-        Some(&[Part::Session, Part::Purpose])
-    } else if is_same_text(word, "commit") || is_same_text(word, "close") {
-        Some(&[Part::Session])
-    } else if is_same_text(word, "export") {
-        Some(&[Part::Report])
-    } else {
-        asking_parts(word)
+        ],
+        Verb::Add => &[Part::Session, Part::Report, Part::Id, Part::Fact],
+        Verb::Declared => &[Part::Session, Part::Report],
+        Verb::Declare => &[Part::Session, Part::Report, Part::Allowed],
     }
 }
 
 /// What is reported about a word that no line has.
-fn no_such_line(alloc: Global, word: &str) -> Result<String, AllocError> {
+fn reason_of_no_line(alloc: Global, word: &str) -> Result<String, AllocError> {
     let shown = Shown(word);
-    match nearest(alloc, word)? {
+    match nearest_word(alloc, word)? {
         Some(meant) => { format!(in alloc; "no such line {shown}; did you mean \"{meant}\"?") }
         None => format!(in alloc; "no such line {shown}"),
     }
 }
 
 /// What is reported about a part that does not fit.
-fn wrong_part(
+fn reason_of_wrong_part(
     alloc: Global,
     word: &str,
     part: Part,
@@ -163,7 +127,7 @@ fn wrong_part(
     }
     let number = place.saturating_add(1);
     let name = part.name();
-    let wanted = part.wanted();
+    let wanted = part.requirement();
     format!(in alloc; "part {number} of \"{word}\", {name}, is {shown}; it has to be {wanted}")
 }
 
@@ -178,7 +142,7 @@ fn parts_fault(
     for part in parts {
         if let Some(value) = line.get(place) {
             if !part.fits(line, place) {
-                return Ok(Some(wrong_part(alloc, word, *part, value, place)?));
+                return Ok(Some(reason_of_wrong_part(alloc, word, *part, value, place)?));
             }
         }
         place = place.saturating_add(1);
@@ -218,9 +182,9 @@ pub(crate) fn line_fault(alloc: Global, line: &Value) -> Result<String, AllocErr
         return format!(in alloc; "a line is an array, as [\"commit\",\"s1\"]; this is {kind}");
     };
     match items.first() {
-        Some(Value::String(word)) => match parts_of(word) {
-            Some(parts) => word_fault(alloc, word, parts, line, items.len()),
-            None => no_such_line(alloc, word),
+        Some(Value::String(word)) => match Verb::of_word(word) {
+            Some(verb) => word_fault(alloc, word, parts_of(verb), line, items.len()),
+            None => reason_of_no_line(alloc, word),
         },
         Some(value) => {
             let shown = ShownValue(value);

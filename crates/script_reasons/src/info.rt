@@ -1,6 +1,6 @@
 //! What is wrong with `documentInfo`. The checks stand in the order of `report_of`.
 
-use crate::facts::not_whole;
+use crate::facts::tell_not_whole;
 use crate::shown::{Shown, ShownValue, kind_of};
 use crate::told::Told;
 use oim_fact::{Names, NumericTable};
@@ -13,7 +13,11 @@ use std::sync::Arc;
 const DOCUMENT_TYPE: &str = "https://xbrl.org/2021/xbrl-json";
 
 /// Tells a document type that is missing or another one.
-pub fn type_fault(alloc: Global, told: &mut Told, found: Option<&Value>) -> Result<(), AllocError> {
+pub fn tell_type_fault(
+    alloc: Global,
+    told: &mut Told,
+    found: Option<&Value>,
+) -> Result<(), AllocError> {
     match found {
         Some(Value::String(text)) if text.as_str() == DOCUMENT_TYPE => Ok(()),
         Some(value) => {
@@ -41,7 +45,7 @@ fn is_allowed(value: &Value) -> bool {
 }
 
 /// Tells what is wrong with features.
-pub fn features_fault(
+pub fn tell_features_fault(
     alloc: Global,
     told: &mut Told,
     features: Option<&Value>,
@@ -67,7 +71,7 @@ pub fn features_fault(
 }
 
 /// The URIs with their prefixes, of those that are texts; tells each that is not.
-fn bound<'a>(
+fn rows_of_bindings<'a>(
     alloc: Global,
     told: &mut Told,
     members: &'a Map<String, Value>,
@@ -90,7 +94,7 @@ fn bound<'a>(
 }
 
 /// Tells each URI of sorted rows that two prefixes have.
-fn aliases(alloc: Global, told: &mut Told, rows: &[(&str, &str)]) -> Result<(), AllocError> {
+fn tell_aliases(alloc: Global, told: &mut Told, rows: &[(&str, &str)]) -> Result<(), AllocError> {
     let mut last: Option<(&str, &str)> = None;
     for row in rows {
         if let Some((uri, prefix)) = last {
@@ -128,9 +132,9 @@ fn names_in(
     members: &Map<String, Value>,
     table: &Arc<NumericTable>,
 ) -> Result<Option<Names>, AllocError> {
-    let mut rows = bound(alloc, told, members)?;
+    let mut rows = rows_of_bindings(alloc, told, members)?;
     rows.sort_unstable();
-    aliases(alloc, told, &rows)?;
+    tell_aliases(alloc, told, &rows)?;
     if rows.len() < members.len() {
         return Ok(None);
     }
@@ -157,28 +161,28 @@ pub fn names_of(
 }
 
 /// Tells all that is wrong with a documentInfo that is an object, and gives the names that it declares, where they are in order.
-fn members_faults(
+fn tell_members_faults(
     alloc: Global,
     told: &mut Told,
     info: &Value,
     table: &Arc<NumericTable>,
 ) -> Result<Option<Names>, AllocError> {
-    type_fault(alloc, told, info.get("documentType"))?;
-    features_fault(alloc, told, info.get("features"))?;
+    tell_type_fault(alloc, told, info.get("documentType"))?;
+    tell_features_fault(alloc, told, info.get("features"))?;
     let names = names_of(alloc, told, info.get("namespaces"), table)?;
-    not_whole(alloc, told, "documentInfo", info)?;
+    tell_not_whole(alloc, told, "documentInfo", info)?;
     Ok(names)
 }
 
 /// Tells all that is wrong with a report apart from its facts, and gives the names that it declares, where they are in order.
-pub fn info_faults(
+pub fn tell_info_faults(
     alloc: Global,
     told: &mut Told,
     report: &Value,
     table: &Arc<NumericTable>,
 ) -> Result<Option<Names>, AllocError> {
     let said = match report.get("documentInfo") {
-        Some(info) if info.is_object() => return members_faults(alloc, told, info, table),
+        Some(info) if info.is_object() => return tell_members_faults(alloc, told, info, table),
         Some(info) => {
             let kind = kind_of(info);
             format!(in alloc; "\"documentInfo\" is {kind}, not an object")?

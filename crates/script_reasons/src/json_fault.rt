@@ -1,4 +1,5 @@
-//! Where a text stops to be JSON, and what was expected there. The tokens are those of the reader that refused it; what may follow each is looked up here anew.
+//! Where a text stops to be JSON, and what was expected there.
+//! The tokens are those of the reader that refused it; what may follow each is looked up here anew.
 
 use crate::shown::Shown;
 use json::{Reader, Scratch, Token};
@@ -47,7 +48,7 @@ impl Next {
         }
     }
 
-    fn expected(self) -> &'static str {
+    fn expectation(self) -> &'static str {
         match self {
             Next::Value | Next::MemberValue => "a value",
             Next::ItemOrEnd => "a value or \"]\"",
@@ -127,7 +128,7 @@ impl Walk {
 
     /// The fault of a token that may not stand here, or of the end.
     fn refuse(&self, alloc: Global, text: &str, is_bad: bool) -> Result<JsonFault, AllocError> {
-        let expected = self.next.expected();
+        let expected = self.next.expectation();
         let rest = match text.split_at_checked(self.place) {
             Some((_, rest)) => rest,
             None => "",
@@ -185,7 +186,7 @@ fn misfit(alloc: Global, walk: &Walk, token: &Token<'_>) -> Result<Option<JsonFa
 }
 
 /// The fault of a name that no colon follows.
-fn no_colon(
+fn reason_of_no_colon(
     alloc: Global,
     walk: &Walk,
     token: &Token<'_>,
@@ -209,7 +210,7 @@ fn step(
     token: &Token<'_>,
     place: usize,
 ) -> Result<Option<JsonFault>, AllocError> {
-    if let Some(fault) = no_colon(alloc, walk, token, place)? {
+    if let Some(fault) = reason_of_no_colon(alloc, walk, token, place)? {
         return Ok(Some(fault));
     }
     if !walk.next.admits(token) {

@@ -41,10 +41,10 @@ mod told;
 
 pub use bad_line::reading_stop;
 pub use explaining::explain;
-pub use facts::not_whole;
-pub use info::{features_fault, info_faults, names_of, type_fault};
+pub use facts::tell_not_whole;
+pub use info::{names_of, tell_features_fault, tell_info_faults, tell_type_fault};
 pub use reasons::{Reason, Reasons, push_reasons};
-pub use refusal::{Refusal, tells_mistake};
+pub use refusal::{Refusal, reports_mistake, tells_mistake};
 pub use refusal_laws::{words_tell_refusals, words_tell_replies};
-pub use reports::{told_of_fact, told_of_facts, told_of_text, without_mark};
+pub use reports::{faults_of_fact, faults_of_facts, faults_of_text, without_mark};
 pub use told::Told;

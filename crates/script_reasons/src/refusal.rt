@@ -1,11 +1,14 @@
 //! `Refusal`: the words of replies by which lines are refused.
 
 ghost use Rattle.std.specs.Prelude.{◌≡◌, IfOk, IfSome};
-ghost use Rattle.script_reasons.specs.Refusals.{is_mistake, is_removal, refusal_in, refusal_of_word, refusal_word, tells_mistake, word_of};
+ghost use Rattle.filing_step.specs.Steps.{reply_of};
+ghost use Rattle.script_format.specs.ReplyText.{reply_text};
+ghost use Rattle.script_reasons.specs.Refusals.{is_mistake, is_mistaken, is_removal, refusal_in, refusal_of_word, refusal_word, tells_mistake, word_of};
 
 use filing_model::is_same_text;
+use filing_step::Reply;
 use oim_report::json_value;
-use script_format::text_at;
+use script_format::JsonArray;
 use std::alloc::{AllocError, Global};
 
 /// The reply that a refused line gets, by its word.
@@ -119,7 +122,7 @@ fn is_removal(alloc: Global, line: &[u8]) -> Result<bool, AllocError>
     let Some(value) = json_value(alloc, line)? else {
         return Ok(false);
     };
-    match text_at(&value, 0) {
+    match value.text_at(0) {
         Some(word) => Ok(is_same_text(word, "remove")),
         None => Ok(false),
     }
@@ -154,4 +157,19 @@ pub fn tells_mistake(reply: &str) -> bool
         Some(refusal) => refusal.is_mistake(),
         None => false,
     }
+}
+
+/// Whether a reply reports that its line is out of place.
+fn is_mistaken(reply: &Reply) -> bool
+    ensures { result ≡ is_mistaken (reply_of reply.now) }
+{
+    matches!(reply, Reply::NoReport | Reply::ReadOnly | Reply::BadFact(_))
+}
+
+/// Whether the text of a reply to a step tells a mistake. The text is not looked at.
+#[tactic(auto, using(crate::proofs::RefusalTexts::mistake_told))]
+pub fn reports_mistake(reply: &Reply) -> bool
+    ensures { result ≡ tells_mistake (reply_text (reply_of reply.now)) }
+{
+    is_mistaken(reply)
 }

@@ -7,10 +7,10 @@ ghost use Rattle.serde_json.specs.View.{view, members_view};
 ghost use Rattle.filing_model.specs.Reading.JsonText.{without_mark};
 ghost use Rattle.script_reasons.specs.ToldFacts.{KeepsTo, has_fact, has_loaded_fact, is_refused};
 
-use crate::facts::fact_faults;
-use crate::fits::fit_faults;
+use crate::facts::tell_fact_faults;
+use crate::fits::tell_fit_faults;
 use crate::gathered::Gathered;
-use crate::info::info_faults;
+use crate::info::tell_info_faults;
 use crate::json_fault::{JsonFault, json_fault};
 use crate::shown::kind_of;
 use crate::told::Told;
@@ -23,7 +23,11 @@ use std::str::from_utf8;
 use std::sync::Arc;
 
 /// What is wrong with a fact of a report, as it is read and by these names, where they are in order: something where it is refused, and nothing else.
-pub fn told_of_fact(alloc: Global, names: Option<&Names>, fact: &Value) -> Result<Told, AllocError>
+pub fn faults_of_fact(
+    alloc: Global,
+    names: Option<&Names>,
+    fact: &Value,
+) -> Result<Told, AllocError>
     ensures { IfOk result (λ t. nat_lt 0 (vec_len t.said)
         ≡ is_refused (option_map (λ n. n.now) names.entry) (view fact.now)) }
 {
@@ -32,7 +36,7 @@ pub fn told_of_fact(alloc: Global, names: Option<&Names>, fact: &Value) -> Resul
         Ok(raw) => raw,
         Err(Trouble::NoMemory | Trouble::Dims(DimFault::NoMemory)) => return Err(AllocError),
         Err(trouble) => {
-            fact_faults(alloc, &mut told, fact)?;
+            tell_fact_faults(alloc, &mut told, fact)?;
             told.tell_some(alloc, trouble)?;
             return Ok(told);
         }
@@ -41,7 +45,7 @@ pub fn told_of_fact(alloc: Global, names: Option<&Names>, fact: &Value) -> Resul
         return Ok(told);
     };
     if let Err(fault) = fit(names, raw) {
-        fit_faults(alloc, &mut told, names, fault, fact)?;
+        tell_fit_faults(alloc, &mut told, names, fault, fact)?;
         told.tell_some(alloc, Trouble::Fit(fault))?;
     }
     Ok(told)
@@ -61,14 +65,14 @@ fn gather_facts(
         gathered.add(
             alloc,
             Some(id.as_str()),
-            told_of_fact(alloc, names.as_ref(), fact)?,
+            faults_of_fact(alloc, names.as_ref(), fact)?,
         )?;
     }
     Ok(())
 }
 
 /// What is wrong with the facts of a report as a whole.
-pub fn told_of_facts(alloc: Global, facts: &Value) -> Result<Told, AllocError> {
+pub fn faults_of_facts(alloc: Global, facts: &Value) -> Result<Told, AllocError> {
     let mut told = Told::new(alloc);
     let kind = kind_of(facts);
     told.tell(format!(in alloc; "\"facts\" is {kind}, not an object")?)?;
@@ -86,13 +90,13 @@ fn gather_report(
         gathered.old.reasons.items gathered.new.reasons.items) }
 {
     let mut told = Told::new(alloc);
-    let names = info_faults(alloc, &mut told, report, table)?;
+    let names = tell_info_faults(alloc, &mut told, report, table)?;
     gathered.add(alloc, None, told)?;
     match report.get("facts") {
         None => Ok(()),
         Some(facts) => match facts.as_object() {
             Some(members) => gather_facts(alloc, gathered, &names, members),
-            None => gathered.add(alloc, None, told_of_facts(alloc, facts)?),
+            None => gathered.add(alloc, None, faults_of_facts(alloc, facts)?),
         },
     }
 }
@@ -123,7 +127,7 @@ pub fn without_mark(bytes: &[u8]) -> &[u8]
 }
 
 /// What is wrong with the text of a report that is no JSON.
-pub fn told_of_text(alloc: Global, bytes: &[u8]) -> Result<Told, AllocError> {
+pub fn faults_of_text(alloc: Global, bytes: &[u8]) -> Result<Told, AllocError> {
     let mut told = Told::new(alloc);
     if let Ok(text) = from_utf8(bytes) {
         let JsonFault { place, said } = json_fault(alloc, text)?;
@@ -148,7 +152,7 @@ fn gather_text(
     let bytes = without_mark(text.as_bytes());
     match json_value(alloc, bytes)? {
         Some(report) => gather_report(alloc, gathered, &report, table),
-        None => gathered.add(alloc, None, told_of_text(alloc, bytes)?),
+        None => gathered.add(alloc, None, faults_of_text(alloc, bytes)?),
     }
 }
 

@@ -8,10 +8,11 @@ use Rattle.line_io.specs.KeptRun.{RepliesKept, RunsKept}
 use Rattle.line_io.specs.Run.{Answers, Runs}
 use Rattle.line_io.specs.declared.fault.ScriptFault.{ScriptFault}
 use Rattle.script_runs.specs.Observed.{IsShown, KeepsSeen, RepliesSeen}
-use Rattle.script_runs.specs.declared.observed.Observed.{Observed}
+use Rattle.script_runs.specs.declared.run.observer.Observed.{Observed}
 use Rattle.script_runs.proofs.RunsWithin.{IsWithin, answers_within}
 
-module _ {M O S : Type 0} (sees : O → Text → Text → O → Type 0) (state : S → SourceState) (reads : ℕ) (before after : Observed M O) (source source' : S) (sink sink' : SinkState) where
+module _ {M O S : Type 0} (sees : O → Text → Text → O → Type 0) (state : S → SourceState) (reads : ℕ) (before after : Observed M O)
+    (source source' : S) (sink sink' : SinkState) where
   -- of a run that was read to its end
   pub shown_all : (replies : M → Text → Text → M → Type 0) (result : Result (Unit {0}) ScriptFault)
       → Runs (RepliesSeen replies sees) state reads result before after source source' sink sink'
@@ -21,7 +22,8 @@ module _ {M O S : Type 0} (sees : O → Text → Text → O → Type 0) (state :
     gave = p.gave;
     texts = p.texts;
     took = p.took;
-    saw = answers_within (λ o. o.observer) (RepliesSeen replies sees) sees (λ m n line text is. is.1) (spoken (lines_of p.given)) p.texts before after p.answers;
+    saw = answers_within (λ o. o.observer) (RepliesSeen replies sees) sees (λ m n line text is. is.1)
+        (spoken (lines_of p.given)) p.texts before after p.answers;
   }
   shown_all replies (Err fault) p = tt
 
@@ -44,7 +46,8 @@ module _ {M O : Type 0} (C : Conduct M) (sees : O → Text → Text → O → Ty
   seen_kept m n line text k = subst (λ o. sees o line text n.observer) k.keeps.1 k.replies.1
 
   -- of a run that was kept
-  pub shown_kept : {S : Type 0} (state : S → SourceState) (reads : ℕ) (before after : Observed M O) (source source' : S) (sink sink' : SinkState) (result : Result (Unit {0}) ScriptFault)
+  pub shown_kept : {S : Type 0} (state : S → SourceState) (reads : ℕ) (before after : Observed M O) (source source' : S) (sink sink' : SinkState)
+      (result : Result (Unit {0}) ScriptFault)
       → RunsKept beside state reads result before after source source' sink sink'
       → OnOk result (IsShown state sees source source' sink sink' before.observer after.observer)
   shown_kept state reads before after source source' sink sink' (Ok x) p = record {

@@ -90,7 +90,8 @@ module _ {M N : Type 0} (within : M → N) (C : Conduct M) (D : Conduct N) (is :
     keeps_left = is.keeps s.left after s.keeps_left;
   })
 
-  told_before : (before : M) (texts : List Text) (kept : M) → C.may_tell kept ⊎ ((kept ≡ before) × (texts ≡ [])) → D.may_tell (within kept) ⊎ ((within kept ≡ within before) × (texts ≡ []))
+  told_before : (before : M) (texts : List Text) (kept : M) → C.may_tell kept ⊎ ((kept ≡ before) × (texts ≡ [])) → D.may_tell (within kept)
+      ⊎ ((within kept ≡ within before) × (texts ≡ []))
   told_before before texts kept (inl tells) = inl (is.may_tell kept tells)
   told_before before texts kept (inr none) = inr (ap within none.0, none.1)
 
@@ -136,7 +137,8 @@ module _ {M N : Type 0} (within : M → N) (C : Conduct M) (D : Conduct N) (is :
       has_failed = is.has_failed after p.has_failed;
     })
     kept_within (Err (NoMemory number)) p = record {
-      run = runs_within within (RepliesKept C) (RepliesKept D) replies_kept {X = X} state reads (Err (NoMemory number)) before after source source' sink sink' p.run;
+      run = runs_within within (RepliesKept C) (RepliesKept D) replies_kept {X = X} state reads
+          (Err (NoMemory number)) before after source source' sink sink' p.run;
       went_on = went_on p.run.later p.run.reached after p.went_on;
       tells = is.may_tell after p.tells;
     }

@@ -14,7 +14,7 @@ use Rattle.script_format.specs.Script.{State, line_answer, script_output, script
 use Rattle.script_runs.specs.Resumed.{GoesOn, IsStoppedOn, history_on, output_on, resumed}
 use Rattle.script_runs.specs.ScriptRun.{IsReply, IsScriptStopped, TakerRuns}
 use Rattle.script_runs.specs.StepsTaken.{AnswersLine, carried}
-use Rattle.script_runs.specs.declared.script_machine.ScriptMachine.{ScriptMachine}
+use Rattle.script_runs.specs.declared.run.machine.ScriptMachine.{ScriptMachine}
 use Rattle.script_runs.proofs.CarriedRuns.{answers_carried, stops_carried}
 use Rattle.line_io.specs.declared.fault.ScriptFault.{ScriptFault}
 use Rattle.line_io.specs.declared.fault.ScriptFault.TheVariants.{NoMemory}
@@ -22,7 +22,8 @@ use Rattle.line_io.proofs.AnsweringMachines.{answers_of_function}
 use Rattle.line_io.proofs.RunByReads.{starved_at_once}
 
 -- a machine that goes on from a history, with no name in use
-pub resumed_alike : {T : Type 0} (m : ScriptMachine T) (table : Table) (h : History) → arc_value m.table ≡ table → m.names ≡ empty → carried m h ≡ resumed table h
+pub resumed_alike : {T : Type 0} (m : ScriptMachine T) (table : Table) (h : History) → arc_value m.table ≡ table → m.names ≡ empty → carried m h
+    ≡ resumed table h
 resumed_alike m table h t n = ap₂ (λ t names. record { table = t; history = h; names = names }) t n
 
 module _ {T : Type 0} (has_taken : T → History → Type 0) where
@@ -77,7 +78,8 @@ nothing_begun state reads table source sink =
     let at_once = stopped_at_once state reads table [] source sink in record { after = at_once.after; runs = at_once.runs }
 
 -- from an empty history on it is the script's own
-module _ {T S : Type 0} (has_taken : T → History → Type 0) (state : S → SourceState) (reads : ℕ) (table : Table) (source source' : S) (sink sink' : SinkState) where
+module _ {T S : Type 0} (has_taken : T → History → Type 0) (state : S → SourceState) (reads : ℕ) (table : Table) (source source' : S)
+    (sink sink' : SinkState) where
   pub script_whole : (taker : T) → GoesOn state reads table [] has_taken taker (Ok tt) source source' sink sink'
       → TakerRuns has_taken state reads table (Ok taker) source source' sink sink'
   unfolding script_output script_history history_on output_on

@@ -1,33 +1,26 @@
 -- Each script is serial.
-use Rattle.std.proofs.Common.{◌≡◌, refl, List, [], ◌∷◌, Option, Some, None, ℕ}
-use Rattle.std.specs.Option.{option_map_or}
+use Rattle.std.proofs.Common.{refl, List, [], ◌∷◌}
 use Rattle.filing_model.specs.Common.Text.{Text}
 use Rattle.filing_model.specs.Oim.Facts.{Table}
 use Rattle.filing_model.specs.Reading.JsonText.{json_of}
-use Rattle.filing_model.specs.Sessions.Replies.{Reply}
-use Rattle.filing_model.specs.Histories.History.{Step, History}
-use Rattle.filing_model.specs.Histories.Lawful.{IsLawful, entered_under, next_reply}
-use Rattle.filing_laws.proofs.Histories.UntouchedIsSerial.{next_reply_is_lawful}
+use Rattle.filing_model.specs.Histories.History.{History}
+use Rattle.filing_model.specs.Histories.Lawful.{IsLawful, next_reply}
+use Rattle.filing_laws.proofs.Histories.PlayedHistories.{step_is_lawful}
 use Rattle.filing_laws.proofs.Serial.LawfulIsSerial.{each_lawful_history_is_serial}
 use Rattle.line_io.specs.Lines.{spoken}
 use Rattle.line_io.specs.Run.{state_after}
-use Rattle.script_format.specs.Script.{Ruling, ReplyNow, State, StepDue, answered, judged, line_answer}
+use Rattle.script_format.specs.Script.{Outcome, ReplyNow, State, StepDue, answered, value_outcome, line_answer}
 use Rattle.script_runs.specs.Resumed.{history_on, resumed}
 use Rattle.filing_core.specs.Engines.{EngineState}
 use Rattle.script_runs.specs.Serial.{EachScriptIsSerial, GoesOnSerially}
 
-stepped : (h : History) (session : Option ℕ) (step : Step) → IsLawful h → (o : Option Reply) → next_reply h session step ≡ o
-    → IsLawful (option_map_or (λ r. record { session = entered_under h session step; step = step; reply = r } ∷ h) o h)
-stepped h session step lawful None none = lawful
-stepped h session step lawful (Some r) is = next_reply_is_lawful h session step r lawful is
-
-ruled : (state : State) (ruling : Ruling) → IsLawful state.history → IsLawful (answered state ruling).1.history
-ruled state (ReplyNow text) lawful = lawful
-ruled state (StepDue session step names) lawful = stepped state.history session step lawful (next_reply state.history session step) refl
+outcome_lawful : (state : State) (outcome : Outcome) → IsLawful state.history → IsLawful (answered state outcome).1.history
+outcome_lawful state (ReplyNow text) lawful = lawful
+outcome_lawful state (StepDue session step names) lawful = step_is_lawful state.history session step lawful (next_reply state.history session step) refl
 
 answered_line : (state : State) (line : Text) → IsLawful state.history → IsLawful (line_answer state line).1.history
 unfolding line_answer
-answered_line state line lawful = ruled state (judged state (json_of line)) lawful
+answered_line state line lawful = outcome_lawful state (value_outcome state (json_of line)) lawful
 
 answered_lines : (lines : List Text) (state : State) → IsLawful state.history → IsLawful (state_after line_answer state lines).history
 answered_lines [] state lawful = lawful

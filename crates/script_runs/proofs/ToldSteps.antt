@@ -12,8 +12,13 @@ use Rattle.script_runs.specs.StepsTaken.{IsTold, Takes, Tells}
 
 pub told_of : (has_taken : History → Type 0) (h : History) (session : Option ℕ) (step : Step) (outcome : Result Reply CoreFault) (text : Text)
     → Takes has_taken h session step outcome → IsTold outcome text → Tells has_taken h session step text
-told_of has_taken h session step (Ok r) text takes is = (is ∙ ap (λ (o : Option model.Reply). option_map_or reply_text o no_session_text) (sym takes.0), takes.1)
-told_of has_taken h session step (Err NoSession) text takes is = (is ∙ ap (λ (o : Option model.Reply). option_map_or reply_text o no_session_text) (sym takes.0), takes.1)
+told_of has_taken h session step (Ok r) text takes is = (
+  is ∙ ap (λ (o : Option model.Reply). option_map_or reply_text o no_session_text)
+      (sym takes.0),
+  takes.1,
+)
+told_of has_taken h session step (Err NoSession) text takes is =
+    (is ∙ ap (λ (o : Option model.Reply). option_map_or reply_text o no_session_text) (sym takes.0), takes.1)
 told_of has_taken h session step (Err NoMemory) text takes is = absurd is
 
 -- where a text was given, so was what comes with it

@@ -1,4 +1,4 @@
--- The versions that a picture shows, and where each begins. All of it is the project's own.
+-- The versions that a picture shows, and where each stands among them. All of it is the project's own.
 use Rattle.std.specs.Prelude.{ℕ, suc, ◌==◌, cond, Bool, false, List, [], ◌∷◌, nat_lt, slice_get, Option, Some, None}
 use Rattle.std.specs.List.{flat_map}
 use Rattle.std.specs.Option.{option_map_or}
@@ -42,7 +42,7 @@ with_numbers (n ∷ ns) ms = with_numbers ns (with_number n ms)
 abbrev pub columns : List Told → List ℕ
 columns ts = with_numbers (flat_map versions_of ts) []
 
--- how many stand before a version
+-- how many stand before a version: its column
 abbrev pub count_below : ℕ → List ℕ → ℕ
 count_below n [] = 0
 count_below n (m ∷ ms) = cond (nat_lt m n) (suc (count_below n ms)) 0

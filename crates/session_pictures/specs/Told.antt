@@ -12,7 +12,8 @@ pub record End : Type 0 where
   pub reply : Text
   pub version : ℕ
 
--- what a session may do; the number of the version at its opening; how many of its calls were staged; its end, if it has ended; and the session whose commit touched what it read, where it ended by a conflict with one
+-- what a session may do; the number of the version at its opening; how many of its calls were staged; its end,
+-- if it has ended; and the session whose commit touched what it read, where it ended by a conflict with one
 pub record Told : Type 0 where
   pub kind : Kind
   pub opened_at : ℕ
@@ -26,5 +27,10 @@ abbrev pub end_in : SessionEnd → End
 end_in e = record { ending = e.ending; reply = string_bytes e.reply; version = e.version }
 
 abbrev pub told_in : ToldSession → Told
-told_in s =
-    record { kind = s.kind; opened_at = s.opened_at; staged = s.staged; ended = option_map end_in s.ended; touched_by = s.touched_by }
+told_in s = record {
+  kind = s.kind;
+  opened_at = s.opened_at;
+  staged = s.staged;
+  ended = option_map end_in s.ended;
+  touched_by = s.touched_by;
+}

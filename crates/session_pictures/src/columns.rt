@@ -1,22 +1,14 @@
-//! The versions that a picture shows, and where each begins.
+//! The versions that a picture shows, and where each stands among them.
 
-ghost use Rattle.std.specs.Prelude.{◌≡◌, ◌+◌, ◌*◌, ◌≤◌, ◌^◌, map, option_map, IfOk, OnOk};
+ghost use Rattle.std.specs.Prelude.{◌≡◌, map, option_map, IfOk, OnOk};
 ghost use Rattle.session_pictures.specs.Columns.{columns, count_below, is_at, touching_end, versions_of, versions_of_end, with_number, with_numbers};
-ghost use Rattle.session_pictures.specs.Picture.{along, bar_end, bar_start, cell, end_inset};
 ghost use Rattle.session_pictures.specs.Told.{end_in, told_in};
 
-use crate::told::{Ending, SessionEnd, ToldSession};
+use crate::told::{SessionEnd, ToldSession};
 use std::alloc::{AllocError, Global};
 
-/// Width of a version, in pixels.
-pub(crate) const CELL: u128 = 24;
-/// Pixels from the beginning of a version to an opening.
-const OPENING: u128 = 12;
-/// Pixels from the beginning of a version to an end that makes none.
-const ENDING: u128 = 18;
-
-/// How many numbers at the front are below this one.
-fn count_below(number: u64, columns: &[u64]) -> usize
+/// How many numbers at the front are below this one: the column of the version of this number.
+pub(crate) fn count_below(number: u64, columns: &[u64]) -> usize
     ensures { result ≡ count_below number columns.now }
 {
     let mut place = 0;
@@ -90,40 +82,4 @@ pub(crate) fn columns_of(alloc: Global, sessions: &[ToldSession]) -> Result<Vec<
         add_session(&mut columns, session)?;
     }
     Ok(columns)
-}
-
-/// Where a version begins.
-pub(crate) fn along(columns: &[u64], number: u64) -> u128
-    ensures along { result ≡ along columns.now number }
-    ensures bounded { result ≤ cell * 2 ^ 64 }
-{
-    CELL * (count_below(number, columns) as u128)
-}
-
-/// Where the bar of a session begins.
-pub(crate) fn bar_start(columns: &[u64], session: &ToldSession) -> u128
-    ensures { result ≡ bar_start columns.now (told_in session.now) }
-{
-    along(columns, session.opened_at) + OPENING
-}
-
-/// How far into a version an end stands.
-fn end_inset(ending: Ending) -> u128
-    ensures inset { result ≡ end_inset ending }
-    ensures bounded { result ≤ 18 }
-{
-    match ending {
-        Ending::Committed => 0,
-        Ending::Conflict(_) | Ending::Closed | Ending::Disallowed => ENDING,
-    }
-}
-
-/// Where the bar of a session ends.
-pub(crate) fn bar_end(columns: &[u64], ended: &Option<SessionEnd>) -> u128
-    ensures { result ≡ bar_end columns.now (option_map end_in ended.now) }
-{
-    match ended {
-        Some(end) => along(columns, end.version) + end_inset(end.ending),
-        None => CELL * (columns.len() as u128),
-    }
 }

@@ -1,31 +1,52 @@
-//! Elements that rows and the legend share.
+//! Lengths, and elements that rows, arrows and the legend share.
 
-ghost use Rattle.std.specs.Prelude.{◌≡◌, ◌++◌, codes, decimal, string_bytes, OnOk};
-ghost use Rattle.session_pictures.specs.Picture.{from_above, from_below, kind_style, kind_word, mark};
+ghost use Rattle.std.specs.Prelude.{◌≤◌, ◌*◌, ◌^◌};
 
 use crate::told::Ending;
 use filing_model::Kind;
 use std::alloc::AllocError;
 
-/// Appends the beginning of a group of elements as seen from a point.
-pub(crate) fn push_group(out: &mut String, x: u128, y: u128) -> Result<(), AllocError>
-    ensures { OnOk result (string_bytes out.new ≡ string_bytes out.old
-        ++ (codes "<g transform=\"translate(" ++ (decimal x ++ (codes "," ++ (decimal y ++ codes ")\">"))))) }
+/// Width of a version, in pixels.
+pub(crate) const CELL: u128 = 24;
+/// Height of a row, in pixels.
+pub(crate) const ROW: u128 = 20;
+/// Pixels from the beginning of a version to an end that makes none.
+const ENDING: u128 = 18;
+
+/// Where a column begins.
+pub(crate) fn along(column: usize) -> u128
+    ensures { result ≤ 24 * 2 ^ 64 }
 {
+    CELL * (column as u128)
+}
+
+/// Where the row of a session begins.
+pub(crate) fn down(first: u64, number: u64) -> u128 {
+    ROW * (number.saturating_sub(first) as u128)
+}
+
+/// How far into a version an end stands. A commit stands where its version begins.
+pub(crate) fn end_inset(ending: Ending) -> u128
+    ensures { result ≤ 18 }
+{
+    match ending {
+        Ending::Committed => 0,
+        Ending::Conflict(_) | Ending::Closed | Ending::Disallowed => ENDING,
+    }
+}
+
+/// Appends the beginning of a group of elements as seen from a point.
+pub(crate) fn push_group(out: &mut String, x: u128, y: u128) -> Result<(), AllocError> {
     write!(out, "<g transform=\"translate({x},{y})\">")
 }
 
 /// Appends the end of a group.
-pub(crate) fn push_group_end(out: &mut String) -> Result<(), AllocError>
-    ensures { OnOk result (string_bytes out.new ≡ string_bytes out.old ++ codes "</g>\n") }
-{
+pub(crate) fn push_group_end(out: &mut String) -> Result<(), AllocError> {
     out.push_str("</g>\n")
 }
 
 /// The word of a kind.
-pub(crate) fn kind_word(kind: Kind) -> &'static str
-    ensures { result.now ≡ kind_word kind }
-{
+pub(crate) fn kind_word(kind: Kind) -> &'static str {
     match kind {
         Kind::Review => "review",
         Kind::Amend => "amend",
@@ -33,9 +54,7 @@ pub(crate) fn kind_word(kind: Kind) -> &'static str
 }
 
 /// How a bar of a kind is drawn.
-pub(crate) fn kind_style(kind: Kind) -> &'static str
-    ensures { result.now ≡ kind_style kind }
-{
+pub(crate) fn kind_style(kind: Kind) -> &'static str {
     match kind {
         Kind::Review => "fill=\"#ffffff\" stroke-dasharray=\"3,2\"",
         Kind::Amend => "fill=\"#c8c8c8\"",
@@ -43,9 +62,7 @@ pub(crate) fn kind_style(kind: Kind) -> &'static str
 }
 
 /// The mark of an end.
-pub(crate) fn mark(ending: Ending) -> &'static str
-    ensures { result.now ≡ mark ending }
-{
+pub(crate) fn mark(ending: Ending) -> &'static str {
     match ending {
         Ending::Committed => "<rect x=\"-4\" y=\"6\" width=\"8\" height=\"8\"/>",
         Ending::Conflict(_) => {
@@ -63,9 +80,7 @@ pub(crate) const FROM_NOWHERE: &str =
     "<polygon points=\"-4,-14 4,-14 0,-6\" fill=\"#ffffff\" stroke=\"#000000\"/>";
 
 /// Appends an arrow from so far above.
-pub(crate) fn push_from_above(out: &mut String, length: u128) -> Result<(), AllocError>
-    ensures { OnOk result (string_bytes out.new ≡ string_bytes out.old ++ from_above length) }
-{
+pub(crate) fn push_from_above(out: &mut String, length: u128) -> Result<(), AllocError> {
     write!(
         out,
         "<line y1=\"-{length}\" y2=\"-6\" stroke=\"#000000\"/><polygon points=\"-4,-14 4,-14 0,-6\"/>"
@@ -73,9 +88,7 @@ pub(crate) fn push_from_above(out: &mut String, length: u128) -> Result<(), Allo
 }
 
 /// Appends an arrow from so far below.
-pub(crate) fn push_from_below(out: &mut String, length: u128) -> Result<(), AllocError>
-    ensures { OnOk result (string_bytes out.new ≡ string_bytes out.old ++ from_below length) }
-{
+pub(crate) fn push_from_below(out: &mut String, length: u128) -> Result<(), AllocError> {
     write!(
         out,
         "<line y1=\"{length}\" y2=\"6\" stroke=\"#000000\"/><polygon points=\"-4,14 4,14 0,6\"/>"

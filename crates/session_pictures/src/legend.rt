@@ -1,8 +1,5 @@
 //! What the elements mean.
 
-ghost use Rattle.std.specs.Prelude.{◌≡◌, ◌++◌, codes, string_bytes, OnOk};
-ghost use Rattle.session_pictures.specs.Picture.{arrow_sample, arrows_legend, ends_legend, entry_text, from_above, from_nowhere, kind_word, kinds_legend, sample};
-
 use crate::elements::{
     FROM_NOWHERE, kind_style, kind_word, mark, push_from_above, push_group, push_group_end,
 };
@@ -11,11 +8,7 @@ use filing_model::Kind;
 use std::alloc::AllocError;
 
 /// Appends the words of an entry, and ends its group.
-fn push_meaning(out: &mut String, words: &str) -> Result<(), AllocError>
-    ensures { OnOk result (string_bytes out.new
-        ≡ string_bytes out.old ++ (codes "<text x=\"20\" y=\"14\">"
-        ++ (words.now ++ (codes "</text>" ++ codes "</g>\n")))) }
-{
+fn push_meaning(out: &mut String, words: &str) -> Result<(), AllocError> {
     out.push_str("<text x=\"20\" y=\"14\">")?;
     out.push_str(words)?;
     out.push_str("</text>")?;
@@ -29,18 +22,14 @@ fn push_entry(
     y: u128,
     drawn: &str,
     words: &str,
-) -> Result<(), AllocError>
-    ensures { OnOk result (string_bytes out.new ≡ string_bytes out.old ++ entry_text x y drawn.now words.now) }
-{
+) -> Result<(), AllocError> {
     push_group(out, x, y)?;
     out.push_str(drawn)?;
     push_meaning(out, words)
 }
 
 /// Appends a bar of a kind.
-fn push_sample(out: &mut String, kind: Kind) -> Result<(), AllocError>
-    ensures { OnOk result (string_bytes out.new ≡ string_bytes out.old ++ sample kind) }
-{
+fn push_sample(out: &mut String, kind: Kind) -> Result<(), AllocError> {
     out.push_str("<rect x=\"-14\" y=\"4\" width=\"28\" height=\"12\" stroke=\"#000000\" ")?;
     out.push_str(kind_style(kind))?;
     out.push_str("/>")?;
@@ -48,27 +37,20 @@ fn push_sample(out: &mut String, kind: Kind) -> Result<(), AllocError>
 }
 
 /// Appends what the bar of a kind means.
-fn push_kind(out: &mut String, y: u128, kind: Kind) -> Result<(), AllocError>
-    ensures { OnOk result (string_bytes out.new
-        ≡ string_bytes out.old ++ entry_text 34 y (sample kind) (kind_word kind)) }
-{
+fn push_kind(out: &mut String, y: u128, kind: Kind) -> Result<(), AllocError> {
     push_group(out, 34, y)?;
     push_sample(out, kind)?;
     push_meaning(out, kind_word(kind))
 }
 
 /// Appends what bars mean.
-pub(crate) fn push_kinds(out: &mut String) -> Result<(), AllocError>
-    ensures { OnOk result (string_bytes out.new ≡ string_bytes out.old ++ kinds_legend) }
-{
+pub(crate) fn push_kinds(out: &mut String) -> Result<(), AllocError> {
     push_kind(out, 34, Kind::Amend)?;
     push_kind(out, 54, Kind::Review)
 }
 
 /// Appends what marks mean.
-pub(crate) fn push_ends(out: &mut String) -> Result<(), AllocError>
-    ensures { OnOk result (string_bytes out.new ≡ string_bytes out.old ++ ends_legend) }
-{
+pub(crate) fn push_ends(out: &mut String) -> Result<(), AllocError> {
     push_entry(out, 134, 34, mark(Ending::Committed), "committed")?;
     push_entry(out, 134, 54, mark(Ending::Closed), "closed")?;
     push_entry(out, 254, 34, mark(Ending::Conflict(0)), "conflict")?;
@@ -76,10 +58,7 @@ pub(crate) fn push_ends(out: &mut String) -> Result<(), AllocError>
 }
 
 /// Appends what an arrow from another row means.
-fn push_arrow_from_row(out: &mut String) -> Result<(), AllocError>
-    ensures { OnOk result (string_bytes out.new ≡ string_bytes out.old
-        ++ entry_text 34 78 (arrow_sample (from_above 18)) (codes "here a commit changed what the session had read")) }
-{
+fn push_arrow_from_row(out: &mut String) -> Result<(), AllocError> {
     push_group(out, 34, 78)?;
     out.push_str("<g transform=\"translate(0,18)\">")?;
     push_from_above(out, 18)?;
@@ -88,10 +67,7 @@ fn push_arrow_from_row(out: &mut String) -> Result<(), AllocError>
 }
 
 /// Appends what an arrow's head alone means.
-fn push_arrow_from_nowhere(out: &mut String) -> Result<(), AllocError>
-    ensures { OnOk result (string_bytes out.new ≡ string_bytes out.old
-        ++ entry_text 34 98 (arrow_sample from_nowhere) (codes "the same by a load, or by a session that is not shown")) }
-{
+fn push_arrow_from_nowhere(out: &mut String) -> Result<(), AllocError> {
     push_group(out, 34, 98)?;
     out.push_str("<g transform=\"translate(0,18)\">")?;
     out.push_str(FROM_NOWHERE)?;
@@ -100,9 +76,7 @@ fn push_arrow_from_nowhere(out: &mut String) -> Result<(), AllocError>
 }
 
 /// Appends what arrows mean, and what is left out.
-pub(crate) fn push_arrows_legend(out: &mut String) -> Result<(), AllocError>
-    ensures { OnOk result (string_bytes out.new ≡ string_bytes out.old ++ arrows_legend) }
-{
+pub(crate) fn push_arrows_legend(out: &mut String) -> Result<(), AllocError> {
     push_arrow_from_row(out)?;
     push_arrow_from_nowhere(out)?;
     out.push_str(

@@ -1,28 +1,64 @@
-//! The picture of sessions.
+//! `Picture`: which sessions and versions a picture shows, and what goes from where to where.
 
-ghost use Rattle.std.specs.Prelude.{◌≡◌, ◌+◌, ◌<◌, ◌^◌, ◌++◌, length, map, max, string_bytes, IfOk, OnOk};
-ghost use Rattle.session_pictures.specs.Picture.{above_text, column_text, columns_text, grid, head_text, picture_from, picture_of, shown, title_text};
-ghost use Rattle.session_pictures.specs.Columns.{columns};
-ghost use Rattle.session_pictures.specs.Told.{told_in};
+ghost use Rattle.std.specs.Prelude.{◌≡◌, ◌+◌, ◌<◌, ◌^◌, length, map, max, option_map, IfOk};
+ghost use Rattle.session_pictures.specs.Columns.{touching_end};
+ghost use Rattle.session_pictures.specs.Picture.{Shows, arrow_from, arrow_of, end_of, is_shown, row_of, rows_of, shown};
+ghost use Rattle.session_pictures.specs.Told.{end_in, told_in};
 
-use crate::arrows::push_arrows_group;
-use crate::columns::{CELL, along, columns_of};
-use crate::elements::{push_group, push_group_end};
-use crate::legend::{push_arrows_legend, push_ends, push_kinds};
-use crate::rows::{ROW, push_rows};
-use crate::told::ToldSession;
+use crate::columns::{columns_of, count_below, touching_end};
+use crate::told::{Ending, SessionEnd, ToldSession};
+use filing_model::Kind;
 use std::alloc::{AllocError, Global};
 
 /// Sessions that a picture shows at most.
-const MOST: usize = 200;
-/// Pixels to the left of the first version.
-const LEFT: u128 = 160;
-/// Pixels above the first row.
-const ABOVE: u128 = 170;
-/// Pixels to the right of the last version, which are left free.
-const RIGHT: u128 = 260;
-/// Pixels below the last row, which are left free.
-const BELOW: u128 = 20;
+pub const MOST: usize = 200;
+
+/// An arrow into the bar of a session that ended by a conflict.
+#[derive(Clone, Copy)]
+pub struct Arrow {
+    /// The column of the version that touched what the session had read.
+    pub column: usize,
+    /// The session from whose row it comes. None after a load, or where that session is not shown.
+    pub from_row: Option<u64>,
+}
+
+/// The end of a bar.
+#[derive(Clone, Copy)]
+pub struct RowEnd {
+    pub ending: Ending,
+    /// The number of the version then.
+    pub version: u64,
+    /// The column of that version.
+    pub column: usize,
+}
+
+/// The row of a session.
+#[derive(Clone, Copy)]
+pub struct Row {
+    pub number: u64,
+    pub kind: Kind,
+    /// How many of its calls were staged.
+    pub staged: u64,
+    /// The column of the version of its opening, where its bar begins.
+    pub opening: usize,
+    /// Where its bar ends. None while it is open.
+    pub end: Option<RowEnd>,
+    /// The session whose commit touched what it had read, where it ended by a conflict with one.
+    pub touched_by: Option<u64>,
+    pub arrow: Option<Arrow>,
+}
+
+/// What a picture shows.
+#[derive(Drop)]
+pub struct Picture {
+    /// The number of the first session that is shown.
+    pub first: u64,
+    /// How many sessions there are, shown or not.
+    pub all: usize,
+    /// The versions along, rising, each once. The column of a version is its place here.
+    pub versions: Vec<u64>,
+    pub rows: Vec<Row>,
+}
 
 /// At most so many sessions, from the one of this number on. Each has a number of 64 bits, and so has the next one.
 fn shown(sessions: &[ToldSession], first: u64) -> &[ToldSession]
@@ -37,105 +73,84 @@ fn shown(sessions: &[ToldSession], first: u64) -> &[ToldSession]
     &sessions[before..before + many]
 }
 
-/// Appends the beginning of the picture.
-fn push_head(out: &mut String, width: u128, height: u128) -> Result<(), AllocError>
-    ensures { OnOk result (string_bytes out.new ≡ string_bytes out.old ++ head_text width height) }
+/// Whether a session is one of so many from the first on.
+fn is_shown(first: u64, many: usize, session: u64) -> bool
+    ensures { result ≡ is_shown first many session }
 {
-    write!(
-        out,
-        "<svg xmlns=\"http://www.w3.org/2000/svg\" width=\"{width}\" height=\"{height}\" viewBox=\"0 0 {width} {height}\" font-family=\"sans-serif\" font-size=\"11\">\n<rect width=\"100%\" height=\"100%\" fill=\"#ffffff\"/>\n"
-    )
+    first <= session && (session as u128) < (first as u128) + (many as u128)
 }
 
-/// Appends the title.
-fn push_title(out: &mut String, first: u64, many: u64, all: u64) -> Result<(), AllocError>
-    ensures { OnOk result (string_bytes out.new ≡ string_bytes out.old ++ title_text first many all) }
+/// The session from whose row an arrow comes, if it is shown.
+fn arrow_from(first: u64, many: usize, touched_by: Option<u64>) -> Option<u64>
+    ensures { result ≡ arrow_from first many touched_by }
 {
-    write!(
-        out,
-        "<text x=\"20\" y=\"24\" font-weight=\"bold\">Sessions from {first} on: {many} of {all}</text>\n"
-    )
-}
-
-/// Appends the line at which a version begins, and its number.
-fn push_column(out: &mut String, many: u64, columns: &[u64], number: u64) -> Result<(), AllocError>
-    ensures { OnOk result (string_bytes out.new ≡ string_bytes out.old ++ column_text many columns.now number) }
-{
-    let x = along(columns, number);
-    let height = ROW * (many as u128);
-    write!(
-        out,
-        "<g transform=\"translate({x},0)\"><line y1=\"-6\" y2=\"{height}\" stroke=\"#c8c8c8\"/><text transform=\"translate(3,-10) rotate(-60)\">{number}</text></g>\n"
-    )
-}
-
-/// Appends the lines of all versions.
-fn push_columns(out: &mut String, many: u64, columns: &[u64]) -> Result<(), AllocError>
-    ensures { OnOk result (string_bytes out.new ≡ string_bytes out.old ++ columns_text many columns.now) }
-{
-    out.push_str("<text x=\"-8\" y=\"-10\" text-anchor=\"end\">version</text>\n")?;
-    for number in columns {
-        push_column(out, many, columns, *number)?;
+    match touched_by {
+        Some(session) if is_shown(first, many, session) => Some(session),
+        _ => None,
     }
-    Ok(())
 }
 
-/// Appends versions, arrows and rows.
-fn push_grid(
-    out: &mut String,
-    first: u64,
-    many: u64,
-    columns: &[u64],
-    sessions: &[ToldSession],
-) -> Result<(), AllocError>
-    requires { first + length sessions.now < 2 ^ 64 }
-    ensures { OnOk result (string_bytes out.new
-        ≡ string_bytes out.old ++ grid first many columns.now (map told_in sessions.now)) }
+/// The arrow into the bar of a session, if it has one.
+fn arrow_of(first: u64, many: usize, versions: &[u64], session: &ToldSession) -> Option<Arrow>
+    ensures { result ≡ arrow_of first many versions.now session.now.touched_by
+        (touching_end (option_map end_in session.now.ended)) }
 {
-    push_group(out, LEFT, ABOVE)?;
-    push_columns(out, many, columns)?;
-    push_arrows_group(out, first, many, columns, sessions)?;
-    push_rows(out, first, columns, sessions)?;
-    push_group_end(out)
+    let version = touching_end(&session.ended)?;
+    Some(Arrow {
+        column: count_below(version, versions),
+        from_row: arrow_from(first, many, session.touched_by),
+    })
 }
 
-/// Appends what stands above the grid.
-fn push_above(
-    out: &mut String,
-    first: u64,
-    columns: usize,
-    many: usize,
-    all: usize,
-) -> Result<(), AllocError>
-    ensures { OnOk result (string_bytes out.new ≡ string_bytes out.old ++ above_text first columns many all) }
+/// The end of the bar of a session, if it has ended.
+fn end_of(versions: &[u64], ended: &Option<SessionEnd>) -> Option<RowEnd>
+    ensures { result ≡ option_map (end_of versions.now) (option_map end_in ended.now) }
 {
-    push_head(
-        out,
-        LEFT + CELL * (columns as u128) + RIGHT,
-        ABOVE + ROW * (many as u128) + BELOW,
-    )?;
-    push_title(out, first, many as u64, all as u64)?;
-    push_kinds(out)?;
-    push_ends(out)?;
-    push_arrows_legend(out)
+    match ended {
+        Some(end) => Some(RowEnd {
+            ending: end.ending,
+            version: end.version,
+            column: count_below(end.version, versions),
+        }),
+        None => None,
+    }
 }
 
-/// The picture of sessions that are numbered from this number on, among so many.
-fn picture_from(
+/// The row of a session.
+#[tactic(auto, unfolding(crate::specs::Picture::row_of))]
+fn row_of(first: u64, many: usize, versions: &[u64], number: u64, session: &ToldSession) -> Row
+    ensures { result ≡ row_of first many versions.now number (told_in session.now) }
+{
+    Row {
+        number,
+        kind: session.kind,
+        staged: session.staged,
+        opening: count_below(session.opened_at, versions),
+        end: end_of(versions, &session.ended),
+        touched_by: session.touched_by,
+        arrow: arrow_of(first, many, versions, session),
+    }
+}
+
+/// The rows of sessions that are numbered from the first on.
+fn rows_of(
     alloc: Global,
     first: u64,
+    versions: &[u64],
     sessions: &[ToldSession],
-    all: usize,
-) -> Result<String, AllocError>
+) -> Result<Vec<Row>, AllocError>
     requires { first + length sessions.now < 2 ^ 64 }
-    ensures { IfOk result (λ text. string_bytes text ≡ picture_from first (map told_in sessions.now) all) }
+    ensures { IfOk result (λ rows. rows.items
+        ≡ rows_of first (length sessions.now) versions.now first (map told_in sessions.now)) }
 {
-    let columns = columns_of(alloc, sessions)?;
-    let mut out = String::new(alloc);
-    push_above(&mut out, first, columns.len(), sessions.len(), all)?;
-    push_grid(&mut out, first, sessions.len() as u64, &columns, sessions)?;
-    out.push_str("</svg>\n")?;
-    Ok(out)
+    let many = sessions.len();
+    let mut rows = Vec::with_capacity(alloc, many)?;
+    let mut number = first;
+    for session in sessions {
+        rows.push(row_of(first, many, versions, number, session))?;
+        number += 1;
+    }
+    Ok(rows)
 }
 
 /// The picture of at most 200 sessions, from the one of this number on, where the first has number 1.
@@ -143,8 +158,16 @@ pub fn picture_of_sessions(
     alloc: Global,
     sessions: &[ToldSession],
     first: u64,
-) -> Result<String, AllocError>
-    ensures { IfOk result (λ text. string_bytes text ≡ picture_of first (map told_in sessions.now)) }
+) -> Result<Picture, AllocError>
+    ensures { IfOk result (Shows first (map told_in sessions.now)) }
 {
-    picture_from(alloc, first.max(1), shown(sessions, first), sessions.len())
+    let some = shown(sessions, first);
+    let versions = columns_of(alloc, some)?;
+    let rows = rows_of(alloc, first.max(1), &versions, some)?;
+    Ok(Picture {
+        first: first.max(1),
+        all: sessions.len(),
+        versions,
+        rows,
+    })
 }

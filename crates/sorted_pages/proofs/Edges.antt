@@ -1,5 +1,6 @@
 -- The place where a test stops to hold.
-use Rattle.std.proofs.Common.{◌≡◌, ◌∙◌, ap, sym, subst, refl, ℕ, ◌+◌, ◌<◌, arith, Bool, true, false, not, cond, ◌&&◌, ◌||◌, ◌-◌, T, suc, List, [], ◌∷◌, ◌++◌, take, drop, length, get_or}
+use Rattle.std.proofs.Common.{◌≡◌, ◌∙◌, ap, sym, subst, refl, ℕ, ◌+◌, ◌<◌, arith, Bool, true, false, not, cond, ◌&&◌}
+use Rattle.std.proofs.Common.{◌||◌, ◌-◌, T, suc, List, [], ◌∷◌, ◌++◌, take, drop, length, get_or}
 use Rattle.std.proofs.lemmas.List.{take_more}
 use Rattle.sorted_pages.specs.Edges.{answer_of, ends_with, begins_with, first_passes, last_passes, is_before_edge}
 

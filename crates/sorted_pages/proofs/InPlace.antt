@@ -1,5 +1,7 @@
 -- One change made at its place.
-use Rattle.std.proofs.Common.{◌≡◌, ◌∙◌, ap, sym, subst, refl, Bool, true, false, cond, ◌&&◌, ◌||◌, T, not, ℕ, suc, ◌+◌, ◌<◌, arith, List, [], ◌∷◌, ◌++◌, take, drop, set, length, get_or, Some, Result, Ok, Err, IfOk, OnErr, Ordering, Less, Equal, Greater, is_lt}
+use Rattle.std.proofs.Common.{◌≡◌, ◌∙◌, ap, sym, subst, refl, Bool, true, false, cond, ◌&&◌, ◌||◌, T, not, ℕ, suc}
+use Rattle.std.proofs.Common.{◌+◌, ◌<◌, arith, List, [], ◌∷◌, ◌++◌, take, drop, set, length, get_or, Some, Result, Ok}
+use Rattle.std.proofs.Common.{Err, IfOk, OnErr, Ordering, Less, Equal, Greater, is_lt}
 use Rattle.std.proofs.Math.Seq.{take-append_seam, drop-append_seam, drop-append-add}
 use Rattle.std.specs.Cmp.{IsTotalOrder}
 use Rattle.std.specs.List.{flat_map, remove, list_all}
@@ -13,7 +15,8 @@ use Rattle.sorted_pages.specs.Changes.{entry_of, entries_put, with_change, witho
 use Rattle.sorted_pages.specs.Edges.{ends_with, begins_with, first_passes, is_before_edge, is_none}
 use Rattle.sorted_pages.proofs.Edges.{first, second}
 use Rattle.sorted_pages.proofs.Flats.{flat_map-append}
-use Rattle.sorted_pages.proofs.Orders.{greater_from, less_from, turned_greater, below_from, below_right, rising_left, rising_right, rising_apart, all_pass, AllBelow-none, AllBelow_left}
+use Rattle.sorted_pages.proofs.Orders.{greater_from, less_from, turned_greater, below_from, below_right, rising_left}
+use Rattle.sorted_pages.proofs.Orders.{rising_right, rising_apart, all_pass, AllBelow-none, AllBelow_left}
 use Rattle.sorted_pages.proofs.Parts.{laid_apart, laid_one, rising-with_changes}
 use Rattle.sorted_pages.proofs.Steps.{less_all_below, rising_parts}
 

@@ -7,7 +7,7 @@ use Rattle.std.specs.Ordering.{is_gt, ordering_reverse}
 use Rattle.std.specs.Cmp.{IsTotalOrder}
 use Rattle.std.specs.FinMap.Entries.{find}
 use Rattle.std.specs.declared.sync.Arc.{Arc}
-use Rattle.sorted_pages.specs.Pages.{single, held, IsFirstBlock}
+use Rattle.sorted_pages.specs.Pages.{singleton, of_block, IsFirstBlock}
 use Rattle.sorted_pages.specs.Sorted.{keyed, IsRising}
 use Rattle.sorted_pages.specs.Edges.{ends_with, begins_with, first_passes, last_passes, is_before_edge}
 use Rattle.sorted_pages.specs.Ranges.{IsMonotone, from_span, until_span, first_within}
@@ -15,7 +15,8 @@ use Rattle.sorted_pages.proofs.Edges.{first, second}
 use Rattle.sorted_pages.proofs.Orders.{rising_left, rising_right, all_fail}
 use Rattle.sorted_pages.proofs.Flats.{flat_map-append, parted}
 use Rattle.sorted_pages.proofs.Steps.{rising_parts}
-use Rattle.sorted_pages.proofs.Stretches.{ends_of_blocks, begins_of_blocks, entries_from, entries_to, blocks_from, block_from, blocks_until, block_until, until_past, until_reaching, lasts_past}
+use Rattle.sorted_pages.proofs.Stretches.{ends_of_blocks, begins_of_blocks, entries_from, entries_to, blocks_from, block_from}
+use Rattle.sorted_pages.proofs.Stretches.{blocks_until, block_until, until_past, until_reaching, lasts_past}
 
 -- what follows in a row, from parts of it
 pub in_a_row : {X : Type 0} (es ps rs gs ss a b c d : List X) → es ++ ps ≡ a → a ++ rs ≡ b → b ++ gs ≡ c → c ++ ss ≡ d
@@ -39,142 +40,129 @@ module _ {E : Type 0} (R : E → E → Ordering) (o : IsTotalOrder R) (side : E 
 
   -- ---- entries
 
-  pub leaves_from : (entries front back : List E) → entries ≡ front ++ back → IsRising R (flat_map single entries)
-      → T (ends_with (λ e. last_passes before (single e)) front) → T (begins_with (λ e. last_passes from (single e)) back)
-      → flat_map single back ≡ from_span side (flat_map single entries)
+  pub leaves_from : (entries front back : List E) → entries ≡ front ++ back → IsRising R (flat_map singleton entries)
+      → T (ends_with (λ e. last_passes before (singleton e)) front) → T (begins_with (λ e. last_passes from (singleton e)) back)
+      → flat_map singleton back ≡ from_span side (flat_map singleton entries)
   leaves_from entries front back e h a b =
-      entries_from R side m (flat_map single entries) (flat_map single front) (flat_map single back)
-      (ap (flat_map single) e ∙ flat_map-append single front back) h
-      (ends_of_blocks before single (λ x. last_passes before (single x)) (λ x k. k) front a)
-      (begins_of_blocks from single (λ x. last_passes from (single x)) (λ x k. k) back b)
+      entries_from R side m (flat_map singleton entries) (flat_map singleton front) (flat_map singleton back)
+      (ap (flat_map singleton) e ∙ flat_map-append singleton front back) h
+      (ends_of_blocks before singleton (λ x. last_passes before (singleton x)) (λ x k. k) front a)
+      (begins_of_blocks from singleton (λ x. last_passes from (singleton x)) (λ x k. k) back b)
 
-  pub leaves_until : (entries front back : List E) → entries ≡ front ++ back → IsRising R (flat_map single entries)
-      → T (ends_with (λ e. first_passes until (single e)) front) → T (begins_with (λ e. first_passes past (single e)) back)
-      → flat_map single front ≡ until_span side (flat_map single entries)
+  pub leaves_until : (entries front back : List E) → entries ≡ front ++ back → IsRising R (flat_map singleton entries)
+      → T (ends_with (λ e. first_passes until (singleton e)) front) → T (begins_with (λ e. first_passes past (singleton e)) back)
+      → flat_map singleton front ≡ until_span side (flat_map singleton entries)
   leaves_until entries front back e h a b =
-      entries_to R side m (flat_map single entries) (flat_map single front) (flat_map single back)
-      (ap (flat_map single) e ∙ flat_map-append single front back) h
-      (ends_of_blocks until single (λ x. first_passes until (single x)) (λ x k. k) front a)
-      (begins_of_blocks past single (λ x. first_passes past (single x)) (λ x k. k) back b)
+      entries_to R side m (flat_map singleton entries) (flat_map singleton front) (flat_map singleton back)
+      (ap (flat_map singleton) e ∙ flat_map-append singleton front back) h
+      (ends_of_blocks until singleton (λ x. first_passes until (singleton x)) (λ x k. k) front a)
+      (begins_of_blocks past singleton (λ x. first_passes past (singleton x)) (λ x k. k) back b)
 
   -- ---- blocks
 
   module _ {X Z : Type 0} (v : X → List E) where
     pub first_rises : (blocks front back rest : List (Arc (List X) Z)) (items : List X) → blocks ≡ front ++ back → IsFirstBlock back items rest
-        → IsRising R (flat_map (held v) blocks) → IsRising R (flat_map v items)
+        → IsRising R (flat_map (of_block v) blocks) → IsRising R (flat_map v items)
     first_rises blocks front back rest items e f h =
-        (rising_parts R o (flat_map (held v) front) (flat_map v items) (flat_map (held v) rest) (flat_map (held v) blocks)
+        (rising_parts R o (flat_map (of_block v) front) (flat_map v items) (flat_map (of_block v) rest) (flat_map (of_block v) blocks)
         (parted v blocks front back rest items e f) h).0
 
     first_from : (back rest : List (Arc (List X) Z)) (items : List X) → IsFirstBlock back items rest
-        → T (begins_with (λ b. last_passes from (held v b)) back)
-        → from_span side (flat_map (held v) back) ≡ from_span side (flat_map v items) ++ flat_map (held v) rest
-    first_from [] rest items f g = sym (λ i. from_span side (flat_map v (f.0 i)) ++ flat_map (held v) (f.1 i))
+        → T (begins_with (λ b. last_passes from (of_block v b)) back)
+        → from_span side (flat_map (of_block v) back) ≡ from_span side (flat_map v items) ++ flat_map (of_block v) rest
+    first_from [] rest items f g = sym (λ i. from_span side (flat_map v (f.0 i)) ++ flat_map (of_block v) (f.1 i))
     first_from (block ∷ blocks) rest items f g =
-        block_from R side m (held v) (λ b. last_passes before (held v b)) (λ b. last_passes from (held v b)) (λ b k. k) (λ b k. k) block blocks g
-        ∙ sym (λ i. from_span side (flat_map v (f.0 i)) ++ flat_map (held v) (f.1 i))
+        block_from R side m (of_block v) (λ b. last_passes before (of_block v b)) (λ b. last_passes from (of_block v b)) (λ b k. k) (λ b k. k) block blocks g
+        ∙ sym (λ i. from_span side (flat_map v (f.0 i)) ++ flat_map (of_block v) (f.1 i))
 
     pub blocks_from_is : (blocks front back rest : List (Arc (List X) Z)) (items : List X) → blocks ≡ front ++ back → IsFirstBlock back items rest
-        → IsRising R (flat_map (held v) blocks)
-        → T (ends_with (λ b. last_passes before (held v b)) front) → T (begins_with (λ b. last_passes from (held v b)) back)
-        → from_span side (flat_map v items) ++ flat_map (held v) rest ≡ from_span side (flat_map (held v) blocks)
+        → IsRising R (flat_map (of_block v) blocks)
+        → T (ends_with (λ b. last_passes before (of_block v b)) front) → T (begins_with (λ b. last_passes from (of_block v b)) back)
+        → from_span side (flat_map v items) ++ flat_map (of_block v) rest ≡ from_span side (flat_map (of_block v) blocks)
     blocks_from_is blocks front back rest items e f h a b =
-        sym (ap (λ bs. from_span side (flat_map (held v) bs)) e
-        ∙ blocks_from R side m (held v) (λ b. last_passes before (held v b)) (λ b. last_passes from (held v b)) (λ b k. k) (λ b k. k)
-        front back (subst (λ bs. IsRising R (flat_map (held v) bs)) e h) a
+        sym (ap (λ bs. from_span side (flat_map (of_block v) bs)) e
+        ∙ blocks_from R side m (of_block v) (λ b. last_passes before (of_block v b)) (λ b. last_passes from (of_block v b)) (λ b k. k) (λ b k. k)
+        front back (subst (λ bs. IsRising R (flat_map (of_block v) bs)) e h) a
         ∙ first_from back rest items f b)
 
     first_until : (ahead back rest : List (Arc (List X) Z)) (items : List X) → IsFirstBlock back items rest
-        → T (is_before_edge (λ b. first_passes until (held v b)) (λ b. first_passes past (held v b)) ahead back)
-        → until_span side (flat_map (held v) back) ≡ until_span side (flat_map v items)
+        → T (is_before_edge (λ b. first_passes until (of_block v b)) (λ b. first_passes past (of_block v b)) ahead back)
+        → until_span side (flat_map (of_block v) back) ≡ until_span side (flat_map v items)
     first_until ahead [] rest items f g = ap (λ xs. until_span side (flat_map v xs)) (sym f.0)
     first_until ahead (block ∷ blocks) rest items f g =
-        block_until R side m (held v) (λ b. first_passes until (held v b)) (λ b. first_passes past (held v b)) (λ b k. k) (λ b k. k)
+        block_until R side m (of_block v) (λ b. first_passes until (of_block v b)) (λ b. first_passes past (of_block v b)) (λ b k. k) (λ b k. k)
         ahead block blocks g ∙ ap (λ xs. until_span side (flat_map v xs)) (sym f.0)
 
     pub blocks_until_is : (blocks ahead back rest : List (Arc (List X) Z)) (items : List X) → blocks ≡ ahead ++ back → IsFirstBlock back items rest
-        → IsRising R (flat_map (held v) blocks)
-        → T (is_before_edge (λ b. first_passes until (held v b)) (λ b. first_passes past (held v b)) ahead back)
-        → flat_map (held v) ahead ++ until_span side (flat_map v items) ≡ until_span side (flat_map (held v) blocks)
+        → IsRising R (flat_map (of_block v) blocks)
+        → T (is_before_edge (λ b. first_passes until (of_block v b)) (λ b. first_passes past (of_block v b)) ahead back)
+        → flat_map (of_block v) ahead ++ until_span side (flat_map v items) ≡ until_span side (flat_map (of_block v) blocks)
     blocks_until_is blocks ahead back rest items e f h g =
-        sym (ap (λ bs. until_span side (flat_map (held v) bs)) e
-        ∙ blocks_until R side m (held v) (λ b. first_passes until (held v b)) (λ b. first_passes past (held v b)) (λ b k. k) (λ b k. k)
-        ahead back (subst (λ bs. IsRising R (flat_map (held v) bs)) e h) g
-        ∙ ap (λ es. flat_map (held v) ahead ++ es) (first_until ahead back rest items f g))
+        sym (ap (λ bs. until_span side (flat_map (of_block v) bs)) e
+        ∙ blocks_until R side m (of_block v) (λ b. first_passes until (of_block v b)) (λ b. first_passes past (of_block v b)) (λ b k. k) (λ b k. k)
+        ahead back (subst (λ bs. IsRising R (flat_map (of_block v) bs)) e h) g
+        ∙ ap (λ es. flat_map (of_block v) ahead ++ es) (first_until ahead back rest items f g))
 
   -- ---- entries, pages, runs, groups and sections in a row
 
-  pub each_rises : (es ps rs gs ss : List E) → IsRising R (es ++ (ps ++ (rs ++ (gs ++ ss))))
-      → IsRising R es × IsRising R ps × IsRising R rs × IsRising R gs × IsRising R ss
-  each_rises es ps rs gs ss h =
-      let pages : IsRising R (ps ++ (rs ++ (gs ++ ss))) = rising_right R es (ps ++ (rs ++ (gs ++ ss))) h in
-      let runs : IsRising R (rs ++ (gs ++ ss)) = rising_right R ps (rs ++ (gs ++ ss)) pages in
-      let groups : IsRising R (gs ++ ss) = rising_right R rs (gs ++ ss) runs in (
-        rising_left R es (ps ++ (rs ++ (gs ++ ss))) h,
-        rising_left R ps (rs ++ (gs ++ ss)) pages,
-        rising_left R rs (gs ++ ss) runs,
-        rising_left R gs ss groups,
-        rising_right R gs ss groups,
-      )
-
-  -- the range ends in a part that others follow
-  ends_in : (front part rest kept : List E) → IsRising R ((front ++ part) ++ rest) → T (first_passes until part) → T (begins_with past rest)
-      → kept ≡ until_span side part → front ++ kept ≡ until_span side ((front ++ part) ++ rest)
-  ends_in front part rest kept h g b k =
-      ap (λ es. front ++ es) k ∙ sym (until_reaching R side m front part (rising_left R (front ++ part) rest h) g)
-      ∙ sym (until_past R side m (front ++ part) rest b)
+  row : (es ps rs more : List E) → (es ++ (ps ++ rs)) ++ more ≡ es ++ (ps ++ (rs ++ more))
+  row es ps rs more = append_assoc es (ps ++ rs) more ∙ ap (λ xs. es ++ xs) (append_assoc ps rs more)
 
   both_past : (xs ys : List E) → T (begins_with past xs) → T (begins_with past ys) → T (begins_with past (xs ++ ys))
   both_past [] ys g h = h
   both_past (x ∷ xs) ys g h = g
 
-  pub until_in_sections : (es ps rs gs ss before tail : List E) → IsRising R (es ++ (ps ++ (rs ++ (gs ++ ss)))) → T (first_passes until ss)
-      → before ++ tail ≡ until_span side ss
-      → (es ++ (ps ++ (rs ++ (gs ++ before)))) ++ tail ≡ until_span side (es ++ (ps ++ (rs ++ (gs ++ ss))))
-  until_in_sections es ps rs gs ss before tail h g k =
-      let front = es ++ (ps ++ (rs ++ gs)) in
-      let row : (zs : List E) → es ++ (ps ++ (rs ++ (gs ++ zs))) ≡ front ++ zs =
-      λ zs. ap (λ xs. es ++ (ps ++ xs)) (sym (append_assoc rs gs zs)) ∙ ap (λ xs. es ++ xs) (sym (append_assoc ps (rs ++ gs) zs))
-      ∙ sym (append_assoc es (ps ++ (rs ++ gs)) zs) in
-      let same : (front ++ ss) ++ [] ≡ es ++ (ps ++ (rs ++ (gs ++ ss))) = append-nil (front ++ ss) ∙ sym (row ss) in
-      ap (λ xs. xs ++ tail) (row before) ∙ append_assoc front before tail
-      ∙ ends_in front ss [] (before ++ tail) (subst (IsRising R) (sym same) h) g tt k
-      ∙ ap (until_span side) same
+  pub until_in_runs : (es ps rs : List E) → IsRising R (es ++ (ps ++ rs)) → T (first_passes until rs)
+      → (es ++ (ps ++ [])) ++ until_span side rs ≡ until_span side (es ++ (ps ++ rs))
+  until_in_runs es ps rs h g =
+      let same : (es ++ ps) ++ rs ≡ es ++ (ps ++ rs) = append_assoc es ps rs in
+      ap (λ xs. (es ++ xs) ++ until_span side rs) (append-nil ps)
+      ∙ sym (until_reaching R side m (es ++ ps) rs (subst (IsRising R) (sym same) h) g) ∙ ap (until_span side) same
 
-  pub until_in_groups : (es ps rs gs ss tail : List E) → IsRising R (es ++ (ps ++ (rs ++ (gs ++ ss)))) → T (begins_with past ss)
-      → T (first_passes until gs)
-      → tail ≡ until_span side gs → (es ++ (ps ++ (rs ++ []))) ++ tail ≡ until_span side (es ++ (ps ++ (rs ++ (gs ++ ss))))
-  until_in_groups es ps rs gs ss tail h b g k =
-      let same : ((es ++ (ps ++ rs)) ++ gs) ++ ss ≡ es ++ (ps ++ (rs ++ (gs ++ ss))) =
-      append_assoc (es ++ (ps ++ rs)) gs ss ∙ append_assoc es (ps ++ rs) (gs ++ ss) ∙ ap (λ xs. es ++ xs) (append_assoc ps rs (gs ++ ss)) in
-      ap (λ xs. (es ++ (ps ++ xs)) ++ tail) (append-nil rs)
-      ∙ ends_in (es ++ (ps ++ rs)) gs ss tail (subst (IsRising R) (sym same) h) g b k ∙ ap (until_span side) same
+  pub until_in_pages : (es ps rs : List E) → IsRising R (es ++ (ps ++ rs)) → T (begins_with past rs) → T (first_passes until ps)
+      → (es ++ []) ++ until_span side ps ≡ until_span side (es ++ (ps ++ rs))
+  until_in_pages es ps rs h b g =
+      let same : (es ++ ps) ++ rs ≡ es ++ (ps ++ rs) = append_assoc es ps rs in
+      ap (λ xs. xs ++ until_span side ps) (append-nil es)
+      ∙ sym (until_reaching R side m es ps (rising_left R (es ++ ps) rs (subst (IsRising R) (sym same) h)) g)
+      ∙ sym (until_past R side m (es ++ ps) rs b) ∙ ap (until_span side) same
 
-  pub until_in_runs : (es ps rs gs ss tail : List E) → IsRising R (es ++ (ps ++ (rs ++ (gs ++ ss)))) → T (begins_with past ss)
-      → T (begins_with past gs) → T (first_passes until rs)
-      → tail ≡ until_span side rs → (es ++ (ps ++ [])) ++ tail ≡ until_span side (es ++ (ps ++ (rs ++ (gs ++ ss))))
-  until_in_runs es ps rs gs ss tail h b c g k =
-      let same : ((es ++ ps) ++ rs) ++ (gs ++ ss) ≡ es ++ (ps ++ (rs ++ (gs ++ ss))) =
-      append_assoc (es ++ ps) rs (gs ++ ss) ∙ append_assoc es ps (rs ++ (gs ++ ss)) in
-      ap (λ xs. (es ++ xs) ++ tail) (append-nil ps)
-      ∙ ends_in (es ++ ps) rs (gs ++ ss) tail (subst (IsRising R) (sym same) h) g (both_past gs ss c b) k ∙ ap (until_span side) same
+  pub until_in_entries : (es ps rs : List E) → T (begins_with past rs) → T (begins_with past ps)
+      → (until_span side es ++ []) ++ [] ≡ until_span side (es ++ (ps ++ rs))
+  until_in_entries es ps rs b c =
+      append-nil (until_span side es ++ []) ∙ append-nil (until_span side es)
+      ∙ sym (until_past R side m es (ps ++ rs) (both_past ps rs c b))
 
-  pub until_in_pages : (es ps rs gs ss tail : List E) → IsRising R (es ++ (ps ++ (rs ++ (gs ++ ss)))) → T (begins_with past ss)
-      → T (begins_with past gs) → T (begins_with past rs) → T (first_passes until ps)
-      → tail ≡ until_span side ps → (es ++ []) ++ tail ≡ until_span side (es ++ (ps ++ (rs ++ (gs ++ ss))))
-  until_in_pages es ps rs gs ss tail h b c d g k =
-      let rest = rs ++ (gs ++ ss) in
-      let same : (es ++ ps) ++ rest ≡ es ++ (ps ++ rest) = append_assoc es ps rest in
-      ap (λ xs. xs ++ tail) (append-nil es)
-      ∙ ends_in es ps rest tail (subst (IsRising R) (sym same) h) g (both_past rs (gs ++ ss) d (both_past gs ss c b)) k
-      ∙ ap (until_span side) same
+  module _ (es ps rs gs ss all : List E) (is : es ++ (ps ++ (rs ++ (gs ++ ss))) ≡ all) (h : IsRising R all) where
+    abbrev front : List E
+    front = es ++ (ps ++ rs)
 
-  pub until_in_entries : (es ps rs gs ss before : List E) → T (begins_with past ss) → T (begins_with past gs) → T (begins_with past rs)
-      → T (begins_with past ps)
-      → before ≡ until_span side es → (before ++ []) ++ [] ≡ until_span side (es ++ (ps ++ (rs ++ (gs ++ ss))))
-  until_in_entries es ps rs gs ss before b c d f k =
-      append-nil (before ++ []) ∙ append-nil before ∙ k
-      ∙ sym (until_past R side m es (ps ++ (rs ++ (gs ++ ss))) (both_past ps (rs ++ (gs ++ ss)) f (both_past rs (gs ++ ss) d (both_past gs ss c b))))
+    parts : (front ++ gs) ++ ss ≡ all
+    parts = append_assoc front gs ss ∙ row es ps rs (gs ++ ss) ∙ is
+
+    pub each_rises : IsRising R front × IsRising R gs × IsRising R ss
+    each_rises =
+        let rises : IsRising R ((front ++ gs) ++ ss) = subst (IsRising R) (sym parts) h in
+        let most : IsRising R (front ++ gs) = rising_left R (front ++ gs) ss rises in
+        (rising_left R front gs most, rising_right R front gs most, rising_right R (front ++ gs) ss rises)
+
+    pub until_in_sections : (before tail : List E) → T (first_passes until ss) → before ++ tail ≡ until_span side ss
+        → (es ++ (ps ++ (rs ++ (gs ++ before)))) ++ tail ≡ until_span side all
+    until_in_sections before tail g k =
+        ap (λ xs. xs ++ tail) (sym (append_assoc front gs before ∙ row es ps rs (gs ++ before)))
+        ∙ append_assoc (front ++ gs) before tail ∙ ap (λ xs. (front ++ gs) ++ xs) k
+        ∙ sym (until_reaching R side m (front ++ gs) ss (subst (IsRising R) (sym parts) h) g) ∙ ap (until_span side) parts
+
+    pub until_in_groups : T (begins_with past ss) → T (first_passes until gs)
+        → (es ++ (ps ++ (rs ++ []))) ++ until_span side gs ≡ until_span side all
+    until_in_groups b g =
+        ap (λ xs. (es ++ (ps ++ xs)) ++ until_span side gs) (append-nil rs)
+        ∙ sym (until_reaching R side m front gs (rising_left R (front ++ gs) ss (subst (IsRising R) (sym parts) h)) g)
+        ∙ sym (until_past R side m (front ++ gs) ss b) ∙ ap (until_span side) parts
+
+    pub until_before_groups : T (begins_with past ss) → T (begins_with past gs) → until_span side front ≡ until_span side all
+    until_before_groups b c =
+        sym (until_past R side m front gs c) ∙ sym (until_past R side m (front ++ gs) ss b) ∙ ap (until_span side) parts
 
   -- ---- the first in the range
 

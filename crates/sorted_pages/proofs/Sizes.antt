@@ -1,10 +1,11 @@
 -- The lengths of pages.
-use Rattle.std.proofs.Common.{◌≡◌, ◌∙◌, ap, sym, subst, refl, ℕ, ◌+◌, ◌<◌, ◌≤◌, Bool, ◌&&◌, T, nat_lt, nat_le, sum, List, [], ◌∷◌, ◌++◌, length, append_assoc, length-append, lt-ltb, le-leb}
+use Rattle.std.proofs.Common.{◌≡◌, ◌∙◌, ap, sym, subst, refl, ℕ, ◌+◌, ◌<◌, ◌≤◌, Bool, ◌&&◌, T, nat_lt, nat_le, sum, List, [], ◌∷◌, ◌++◌}
+use Rattle.std.proofs.Common.{length, length-append, lt-ltb, le-leb}
 use Rattle.std.proofs.lemmas.List.Sums.{sum_by_push}
-use Rattle.std.specs.List.{flat_map, list_all}
+use Rattle.std.specs.List.{list_all}
 use Rattle.std.specs.Arc.{arc_value}
 use Rattle.std.specs.declared.sync.Arc.{Arc}
-use Rattle.sorted_pages.specs.Pages.{of_page, of_run, of_group, of_section, ahead, AreSizes}
+use Rattle.sorted_pages.specs.Pages.{of_page, AreSizes}
 use Rattle.sorted_pages.proofs.Edges.{both, first, second}
 use Rattle.sorted_pages.proofs.Orders.{holds_from}
 use Rattle.sorted_pages.proofs.Flats.{singles}
@@ -31,11 +32,7 @@ pub no_sizes : AreSizes [] 0
 no_sizes = record { total = refl; fit = tt }
 
 -- the entries of one page, and those after it
-pub one_page : {E W X Y Z : Type 0} (left pages : List (Arc (List E) Z)) (page : Arc (List E) Z) (runs : List (Arc (List (Arc (List E) Z)) Y))
-    (groups : List (Arc (List (Arc (List (Arc (List E) Z)) Y)) X))
-    (sections : List (Arc (List (Arc (List (Arc (List (Arc (List E) Z)) Y)) X)) W)) → left ≡ page ∷ pages
-    → length (ahead [] left runs groups sections) ≡ length (arc_value page) + length (ahead [] pages runs groups sections)
-one_page left pages page runs groups sections e =
-    ap (λ ps. length (ahead [] ps runs groups sections)) e
-    ∙ ap length (append_assoc (of_page page) (flat_map of_page pages) (flat_map of_run runs ++ (flat_map of_group groups ++ flat_map of_section sections)))
-    ∙ length-append (of_page page) (ahead [] pages runs groups sections) ∙ ap (λ es. length es + length (ahead [] pages runs groups sections)) (singles (arc_value page))
+pub one_page : {E Z : Type 0} (page : Arc (List E) Z) (left rest : List E) → left ≡ of_page page ++ rest
+    → length left ≡ length (arc_value page) + length rest
+one_page page left rest e =
+    ap length e ∙ length-append (of_page page) rest ∙ ap (λ es. length es + length rest) (singles (arc_value page))

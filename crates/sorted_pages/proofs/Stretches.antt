@@ -1,5 +1,6 @@
 -- The entries from the first on that does not stand before a range, and those up to the first that stands past it.
-use Rattle.std.proofs.Common.{◌≡◌, ◌∙◌, ap, sym, subst, refl, Bool, true, false, cond, not, ◌&&◌, ◌||◌, T, List, [], ◌∷◌, ◌++◌, append-nil, Ordering, Less, Equal, Greater, is_lt, is_eq}
+use Rattle.std.proofs.Common.{◌≡◌, ◌∙◌, ap, sym, subst, refl, Bool, true, false, cond, not, ◌&&◌, ◌||◌, T, List, []}
+use Rattle.std.proofs.Common.{◌∷◌, ◌++◌, append-nil, Ordering, Less, Equal, Greater, is_lt, is_eq}
 use Rattle.std.specs.List.{list_all, flat_map}
 use Rattle.std.specs.Ordering.{is_gt}
 use Rattle.sorted_pages.specs.Sorted.{IsRising, AllBelow}

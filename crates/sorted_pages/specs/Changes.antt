@@ -1,5 +1,5 @@
 -- What changes make of a plain sorted list, in the words of std.
-use Rattle.std.specs.Prelude.{not, cond, List, [], ◌∷◌}
+use Rattle.std.specs.Prelude.{Bool, not, cond, List, [], ◌∷◌}
 use Rattle.std.specs.Ordering.{eq_by_cmp}
 use Rattle.std.specs.declared.cmp.Ordering.{Ordering}
 use Rattle.std.specs.FinMap.Entries.{put, where_key}
@@ -16,6 +16,10 @@ entry_of (Remove entry) = entry
 abbrev pub with_change : {E : Type 0} → (E → E → Ordering) → Edit E → List E → List E
 with_change R (Put entry) es = entries (put R entry entry (keyed es))
 with_change R (Remove entry) es = entries (where_key R (λ k. not (eq_by_cmp R entry k)) (keyed es))
+
+-- the list after one change, if it was made
+abbrev pub with_change_if : {E : Type 0} → Bool → (E → E → Ordering) → Edit E → List E → List E
+with_change_if is_made R c es = cond is_made (with_change R c es) es
 
 -- the list after the changes, one after another
 abbrev pub with_changes : {E : Type 0} → (E → E → Ordering) → List (Edit E) → List E → List E

@@ -1,7 +1,8 @@
 -- Keys of the ends of blocks are those of their items.
-use Rattle.std.proofs.Common.{◌≡◌, ◌∙◌, ap, sym, subst, refl, ℕ, List, [], ◌∷◌, ◌++◌, append_assoc, append-nil, Option, Some, None}
+use Rattle.std.proofs.Common.{◌≡◌, ◌∙◌, ap, sym, subst, refl, ℕ, Option, Some, None}
+use Rattle.std.proofs.Common.{List, [], ◌∷◌, ◌++◌, append_assoc, append-nil}
 use Rattle.std.specs.List.{flat_map}
-use Rattle.sorted_pages.specs.Pages.{single}
+use Rattle.sorted_pages.specs.Pages.{singleton}
 use Rattle.sorted_pages.specs.Keys.{first_of, last_of, BeginsWithKey, EndsWithKey}
 
 abbrev read_some : ℕ → Option ℕ → ℕ
@@ -19,11 +20,11 @@ no_none : (n : ℕ) → Some n ≡ None → ⊥
 no_none n h = subst IsSome h tt
 
 pub leaf_begins : {E : Type 0} (key : E → ℕ) (leaf : E) (n : ℕ) → Some n ≡ Some (key leaf)
-    → BeginsWithKey key n (single leaf)
+    → BeginsWithKey key n (singleton leaf)
 leaf_begins key leaf n h = (leaf, ([], refl), same_some n (key leaf) h)
 
 pub leaf_ends : {E : Type 0} (key : E → ℕ) (leaf : E) (n : ℕ) → Some n ≡ Some (key leaf)
-    → EndsWithKey key n (single leaf)
+    → EndsWithKey key n (singleton leaf)
 leaf_ends key leaf n h = (leaf, ([], refl), same_some n (key leaf) h)
 
 module _ {X E : Type 0} (v : X → List E) (k : X → Option ℕ) (key : E → ℕ) where

@@ -5,42 +5,30 @@ use Rattle.std.specs.Arc.{arc_value}
 use Rattle.std.specs.declared.sync.Arc.{Arc}
 
 -- an entry, in a list
-abbrev pub single : {E : Type 0} → E → List E
-single e = e ∷ []
+abbrev pub singleton : {E : Type 0} → E → List E
+singleton e = e ∷ []
 
 -- the entries of a block, by those of each of its items
-abbrev pub held : {X E Z : Type 0} → (X → List E) → Arc (List X) Z → List E
-held v block = flat_map v (arc_value block)
+abbrev pub of_block : {X E Z : Type 0} → (X → List E) → Arc (List X) Z → List E
+of_block v block = flat_map v (arc_value block)
 
 -- the entries of a page, of a run of pages, of a group of runs and of a section of groups
 abbrev pub of_page : {E Z : Type 0} → Arc (List E) Z → List E
-of_page page = held single page
+of_page page = of_block singleton page
 
 abbrev pub of_run : {E Y Z : Type 0} → Arc (List (Arc (List E) Z)) Y → List E
-of_run run = held of_page run
+of_run run = of_block of_page run
 
 abbrev pub of_group : {E X Y Z : Type 0} → Arc (List (Arc (List (Arc (List E) Z)) Y)) X → List E
-of_group group = held of_run group
+of_group group = of_block of_run group
 
 abbrev pub of_section : {E W X Y Z : Type 0} → Arc (List (Arc (List (Arc (List (Arc (List E) Z)) Y)) X)) W → List E
-of_section section = held of_group section
+of_section section = of_block of_group section
 
 -- the items of a block that was cut off, if one was
 abbrev pub items_of : {X Z : Type 0} → Option (Arc (List X) Z) → List X
 items_of None = []
 items_of (Some block) = arc_value block
-
--- the rest of a page, of a run, of a group, of a section and of the list, one after another
-abbrev pub ahead : {E W X Y Z : Type 0} → List E → List (Arc (List E) Z) → List (Arc (List (Arc (List E) Z)) Y)
-    → List (Arc (List (Arc (List (Arc (List E) Z)) Y)) X) → List (Arc (List (Arc (List (Arc (List (Arc (List E) Z)) Y)) X)) W) → List E
-ahead entries pages runs groups sections =
-    flat_map single entries ++ (flat_map of_page pages ++ (flat_map of_run runs
-    ++ (flat_map of_group groups ++ flat_map of_section sections)))
-
--- the first groups of a section, runs of a group, pages of a run and entries of a page, one after another
-abbrev pub behind : {E X Y Z : Type 0} → List (Arc (List (Arc (List (Arc (List E) Z)) Y)) X) → List (Arc (List (Arc (List E) Z)) Y)
-    → List (Arc (List E) Z) → List E → List E
-behind groups runs pages entries = flat_map of_group groups ++ (flat_map of_run runs ++ (flat_map of_page pages ++ flat_map single entries))
 
 -- these are the items of the first block and the blocks after it
 abbrev pub IsFirstBlock : {X Z : Type 0} → List (Arc (List X) Z) → List X → List (Arc (List X) Z) → Type 0

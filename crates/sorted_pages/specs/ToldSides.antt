@@ -1,4 +1,4 @@
--- Where entries with lesser keys stand before a range, and those with greater keys past it, keys that differ tell the sides.
+-- Where lesser keys stand before a range and greater keys past it, keys that differ tell the sides.
 use Rattle.std.proofs.Common.{◌≡◌, sym, subst, ℕ, ◌<◌, Ordering, Less, Equal, Greater}
 use Rattle.std.specs.Cmp.{ranks}
 use Rattle.std.specs.Ordering.{nat_cmp, MatchOrdering}

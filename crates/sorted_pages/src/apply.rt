@@ -3,7 +3,7 @@ ghost use Rattle.std.specs.Prelude.{◌≡◌, ◌++◌, ◌∷◌, [], ◌-◌,
 ghost use Rattle.std.specs.List.{list_all, flat_map};
 ghost use Rattle.std.specs.Ordering.{is_lt};
 ghost use Rattle.sorted_pages.specs.Edges.{begins_with};
-ghost use Rattle.sorted_pages.specs.Pages.{held, single, IsFirst, IsFirstBlock};
+ghost use Rattle.sorted_pages.specs.Pages.{of_block, singleton, IsFirst, IsFirstBlock};
 ghost use Rattle.sorted_pages.specs.Sorted.{IsRising, AllBelow, PassesBelow, is_below};
 ghost use Rattle.sorted_pages.specs.Changes.{entry_of, entries_put, with_changes, without_tied};
 
@@ -51,7 +51,8 @@ fn most_owners<E: PageEntry, T: Level<E>>(items: &[T]) -> usize {
     most
 }
 
-/// Appends the same items. All are read before the first is written: what is shared lies far apart, and reads overlap where counting up does not.
+/// Appends shares of the items. All are read before the first is written:
+/// what is shared lies far apart, and reads overlap where counting up does not.
 fn share_all<E: PageEntry, T: Level<E>, U: Grow<E, T>>(
     items: &[T],
     grown: &mut U,
@@ -194,9 +195,9 @@ fn apply_to_block<E: PageEntry, T: Changing<E>, U: Grow<E, Arc<Block<T>>>>(
         ≡ U.all grown ++ with_changes E.order changes.now (flat_map T.entries items.now)) }
 {
     let room = items.len().saturating_add(changes.len());
-    let tier: LevelBuilder<T, U> = begin(alloc, Layout::Halved, room, grown)?;
-    let tier: LevelBuilder<T, U> = T::apply(alloc, items, changes, tier)?;
-    finish(tier)
+    let builder: LevelBuilder<T, U> = begin(alloc, Layout::Halved, room, grown)?;
+    let builder: LevelBuilder<T, U> = T::apply(alloc, items, changes, builder)?;
+    finish(builder)
 }
 
 /// Appends the blocks with changes applied.
@@ -206,10 +207,10 @@ pub(crate) fn apply_to_blocks<E: PageEntry, T: Changing<E>, U: Grow<E, Arc<Block
     changes: &[Edit<E>],
     mut grown: U,
 ) -> Result<U, AllocError>
-    requires blocks { IsRising E.order (flat_map (held T.entries) blocks.now) }
+    requires blocks { IsRising E.order (flat_map (of_block T.entries) blocks.now) }
     requires changes { IsRising E.order (map entry_of changes.now) }
     ensures { IfOk result (λ laid. U.all laid
-        ≡ U.all grown ++ with_changes E.order changes.now (flat_map (held T.entries) blocks.now)) }
+        ≡ U.all grown ++ with_changes E.order changes.now (flat_map (of_block T.entries) blocks.now)) }
 {
     let mut left = blocks;
     let mut ahead = changes;
@@ -235,9 +236,9 @@ pub(crate) fn fill_blocks<E: PageEntry, T: Changing<E>, U: Grow<E, Arc<Block<T>>
 ) -> Result<U, AllocError>
     ensures { IfOk result (λ filled. U.all filled ≡ U.all grown ++ entries.items) }
 {
-    let tier: LevelBuilder<T, U> = begin(alloc, layout, entries.len(), grown)?;
-    let tier: LevelBuilder<T, U> = T::fill(alloc, layout, entries, tier)?;
-    finish(tier)
+    let builder: LevelBuilder<T, U> = begin(alloc, layout, entries.len(), grown)?;
+    let builder: LevelBuilder<T, U> = T::fill(alloc, layout, entries, builder)?;
+    finish(builder)
 }
 
 impl<E: PageEntry, T: Changing<E>> Changing<E> for Arc<Block<T>> {

@@ -1,11 +1,11 @@
 //! A sorted run of items, with a sum of them and the keys of its ends.
-ghost use Rattle.std.specs.Prelude.{◌≡◌, ◌++◌, ◌<◌, ◌≤◌, List, length, Some, if◌then◌else◌, IfOk, OnErr, IsFalse};
+ghost use Rattle.std.specs.Prelude.{◌≡◌, ◌++◌, ◌<◌, ◌≤◌, List, length, Some, IfOk, OnErr, IsFalse};
 ghost use Rattle.std.specs.List.{flat_map};
 ghost use Rattle.std.specs.Arc.{arc_value};
 ghost use Rattle.sorted_pages.specs.Keys.{first_of, last_of};
-ghost use Rattle.sorted_pages.specs.Pages.{held, IsFirst, IsLast};
+ghost use Rattle.sorted_pages.specs.Pages.{of_block, IsFirst, IsLast};
 ghost use Rattle.sorted_pages.specs.Sorted.{IsRising};
-ghost use Rattle.sorted_pages.specs.Changes.{with_change};
+ghost use Rattle.sorted_pages.specs.Changes.{with_change_if};
 
 use crate::edit::Edit;
 use crate::entry::{Edged, PageEntry};
@@ -14,7 +14,9 @@ use std::alloc::{AllocError, Global};
 use std::marker::Model;
 use std::sync::Arc;
 
-/// One to 64 items, with a sum of them, and the keys of the first entry and of the last. Contracts see the list of the items.
+/// One to 64 items, with a sum of them, and the keys of the first entry and of the last.
+///
+/// Contracts see the list of the items.
 #[derive(Drop)]
 pub(crate) struct Block<T: Edged> {
     items: Vec<T>,
@@ -31,11 +33,12 @@ impl<T: Edged> Model for Block<T> {
 
     ghost view = { λ b. b.items.items };
 
-    ghost invariant = { λ b. IsBlock T.members T.keeps T.first_key T.last_key b.items.items b.kept b.first_key b.last_key };
+    ghost invariant = { λ b. IsBlock T.members T.keeps T.first_key T.last_key
+        b.items.items b.kept b.first_key b.last_key };
 }
 
 /// A sum with items at the end.
-pub(crate) fn added_to<T: Edged>(before: T::Sum, items: &[T]) -> T::Sum
+pub(crate) fn add_all<T: Edged>(before: T::Sum, items: &[T]) -> T::Sum
     ensures { (xs : List T.Entry) → T.tells before xs → T.tells result (xs ++ flat_map T.members items.now) }
 {
     let mut sum = before;
@@ -43,7 +46,7 @@ pub(crate) fn added_to<T: Edged>(before: T::Sum, items: &[T]) -> T::Sum
         if T::is_settled(&sum) {
             return sum;
         }
-        sum = item.added_to(sum);
+        sum = item.add_to(sum);
     }
     sum
 }
@@ -76,9 +79,9 @@ fn kept_of<T: Edged>(alloc: Global, items: &[T]) -> T::Kept
     requires { 0 < length items.now }
     ensures { T.keeps result (flat_map T.members items.now) }
 {
-    match T::kept_by_ends(&items[0], last_of(items)) {
+    match T::keep_by_ends(&items[0], last_of(items)) {
         Some(kept) => kept,
-        None => T::kept(alloc, added_to(T::none(), items)),
+        None => T::keep(alloc, add_all(T::none(), items)),
     }
 }
 
@@ -127,8 +130,7 @@ pub(crate) fn change_items<E: PageEntry, T: InPlace<E>>(
 ) -> Result<bool, AllocError>
     requires { IsRising E.order (flat_map T.entries block.old) }
     ensures entries { IfOk result (λ is_made. flat_map T.entries block.new
-        ≡ (if is_made then with_change E.order change.now (flat_map T.entries block.old)
-        else flat_map T.entries block.old)) }
+        ≡ with_change_if is_made E.order change.now (flat_map T.entries block.old)) }
     ensures same { IfOk result (λ is_made. IsFalse is_made → block.new ≡ block.old) }
     ensures failed { OnErr result (block.new ≡ block.old) }
 {
@@ -148,7 +150,7 @@ impl<T: Edged> Edged for Arc<Block<T>> {
 
     ghost Entry = { T.Entry };
 
-    ghost members = { λ block. held T.members block };
+    ghost members = { λ block. of_block T.members block };
 
     ghost tells = { λ sum entries. T.tells sum entries };
 
@@ -162,24 +164,24 @@ impl<T: Edged> Edged for Arc<Block<T>> {
         T::none()
     }
 
-    fn added_to(&self, sum: T::Sum) -> T::Sum {
+    fn add_to(&self, sum: T::Sum) -> T::Sum {
         let block: &Block<T> = self;
-        T::joined(sum, &block.kept)
+        T::join(sum, &block.kept)
     }
 
-    fn joined(sum: T::Sum, kept: &T::Kept) -> T::Sum {
-        T::joined(sum, kept)
+    fn join(sum: T::Sum, kept: &T::Kept) -> T::Sum {
+        T::join(sum, kept)
     }
 
-    fn kept(alloc: Global, sum: T::Sum) -> T::Kept {
-        T::kept(alloc, sum)
+    fn keep(alloc: Global, sum: T::Sum) -> T::Kept {
+        T::keep(alloc, sum)
     }
 
     fn is_settled(sum: &T::Sum) -> bool {
         T::is_settled(sum)
     }
 
-    fn kept_by_ends(_: &Arc<Block<T>>, _: &Arc<Block<T>>) -> Option<T::Kept> {
+    fn keep_by_ends(_: &Arc<Block<T>>, _: &Arc<Block<T>>) -> Option<T::Kept> {
         None
     }
 

@@ -42,7 +42,7 @@ pub(crate) struct LevelBuilder<T: Edged + Drop, U> {
 }
 
 impl<E: PageEntry, T: Level<E>, U: Grow<E, Arc<Block<T>>>> Grow<E, T> for LevelBuilder<T, U> {
-    ghost all = { λ tier. U.all tier.above ++ flat_map T.entries tier.rest };
+    ghost all = { λ builder. U.all builder.above ++ flat_map T.entries builder.rest };
 
     fn put(&mut self, item: T) -> Result<(), AllocError> {
         if let Some(block) = self.rest.push(item)? {
@@ -69,20 +69,20 @@ pub(crate) fn begin<E: PageEntry, T: Level<E>, U: Grow<E, Arc<Block<T>>>>(
     room: usize,
     above: U,
 ) -> Result<LevelBuilder<T, U>, AllocError>
-    ensures { IfOk result (λ tier. U.all tier.above ++ flat_map T.entries tier.rest ≡ U.all above) }
+    ensures { IfOk result (λ builder. U.all builder.above ++ flat_map T.entries builder.rest ≡ U.all above) }
 {
-    let mut rest = BlockSplitter::new(alloc, layout, T::most());
+    let mut rest = BlockSplitter::new(alloc, layout, T::most_in_block());
     rest.reserve(room)?;
     Ok(LevelBuilder { above, rest })
 }
 
 /// The list above, with the items that stand in no block yet in one more.
 pub(crate) fn finish<E: PageEntry, T: Level<E>, U: Grow<E, Arc<Block<T>>>>(
-    tier: LevelBuilder<T, U>,
+    builder: LevelBuilder<T, U>,
 ) -> Result<U, AllocError>
-    ensures { IfOk result (λ above. U.all above ≡ U.all tier.above ++ flat_map T.entries tier.rest) }
+    ensures { IfOk result (λ above. U.all above ≡ U.all builder.above ++ flat_map T.entries builder.rest) }
 {
-    let LevelBuilder { mut above, rest } = tier;
+    let LevelBuilder { mut above, rest } = builder;
     if let Some(block) = rest.end()? {
         above.put(block)?;
     }

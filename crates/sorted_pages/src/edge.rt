@@ -62,7 +62,8 @@ pub(crate) fn split_at_edge<'a, E, T, P: Test<E, T>>(items: &'a [T], test: &P) -
     items.split_at(edge_between(items, test, low, high))
 }
 
-/// The items before some place where the test stops to hold, but for the last of them; and that one with those from there on.
+/// The items before some place where the test stops to hold, but for the last of them,
+/// and that one with those from there on.
 pub(crate) fn split_before_edge<'a, E, T, P: Test<E, T>>(
     items: &'a [T],
     test: &P,

@@ -26,15 +26,15 @@ pub trait Summed {
         ensures { tells result [] };
 
     /// A sum with this one at the end.
-    fn added_to(&self, sum: Self::Sum) -> Self::Sum
+    fn add_to(&self, sum: Self::Sum) -> Self::Sum
         ensures { (xs : List Self) → tells sum xs → tells result (xs ++ self.now ∷ []) };
 
     /// A sum with what a page holds at the end.
-    fn joined(sum: Self::Sum, kept: &Self::Kept) -> Self::Sum
+    fn join(sum: Self::Sum, kept: &Self::Kept) -> Self::Sum
         ensures { (xs ys : List Self) → tells sum xs → keeps kept.now ys → tells result (xs ++ ys) };
 
     /// What a page keeps of a sum. Where memory for it is refused, it is to keep less.
-    fn kept(alloc: Global, sum: Self::Sum) -> Self::Kept
+    fn keep(alloc: Global, sum: Self::Sum) -> Self::Kept
         ensures { (xs : List Self) → tells sum xs → keeps result xs };
 
     /// Whether a sum holds of every list, so that nothing more is added to it.
@@ -45,7 +45,7 @@ pub trait Summed {
     }
 
     /// What a page keeps that begins and ends with these, where that is plain without a look at the others.
-    fn kept_by_ends(_first: &Self, _last: &Self) -> Option<Self::Kept>
+    fn keep_by_ends(_first: &Self, _last: &Self) -> Option<Self::Kept>
         ensures { IfSome result (λ kept. (xs : List Self) → keeps kept xs) }
     {
         None
@@ -69,19 +69,19 @@ pub(crate) trait Edged {
     fn none() -> Self::Sum
         ensures { tells result [] };
 
-    fn added_to(&self, sum: Self::Sum) -> Self::Sum
+    fn add_to(&self, sum: Self::Sum) -> Self::Sum
         ensures { (xs : List Entry) → tells sum xs → tells result (xs ++ members self.now) };
 
-    fn joined(sum: Self::Sum, kept: &Self::Kept) -> Self::Sum
+    fn join(sum: Self::Sum, kept: &Self::Kept) -> Self::Sum
         ensures { (xs ys : List Entry) → tells sum xs → keeps kept.now ys → tells result (xs ++ ys) };
 
-    fn kept(alloc: Global, sum: Self::Sum) -> Self::Kept
+    fn keep(alloc: Global, sum: Self::Sum) -> Self::Kept
         ensures { (xs : List Entry) → tells sum xs → keeps result xs };
 
     fn is_settled(sum: &Self::Sum) -> bool
         ensures { IsTrue result → (xs : List Entry) → tells sum.now xs };
 
-    fn kept_by_ends(first: &Self, last: &Self) -> Option<Self::Kept>
+    fn keep_by_ends(first: &Self, last: &Self) -> Option<Self::Kept>
         ensures { IfSome result (λ kept. (xs : List Entry) → keeps kept xs) };
 
     ghost first_key: { Self → Option ℕ };
@@ -99,7 +99,8 @@ pub(crate) trait Edged {
 pub trait PageEntry: Summed + Drop {
     ghost order: { Self → Self → Ordering };
 
-    /// The most of these that a page holds. A changed copy of a list copies each page that changes, and pieces of more than a kilobyte are dear to ask for.
+    /// The most entries that a page holds. A changed copy of a list copies each page that changes,
+    /// and pieces of memory above a kilobyte are slow to allocate.
     fn most_in_page() -> usize
         ensures some { 2 ≤ result }
         ensures few { result ≤ 64 }

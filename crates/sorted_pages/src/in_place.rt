@@ -1,11 +1,12 @@
 //! One change made in pages, runs, groups and sections that no other list holds. Where it fits, no page is copied.
-ghost use Rattle.std.specs.Prelude.{◌≡◌, ◌++◌, ◌<◌, ◌≤◌, ◌+◌, take, drop, length, if◌then◌else◌, IfOk, OnErr, IsFalse, T as Holds};
+ghost use Rattle.std.specs.Prelude.{◌≡◌, ◌++◌, ◌<◌, ◌≤◌, ◌+◌, take, drop, length, if◌then◌else◌};
+ghost use Rattle.std.specs.Prelude.{IfOk, OnErr, IsFalse, T as Holds};
 ghost use Rattle.std.specs.List.{flat_map};
 ghost use Rattle.std.specs.Ordering.{eq_by_cmp};
 ghost use Rattle.sorted_pages.specs.Edges.{first_passes};
-ghost use Rattle.sorted_pages.specs.Pages.{held, single};
+ghost use Rattle.sorted_pages.specs.Pages.{of_block, singleton};
 ghost use Rattle.sorted_pages.specs.Sorted.{IsRising};
-ghost use Rattle.sorted_pages.specs.Changes.{entries_put, with_change};
+ghost use Rattle.sorted_pages.specs.Changes.{entries_put, with_change_if};
 
 use crate::apply::split_at_place;
 use crate::block::{Block, change_items};
@@ -25,8 +26,7 @@ pub(crate) trait InPlace<E: PageEntry>: Level<E> {
     fn change(items: &mut Vec<Self>, change: &Edit<E>) -> Result<bool, AllocError>
         requires { IsRising E.order (flat_map Self.entries items.old.items) }
         ensures entries { IfOk result (λ is_made. flat_map Self.entries items.new.items
-            ≡ (if is_made then with_change E.order change.now (flat_map Self.entries items.old.items)
-            else flat_map Self.entries items.old.items)) }
+            ≡ with_change_if is_made E.order change.now (flat_map Self.entries items.old.items)) }
         ensures same { IfOk result (λ is_made. IsFalse is_made → items.new.items ≡ items.old.items) }
         ensures failed { OnErr result (items.new.items ≡ items.old.items) }
         ensures some { 0 < length items.old.items → 0 < length items.new.items }
@@ -87,10 +87,9 @@ fn is_tied<E: PageEntry>(entries: &[Leaf<E>], entry: &E) -> bool
 
 impl<E: PageEntry> InPlace<E> for Leaf<E> {
     fn change(items: &mut Vec<Leaf<E>>, change: &Edit<E>) -> Result<bool, AllocError>
-        requires { IsRising E.order (flat_map single items.old.items) }
-        ensures entries { IfOk result (λ is_made. flat_map single items.new.items
-            ≡ (if is_made then with_change E.order change.now (flat_map single items.old.items)
-            else flat_map single items.old.items)) }
+        requires { IsRising E.order (flat_map singleton items.old.items) }
+        ensures entries { IfOk result (λ is_made. flat_map singleton items.new.items
+            ≡ with_change_if is_made E.order change.now (flat_map singleton items.old.items)) }
         ensures same { IfOk result (λ is_made. IsFalse is_made → items.new.items ≡ items.old.items) }
         ensures failed { OnErr result (items.new.items ≡ items.old.items) }
         ensures some { 0 < length items.old.items → 0 < length items.new.items }
@@ -108,9 +107,9 @@ fn change_block<E: PageEntry, T: InPlace<E>>(
     block: &mut Arc<Block<T>>,
     change: &Edit<E>,
 ) -> Result<bool, AllocError>
-    requires { IsRising E.order (held T.entries block.old) }
-    ensures entries { IfOk result (λ is_made. held T.entries block.new
-        ≡ (if is_made then with_change E.order change.now (held T.entries block.old) else held T.entries block.old)) }
+    requires { IsRising E.order (of_block T.entries block.old) }
+    ensures entries { IfOk result (λ is_made. of_block T.entries block.new
+        ≡ with_change_if is_made E.order change.now (of_block T.entries block.old)) }
     ensures same { IfOk result (λ is_made. IsFalse is_made → block.new ≡ block.old) }
     ensures failed { OnErr result (block.new ≡ block.old) }
 {
@@ -122,10 +121,9 @@ fn change_block<E: PageEntry, T: InPlace<E>>(
 
 impl<E: PageEntry, T: InPlace<E>> InPlace<E> for Arc<Block<T>> {
     fn change(items: &mut Vec<Arc<Block<T>>>, change: &Edit<E>) -> Result<bool, AllocError>
-        requires { IsRising E.order (flat_map (held T.entries) items.old.items) }
-        ensures entries { IfOk result (λ is_made. flat_map (held T.entries) items.new.items
-            ≡ (if is_made then with_change E.order change.now (flat_map (held T.entries) items.old.items)
-            else flat_map (held T.entries) items.old.items)) }
+        requires { IsRising E.order (flat_map (of_block T.entries) items.old.items) }
+        ensures entries { IfOk result (λ is_made. flat_map (of_block T.entries) items.new.items
+            ≡ with_change_if is_made E.order change.now (flat_map (of_block T.entries) items.old.items)) }
         ensures same { IfOk result (λ is_made. IsFalse is_made → items.new.items ≡ items.old.items) }
         ensures failed { OnErr result (items.new.items ≡ items.old.items) }
         ensures some { 0 < length items.old.items → 0 < length items.new.items }

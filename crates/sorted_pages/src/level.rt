@@ -2,7 +2,7 @@
 ghost use Rattle.std.specs.Prelude.{◌≡◌, ◌≤◌, ◌+◌, ◌++◌, ℕ, List, length, IfOk, OnOk, Some};
 ghost use Rattle.std.specs.List.{flat_map};
 ghost use Rattle.sorted_pages.specs.Keys.{BeginsWithKey, EndsWithKey};
-ghost use Rattle.sorted_pages.specs.Pages.{single, held, IsFirst, IsLast};
+ghost use Rattle.sorted_pages.specs.Pages.{singleton, of_block, IsFirst, IsLast};
 
 use crate::block::Block;
 use crate::entry::{Edged, PageEntry};
@@ -15,7 +15,7 @@ pub(crate) trait Level<E: PageEntry>: Edged + Drop {
     ghost entries: { Self → List E };
 
     /// The most of these that a block holds.
-    fn most() -> usize
+    fn most_in_block() -> usize
         ensures some { 2 ≤ result }
         ensures few { result ≤ 64 };
 
@@ -79,7 +79,7 @@ impl<E: PageEntry> Edged for Leaf<E> {
 
     ghost Entry = { E };
 
-    ghost members = { λ leaf. single leaf };
+    ghost members = { λ leaf. singleton leaf };
 
     ghost tells = { λ sum entries. E.tells sum entries };
 
@@ -93,24 +93,24 @@ impl<E: PageEntry> Edged for Leaf<E> {
         E::none()
     }
 
-    fn added_to(&self, sum: E::Sum) -> E::Sum {
-        self.entry.added_to(sum)
+    fn add_to(&self, sum: E::Sum) -> E::Sum {
+        self.entry.add_to(sum)
     }
 
-    fn joined(sum: E::Sum, kept: &E::Kept) -> E::Sum {
-        E::joined(sum, kept)
+    fn join(sum: E::Sum, kept: &E::Kept) -> E::Sum {
+        E::join(sum, kept)
     }
 
-    fn kept(alloc: Global, sum: E::Sum) -> E::Kept {
-        E::kept(alloc, sum)
+    fn keep(alloc: Global, sum: E::Sum) -> E::Kept {
+        E::keep(alloc, sum)
     }
 
     fn is_settled(sum: &E::Sum) -> bool {
         E::is_settled(sum)
     }
 
-    fn kept_by_ends(first: &Leaf<E>, last: &Leaf<E>) -> Option<E::Kept> {
-        E::kept_by_ends(&first.entry, &last.entry)
+    fn keep_by_ends(first: &Leaf<E>, last: &Leaf<E>) -> Option<E::Kept> {
+        E::keep_by_ends(&first.entry, &last.entry)
     }
 
     fn first_key(&self) -> u64 {
@@ -123,7 +123,7 @@ impl<E: PageEntry> Edged for Leaf<E> {
 }
 
 impl<E: PageEntry> Level<E> for Leaf<E> {
-    ghost entries = { λ leaf. single leaf };
+    ghost entries = { λ leaf. singleton leaf };
 
     ghost use Rattle.sorted_pages.specs.KeyEnds.{leaf_begins, leaf_ends};
 
@@ -131,7 +131,7 @@ impl<E: PageEntry> Level<E> for Leaf<E> {
 
     ghost last_keys = { λ leaf key told. leaf_ends E.key leaf key told };
 
-    fn most() -> usize {
+    fn most_in_block() -> usize {
         E::most_in_page()
     }
 
@@ -154,16 +154,18 @@ impl<E: PageEntry> Level<E> for Leaf<E> {
 }
 
 impl<E: PageEntry, T: Level<E>> Level<E> for Arc<Block<T>> {
-    ghost entries = { λ block. held T.entries block };
+    ghost entries = { λ block. of_block T.entries block };
 
     ghost use Rattle.std.specs.Arc.{arc_value};
     ghost use Rattle.sorted_pages.specs.KeyEnds.{block_begins, block_ends};
 
-    ghost first_keys = { λ block key told. block_begins T.entries T.first_key E.key T.first_keys (arc_value block) key told };
+    ghost first_keys = { λ block key told.
+        block_begins T.entries T.first_key E.key T.first_keys (arc_value block) key told };
 
-    ghost last_keys = { λ block key told. block_ends T.entries T.last_key E.key T.last_keys (arc_value block) key told };
+    ghost last_keys = { λ block key told.
+        block_ends T.entries T.last_key E.key T.last_keys (arc_value block) key told };
 
-    fn most() -> usize {
+    fn most_in_block() -> usize {
         16
     }
 

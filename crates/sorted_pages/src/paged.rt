@@ -1,12 +1,13 @@
 //! The sorted list itself.
-ghost use Rattle.std.specs.Prelude.{◌≡◌, ◌≤◌, ◌<◌, get_or, IfSome, [], map, length, option_copied, Some, None, if◌then◌else◌, IfOk};
+ghost use Rattle.std.specs.Prelude.{◌≡◌, ◌≤◌, ◌<◌, if◌then◌else◌, [], length, map, get_or};
+ghost use Rattle.std.specs.Prelude.{IfOk, IfSome, Some, None, option_copied};
 ghost use Rattle.std.specs.Ordering.{is_eq};
 ghost use Rattle.std.specs.FinMap.Entries.{find};
 ghost use Rattle.std.specs.List.{flat_map, remove};
-ghost use Rattle.sorted_pages.specs.Pages.{AreSizes, ahead, of_section, single};
+ghost use Rattle.sorted_pages.specs.Pages.{AreSizes, of_section, singleton};
 ghost use Rattle.sorted_pages.specs.Sorted.{IsRising, keyed};
 ghost use Rattle.sorted_pages.specs.Ranges.{from_span, within, first_within};
-ghost use Rattle.sorted_pages.specs.Changes.{entry_of, with_change, with_changes};
+ghost use Rattle.sorted_pages.specs.Changes.{entry_of, with_change, with_change_if, with_changes};
 ghost use Rattle.sorted_pages.specs.Edges.{first_passes};
 ghost use Rattle.sorted_pages.specs.declared.edit.Edit.TheVariants.{Remove};
 
@@ -17,14 +18,15 @@ use crate::edit::Edit;
 use crate::entry::{PageEntry, Span};
 use crate::in_place::InPlace;
 use crate::level::{Group, Leaf, Section};
-use crate::range::{Front, Range, all_from, all_until, entries_from, with_entries, with_pages};
+use crate::range::{Front, FrontPages, Range, all_from, all_until, entries_from};
 use crate::spans::Tie;
 use std::alloc::{AllocError, Global};
 use std::marker::Model;
 
 /// An unchanging sorted list of entries, of which a changed copy shares the pages where nothing changed.
 ///
-/// The entries of a short list stand in place, so that a changed copy of it asks for memory once. Where there are sections, none do.
+/// The entries of a short list stand in place, so that a changed copy of it asks for memory once.
+/// Where there are sections, none do.
 ///
 /// Contracts see the list of the entries.
 #[derive(Drop)]
@@ -34,13 +36,14 @@ pub struct Paged<E: PageEntry> {
 }
 
 impl<E: PageEntry> Model for Paged<E> {
-    ghost use Rattle.std.specs.Prelude.{List, []};
-    ghost use Rattle.sorted_pages.specs.Pages.{ahead};
+    ghost use Rattle.std.specs.Prelude.{List, ◌++◌};
+    ghost use Rattle.std.specs.List.{flat_map};
+    ghost use Rattle.sorted_pages.specs.Pages.{singleton, of_section};
     ghost use Rattle.sorted_pages.specs.Blocks.{IsShortOrLong};
 
     ghost Value = { List E };
 
-    ghost view = { λ p. ahead p.entries.items [] [] [] p.sections.items };
+    ghost view = { λ p. flat_map singleton p.entries.items ++ flat_map of_section p.sections.items };
 
     ghost invariant = { λ p. IsShortOrLong E.order p.entries.items p.sections.items };
 }
@@ -86,7 +89,7 @@ fn short_of_sorted<E: PageEntry>(alloc: Global, entries: Vec<E>) -> Result<Paged
 {
     let room: Vec<Leaf<E>> = Vec::with_capacity(alloc, entries.len())?;
     let entries = Leaf::fill(alloc, Layout::Filled, entries, room)?;
-    Ok(Paged::short(alloc, entries))
+    Ok(Paged::of_entries(alloc, entries))
 }
 
 /// The list of entries that stand in sections.
@@ -100,11 +103,11 @@ fn long_of_sorted<E: PageEntry>(
 {
     let sections: Vec<Section<E>> = Vec::new(alloc);
     let sections = fill_blocks::<E, Group<E>, Vec<Section<E>>>(alloc, layout, entries, sections)?;
-    Ok(Paged::long(alloc, sections))
+    Ok(Paged::of_sections(alloc, sections))
 }
 
 /// The entries out of their places.
-fn moved_out<E: Drop>(alloc: Global, places: Vec<Leaf<E>>) -> Result<Vec<E>, AllocError>
+fn move_out<E: Drop>(alloc: Global, places: Vec<Leaf<E>>) -> Result<Vec<E>, AllocError>
     ensures { IfOk result (λ entries. entries.items ≡ places.items) }
 {
     let mut entries = Vec::with_capacity(alloc, places.len())?;
@@ -120,17 +123,17 @@ fn short_after<E: PageEntry>(
     entries: &[Leaf<E>],
     changes: &[Edit<E>],
 ) -> Result<Paged<E>, AllocError>
-    requires entries { IsRising E.order (flat_map single entries.now) }
+    requires entries { IsRising E.order (flat_map singleton entries.now) }
     requires changes { IsRising E.order (map entry_of changes.now) }
-    ensures { IfOk result (λ p. p ≡ with_changes E.order changes.now (flat_map single entries.now)) }
+    ensures { IfOk result (λ p. p ≡ with_changes E.order changes.now (flat_map singleton entries.now)) }
 {
     let most = entries.len().saturating_add(changes.len());
     let room: Vec<Leaf<E>> = Vec::with_capacity(alloc, most)?;
     let entries = Leaf::apply(alloc, entries, changes, room)?;
     if entries.len() <= E::most_in_page() {
-        Ok(Paged::short(alloc, entries))
+        Ok(Paged::of_entries(alloc, entries))
     } else {
-        let entries = moved_out(alloc, entries)?;
+        let entries = move_out(alloc, entries)?;
         long_of_sorted(alloc, Layout::Halved, entries)
     }
 }
@@ -148,7 +151,7 @@ fn long_after<E: PageEntry>(
     let room = sections.len().saturating_add(1);
     let grown = Vec::with_capacity(alloc, room)?;
     let sections = apply_to_blocks(alloc, sections, changes, grown)?;
-    Ok(Paged::long(alloc, sections))
+    Ok(Paged::of_sections(alloc, sections))
 }
 
 impl<E: PageEntry> Paged<E> {
@@ -163,10 +166,10 @@ impl<E: PageEntry> Paged<E> {
     }
 
     /// A list whose entries stand in place.
-    fn short(alloc: Global, entries: Vec<Leaf<E>>) -> Paged<E>
-        requires rises { IsRising E.order (flat_map single entries.items) }
+    fn of_entries(alloc: Global, entries: Vec<Leaf<E>>) -> Paged<E>
+        requires rises { IsRising E.order (flat_map singleton entries.items) }
         requires few { length entries.items ≤ 64 }
-        ensures { result ≡ flat_map single entries.items }
+        ensures { result ≡ flat_map singleton entries.items }
     {
         Paged {
             entries,
@@ -175,7 +178,7 @@ impl<E: PageEntry> Paged<E> {
     }
 
     /// A list whose entries stand in sections.
-    fn long(alloc: Global, sections: Vec<Section<E>>) -> Paged<E>
+    fn of_sections(alloc: Global, sections: Vec<Section<E>>) -> Paged<E>
         requires { IsRising E.order (flat_map of_section sections.items) }
         ensures { result ≡ flat_map of_section sections.items }
     {
@@ -211,8 +214,7 @@ impl<E: PageEntry> Paged<E> {
 
     /// Makes a change in place where no other list holds what it changes and it fits, and says whether it did.
     fn change(&mut self, change: &Edit<E>) -> Result<bool, AllocError>
-        ensures { IfOk result (λ is_made. self.new
-            ≡ (if is_made then with_change E.order change.now self.old else self.old)) }
+        ensures { IfOk result (λ is_made. self.new ≡ with_change_if is_made E.order change.now self.old) }
     {
         if self.sections.is_empty() {
             return Leaf::change(&mut self.entries, change);
@@ -235,7 +237,7 @@ impl<E: PageEntry> Paged<E> {
     }
 
     /// The list after changes whose entries rise, in place where no other list holds what they change and they fit.
-    /// Many changes take as long as so many single ones.
+    /// Each change takes as long as it would alone.
     pub fn into_after(self, alloc: Global, changes: &[Edit<E>]) -> Result<Paged<E>, AllocError>
         requires { IsRising E.order (map entry_of changes.now) }
         ensures { IfOk result (λ p. p ≡ with_changes E.order changes.now self) }
@@ -263,25 +265,18 @@ impl<E: PageEntry> Paged<E> {
             return (Paged { entries, sections }, None);
         }
         let (entries, taken) = taken_at(entries, place);
-        (Paged::short(alloc, entries), Some(taken))
+        (Paged::of_entries(alloc, entries), Some(taken))
     }
 
     /// The entries from the first on that does not stand before the range.
     fn front_from<S: Span<E>>(&self, span: &S) -> Front<'_, E>
-        ensures front { ahead result.entries.now result.pages.now result.runs.now result.groups.now result.sections.now
-            ≡ from_span (S.side span.now) self.now }
+        ensures front { result ≡ from_span (S.side span.now) self.now }
         ensures rising { IsRising E.order self.now }
     {
         if !self.sections.is_empty() {
             return all_from(&self.sections, span);
         }
-        Front {
-            entries: entries_from(&self.entries, span),
-            pages: &[],
-            runs: &[],
-            groups: &[],
-            sections: &[],
-        }
+        Front::of(entries_from(&self.entries, span), &[], &[], &[], &[])
     }
 
     /// The entries in a range. It takes no memory.
@@ -296,9 +291,8 @@ impl<E: PageEntry> Paged<E> {
     pub fn first_in<S: Span<E>>(&self, span: &S) -> Option<&E>
         ensures { option_copied result ≡ first_within (S.side span.now) self.now }
     {
-        let front = with_entries(self.front_from(span));
-        match front.entries.first() {
-            Some(first) => only_in(first.entry(), span),
+        match self.front_from(span).next() {
+            Some(first) => only_in(first, span),
             None => None,
         }
     }
@@ -319,16 +313,9 @@ impl<E: PageEntry> Paged<E> {
             sizes.push(self.entries.len())?;
             return Ok(sizes);
         }
-        let mut left = with_pages(Front {
-            entries: &[],
-            pages: &[],
-            runs: &[],
-            groups: &[],
-            sections: &self.sections,
-        });
-        while let Some((page, pages)) = left.pages.split_first() {
+        let mut left = FrontPages::of(&self.sections);
+        while let Some(page) = left.next_page() {
             sizes.push(page.items().len())?;
-            left = with_pages(Front { pages, ..left });
         }
         Ok(sizes)
     }

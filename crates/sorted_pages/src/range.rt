@@ -1,19 +1,20 @@
 //! Ranges of entries that stand next to one another.
-ghost use Rattle.std.specs.Prelude.{◌≡◌, ◌<◌, ◌++◌, [], List, length, not, T as Holds};
+ghost use Rattle.std.specs.Prelude.{◌≡◌, ◌<◌, ◌++◌, ◌∷◌, [], List, length, not, IfSome, IfNone, T as Holds};
 ghost use Rattle.std.specs.List.{flat_map};
-ghost use Rattle.std.specs.Ordering.{is_lt, is_gt};
+ghost use Rattle.std.specs.Ordering.{is_gt};
 ghost use Rattle.std.specs.Iterator.{YieldsFirstRef, item_count};
-ghost use Rattle.sorted_pages.specs.Pages.{IsFirstBlock, held, single, of_page, of_run, of_group, of_section, ahead, behind};
+ghost use Rattle.sorted_pages.specs.Pages.{IsFirstBlock, of_block, singleton, of_page, of_run, of_group, of_section};
 ghost use Rattle.sorted_pages.specs.Sorted.{IsRising};
 ghost use Rattle.sorted_pages.specs.Edges.{answer_of, begins_with, first_passes};
 ghost use Rattle.sorted_pages.specs.Ranges.{from_span, until_span};
 
 use crate::apply::split_first_block;
-use crate::block::{Block, added_to};
+use crate::block::{Block, add_all};
 use crate::edge::{Before, Test, Until, split_at_edge, split_before_edge};
 use crate::entry::{Edged, PageEntry, Span};
 use crate::level::{Group, Leaf, Level, Page, Run, Section};
 use std::marker::Model;
+use std::mem;
 use std::sync::Arc;
 
 /// Entries that stand next to one another in a sorted list. It takes no memory.
@@ -27,25 +28,56 @@ pub struct Range<'a, E: PageEntry> {
 
 impl<'a, E: PageEntry> Model for Range<'a, E> {
     ghost use Rattle.std.specs.Prelude.{List, ◌++◌};
-    ghost use Rattle.sorted_pages.specs.Pages.{ahead, behind};
 
     ghost Value = { List E };
 
-    ghost view = { λ r. ahead r.front.entries.now r.front.pages.now r.front.runs.now r.front.groups.now r.front.sections.now
-        ++ behind r.back.groups.now r.back.runs.now r.back.pages.now r.back.entries.now };
+    ghost view = { λ r. r.front ++ r.back };
 }
 
-/// The entries from some place on: the rest of a page, of a run, of a group, of a section and of the list.
+/// The entries from some place on: the rest of a page, and the pages after it.
+///
+/// Contracts see the list of them.
 #[derive(Drop)]
 pub(crate) struct Front<'a, E: PageEntry> {
-    pub(crate) entries: &'a [Leaf<E>],
-    pub(crate) pages: &'a [Page<E>],
-    pub(crate) runs: &'a [Run<E>],
-    pub(crate) groups: &'a [Group<E>],
-    pub(crate) sections: &'a [Section<E>],
+    entries: &'a [Leaf<E>],
+    pages: FrontPages<'a, E>,
+}
+
+impl<'a, E: PageEntry> Model for Front<'a, E> {
+    ghost use Rattle.std.specs.Prelude.{List, ◌++◌};
+    ghost use Rattle.std.specs.List.{flat_map};
+    ghost use Rattle.sorted_pages.specs.Pages.{singleton};
+
+    ghost Value = { List E };
+
+    ghost view = { λ f. flat_map singleton f.entries.now ++ f.pages };
+}
+
+/// The pages from some place on: the rest of a run, of a group, of a section and of the list.
+///
+/// Contracts see the list of their entries.
+#[derive(Drop)]
+pub(crate) struct FrontPages<'a, E: PageEntry> {
+    pages: &'a [Page<E>],
+    runs: &'a [Run<E>],
+    groups: &'a [Group<E>],
+    sections: &'a [Section<E>],
+}
+
+impl<'a, E: PageEntry> Model for FrontPages<'a, E> {
+    ghost use Rattle.std.specs.Prelude.{List, ◌++◌};
+    ghost use Rattle.std.specs.List.{flat_map};
+    ghost use Rattle.sorted_pages.specs.Pages.{of_page, of_run, of_group, of_section};
+
+    ghost Value = { List E };
+
+    ghost view = { λ f. flat_map of_page f.pages.now ++ (flat_map of_run f.runs.now
+        ++ (flat_map of_group f.groups.now ++ flat_map of_section f.sections.now)) };
 }
 
 /// The entries up to some place: the first groups of a section, runs of a group, pages of a run and entries of a page.
+///
+/// Contracts see the list of them.
 #[derive(Drop)]
 struct Back<'a, E: PageEntry> {
     groups: &'a [Group<E>],
@@ -54,7 +86,19 @@ struct Back<'a, E: PageEntry> {
     entries: &'a [Leaf<E>],
 }
 
-/// The first items and the blocks after them. Where there is no first item, those of the first block, if any, become the first.
+impl<'a, E: PageEntry> Model for Back<'a, E> {
+    ghost use Rattle.std.specs.Prelude.{List, ◌++◌};
+    ghost use Rattle.std.specs.List.{flat_map};
+    ghost use Rattle.sorted_pages.specs.Pages.{singleton, of_page, of_run, of_group};
+
+    ghost Value = { List E };
+
+    ghost view = { λ b. flat_map of_group b.groups.now ++ (flat_map of_run b.runs.now
+        ++ (flat_map of_page b.pages.now ++ flat_map singleton b.entries.now)) };
+}
+
+/// The first items and the blocks after them.
+/// Where there is no first item, those of the first block, if any, become the first.
 fn refill<'a, T: Edged>(
     first: &'a [T],
     blocks: &'a [Arc<Block<T>>],
@@ -70,106 +114,173 @@ fn refill<'a, T: Edged>(
     }
 }
 
-/// This front; where it has no pages, the next ones, if any, move up.
-pub(crate) fn with_pages<'a, E: PageEntry>(front: Front<'a, E>) -> Front<'a, E>
-    ensures entries { result.entries.now ≡ front.entry.entries.now }
-    ensures same { ahead [] result.pages.now result.runs.now result.groups.now result.sections.now
-        ≡ ahead [] front.entry.pages.now front.entry.runs.now front.entry.groups.now front.entry.sections.now }
-    ensures none { length result.pages.now ≡ 0
-        → ahead [] front.entry.pages.now front.entry.runs.now front.entry.groups.now front.entry.sections.now ≡ [] }
+/// The first entry of a page, and the others.
+fn split_page<'a, E: PageEntry>(page: &'a Page<E>) -> (&'a E, &'a [Leaf<E>])
+    ensures { of_page page.now ≡ result.0.now ∷ flat_map singleton result.1.now }
 {
-    let (groups, sections) = refill(front.groups, front.sections);
-    let (runs, groups) = refill(front.runs, groups);
-    let (pages, runs) = refill(front.pages, runs);
-    Front {
-        pages,
-        runs,
-        groups,
-        sections,
-        ..front
+    let items = page.items();
+    (items[0].entry(), &items[1..])
+}
+
+impl<'a, E: PageEntry> FrontPages<'a, E> {
+    /// The pages of these sections.
+    pub(crate) fn of(sections: &'a [Section<E>]) -> FrontPages<'a, E>
+        ensures { result ≡ flat_map of_section sections.now }
+    {
+        FrontPages {
+            pages: &[],
+            runs: &[],
+            groups: &[],
+            sections,
+        }
+    }
+
+    /// The first page, which is no longer among these.
+    pub(crate) fn next_page(&mut self) -> Option<&'a Page<E>>
+        ensures some { IfSome result (λ page. self.old ≡ of_page page.now ++ self.new) }
+        ensures none { IfNone result ((self.old ≡ []) × (self.new ≡ [])) }
+    {
+        let (groups, sections) = refill(self.groups, self.sections);
+        let (runs, groups) = refill(self.runs, groups);
+        let (pages, runs) = refill(self.pages, runs);
+        let (page, pages) = pages.split_first()?;
+        *self = FrontPages {
+            pages,
+            runs,
+            groups,
+            sections,
+        };
+        Some(page)
+    }
+
+    fn is_empty(&self) -> bool {
+        self.pages.is_empty()
+            && self.runs.is_empty()
+            && self.groups.is_empty()
+            && self.sections.is_empty()
+    }
+
+    /// A sum with the entries of these pages at the end.
+    fn add_to(&self, sum: E::Sum) -> E::Sum
+        ensures { (xs : List E) → E.tells sum xs → E.tells result (xs ++ self.now) }
+    {
+        let sum = add_all(sum, self.pages);
+        let sum = add_all(sum, self.runs);
+        let sum = add_all(sum, self.groups);
+        add_all(sum, self.sections)
     }
 }
 
-/// This front; where it has no entries, those of the next page, if any, move up.
-pub(crate) fn with_entries<'a, E: PageEntry>(front: Front<'a, E>) -> Front<'a, E>
-    ensures same { ahead result.entries.now result.pages.now result.runs.now result.groups.now result.sections.now
-        ≡ ahead front.entry.entries.now front.entry.pages.now front.entry.runs.now front.entry.groups.now front.entry.sections.now }
-    ensures none { length result.entries.now ≡ 0
-        → ahead front.entry.entries.now front.entry.pages.now front.entry.runs.now front.entry.groups.now front.entry.sections.now ≡ [] }
+impl<'a, E: PageEntry> Front<'a, E> {
+    /// These entries, and those of pages, runs, groups and sections after them.
+    pub(crate) fn of(
+        entries: &'a [Leaf<E>],
+        pages: &'a [Page<E>],
+        runs: &'a [Run<E>],
+        groups: &'a [Group<E>],
+        sections: &'a [Section<E>],
+    ) -> Front<'a, E>
+        ensures { result ≡ flat_map singleton entries.now ++ (flat_map of_page pages.now ++ (flat_map of_run runs.now
+            ++ (flat_map of_group groups.now ++ flat_map of_section sections.now))) }
+    {
+        let pages = FrontPages {
+            pages,
+            runs,
+            groups,
+            sections,
+        };
+        Front { entries, pages }
+    }
+
+    /// A sum with these entries at the end.
+    fn add_to(&self, sum: E::Sum) -> E::Sum
+        ensures { (xs : List E) → E.tells sum xs → E.tells result (xs ++ self.now) }
+    {
+        self.pages.add_to(add_all(sum, self.entries))
+    }
+}
+
+impl<'a, E: PageEntry> Iterator for Front<'a, E> {
+    type Item = &'a E;
+
+    ghost next_gives = { YieldsFirstRef (λ f. f) };
+
+    ghost remaining = { item_count (λ f. f) };
+
+    fn next(&mut self) -> Option<&'a E> {
+        if let Some((first, entries)) = self.entries.split_first() {
+            self.entries = entries;
+            return Some(first.entry());
+        }
+        let (first, entries) = split_page(self.pages.next_page()?);
+        self.entries = entries;
+        Some(first)
+    }
+}
+
+impl<'a, E: PageEntry> Back<'a, E> {
+    /// The entries of these groups, runs and pages, and these entries.
+    fn of(
+        groups: &'a [Group<E>],
+        runs: &'a [Run<E>],
+        pages: &'a [Page<E>],
+        entries: &'a [Leaf<E>],
+    ) -> Back<'a, E>
+        ensures { result ≡ flat_map of_group groups.now ++ (flat_map of_run runs.now
+            ++ (flat_map of_page pages.now ++ flat_map singleton entries.now)) }
+    {
+        Back {
+            groups,
+            runs,
+            pages,
+            entries,
+        }
+    }
+
+    fn spans_pages(&self) -> bool {
+        !self.groups.is_empty() || !self.runs.is_empty() || !self.pages.is_empty()
+    }
+
+    /// A sum with these entries at the end.
+    fn add_to(&self, sum: E::Sum) -> E::Sum
+        ensures { (xs : List E) → E.tells sum xs → E.tells result (xs ++ self.now) }
+    {
+        let sum = add_all(sum, self.groups);
+        let sum = add_all(sum, self.runs);
+        let sum = add_all(sum, self.pages);
+        add_all(sum, self.entries)
+    }
+}
+
+/// The first entry at the back, if there is one, and the range of those after it.
+fn split_back<'a, E: PageEntry>(back: Back<'a, E>) -> (Option<&'a E>, Range<'a, E>)
+    ensures { YieldsFirstRef (λ es. es) back.entry result.0 result.1 }
 {
-    let front = with_pages(front);
-    let (entries, pages) = refill(front.entries, front.pages);
-    Front {
+    let Back {
+        groups,
+        runs,
+        pages,
         entries,
-        pages,
-        ..front
+    } = back;
+    let mut front = Front::of(&[], &[], &[], groups, &[]);
+    if let Some(entry) = front.next() {
+        let back = Back::of(&[], runs, pages, entries);
+        return (Some(entry), Range { front, back });
     }
-}
-
-/// The entries of these pages, runs and groups; those of the first page, if any, stand in front.
-fn front_of<'a, E: PageEntry>(
-    pages: &'a [Page<E>],
-    runs: &'a [Run<E>],
-    groups: &'a [Group<E>],
-) -> Front<'a, E>
-    ensures same { ahead result.entries.now result.pages.now result.runs.now result.groups.now result.sections.now
-        ≡ flat_map of_page pages.now ++ (flat_map of_run runs.now ++ flat_map of_group groups.now) }
-    ensures none { length result.entries.now ≡ 0
-        → flat_map of_page pages.now ++ (flat_map of_run runs.now ++ flat_map of_group groups.now) ≡ [] }
-{
-    with_entries(Front {
-        entries: &[],
-        pages,
-        runs,
-        groups,
-        sections: &[],
-    })
-}
-
-/// Both ends of a range; where the front has nothing, what is at the back moves up.
-fn advanced<'a, E: PageEntry>(front: Front<'a, E>, back: Back<'a, E>) -> (Front<'a, E>, Back<'a, E>)
-    ensures same { ahead result.0.entries.now result.0.pages.now result.0.runs.now result.0.groups.now result.0.sections.now
-        ++ behind result.1.groups.now result.1.runs.now result.1.pages.now result.1.entries.now
-        ≡ ahead front.entry.entries.now front.entry.pages.now front.entry.runs.now front.entry.groups.now front.entry.sections.now
-        ++ behind back.entry.groups.now back.entry.runs.now back.entry.pages.now back.entry.entries.now }
-    ensures none { length result.0.entries.now ≡ 0
-        → ahead front.entry.entries.now front.entry.pages.now front.entry.runs.now front.entry.groups.now front.entry.sections.now
-        ++ behind back.entry.groups.now back.entry.runs.now back.entry.pages.now back.entry.entries.now ≡ [] }
-{
-    let front = with_entries(front);
-    if !front.entries.is_empty() {
-        return (front, back);
+    let mut front = Front::of(&[], &[], runs, &[], &[]);
+    if let Some(entry) = front.next() {
+        let back = Back::of(&[], &[], pages, entries);
+        return (Some(entry), Range { front, back });
     }
-    let front = front_of(&[], &[], back.groups);
-    let back = Back {
-        groups: &[],
-        ..back
-    };
-    if !front.entries.is_empty() {
-        return (front, back);
+    let mut front = Front::of(&[], pages, &[], &[], &[]);
+    if let Some(entry) = front.next() {
+        let back = Back::of(&[], &[], &[], entries);
+        return (Some(entry), Range { front, back });
     }
-    let front = front_of(&[], back.runs, &[]);
-    let back = Back { runs: &[], ..back };
-    if !front.entries.is_empty() {
-        return (front, back);
-    }
-    let front = front_of(back.pages, &[], &[]);
-    let back = Back { pages: &[], ..back };
-    if !front.entries.is_empty() {
-        return (front, back);
-    }
-    let front = Front {
-        entries: back.entries,
-        pages: &[],
-        runs: &[],
-        groups: &[],
-        sections: &[],
-    };
-    let back = Back {
-        entries: &[],
-        ..back
-    };
-    (front, back)
+    let mut front = Front::of(entries, &[], &[], &[], &[]);
+    let first = front.next();
+    let back = Back::of(&[], &[], &[], &[]);
+    (first, Range { front, back })
 }
 
 impl<'a, E: PageEntry> Iterator for Range<'a, E> {
@@ -180,26 +291,13 @@ impl<'a, E: PageEntry> Iterator for Range<'a, E> {
     ghost remaining = { item_count (λ r. r) };
 
     fn next(&mut self) -> Option<&'a E> {
-        let front = Front {
-            entries: self.front.entries,
-            pages: self.front.pages,
-            runs: self.front.runs,
-            groups: self.front.groups,
-            sections: self.front.sections,
-        };
-        let back = Back {
-            groups: self.back.groups,
-            runs: self.back.runs,
-            pages: self.back.pages,
-            entries: self.back.entries,
-        };
-        let (front, back) = advanced(front, back);
-        let (first, entries) = front.entries.split_first()?;
-        *self = Range {
-            front: Front { entries, ..front },
-            back,
-        };
-        Some(first.entry())
+        if let Some(entry) = self.front.next() {
+            return Some(entry);
+        }
+        let back = mem::replace(&mut self.back, Back::of(&[], &[], &[], &[]));
+        let (first, rest) = split_back(back);
+        *self = rest;
+        first
     }
 }
 
@@ -207,45 +305,17 @@ impl<'a, E: PageEntry> Range<'a, E> {
     /// The sum of the entries still to come. It takes no memory.
     ///
     /// It looks at what pages keep, and at no entry of a page that is in the range as a whole.
-    pub fn summed(&self) -> E::Sum
+    pub fn total(&self) -> E::Sum
         ensures { E.tells result self.now }
     {
-        added_behind(added_ahead(E::none(), &self.front), &self.back)
+        self.back.add_to(self.front.add_to(E::none()))
     }
 
-    /// Whether it spans a page. The answer decides nothing: without one the entries are so few that they are looked at one by one in no more time.
+    /// Whether it spans a page. The answer decides nothing:
+    /// without one the entries are so few that they are looked at one by one in no more time.
     pub fn spans_pages(&self) -> bool {
-        !self.front.pages.is_empty()
-            || !self.front.runs.is_empty()
-            || !self.front.groups.is_empty()
-            || !self.front.sections.is_empty()
-            || !self.back.pages.is_empty()
-            || !self.back.runs.is_empty()
-            || !self.back.groups.is_empty()
+        !self.front.pages.is_empty() || self.back.spans_pages()
     }
-}
-
-/// A sum with these entries at the end.
-fn added_ahead<E: PageEntry>(sum: E::Sum, front: &Front<'_, E>) -> E::Sum
-    ensures { (xs : List E) → E.tells sum xs → E.tells result
-        (xs ++ ahead front.now.entries.now front.now.pages.now front.now.runs.now front.now.groups.now front.now.sections.now) }
-{
-    let sum = added_to(sum, front.entries);
-    let sum = added_to(sum, front.pages);
-    let sum = added_to(sum, front.runs);
-    let sum = added_to(sum, front.groups);
-    added_to(sum, front.sections)
-}
-
-/// A sum with these entries at the end.
-fn added_behind<E: PageEntry>(sum: E::Sum, back: &Back<'_, E>) -> E::Sum
-    ensures { (xs : List E) → E.tells sum xs → E.tells result
-        (xs ++ behind back.now.groups.now back.now.runs.now back.now.pages.now back.now.entries.now) }
-{
-    let sum = added_to(sum, back.groups);
-    let sum = added_to(sum, back.runs);
-    let sum = added_to(sum, back.pages);
-    added_to(sum, back.entries)
 }
 
 /// The items of the first block that does not stand before the range as a whole, and the blocks after it.
@@ -253,10 +323,10 @@ fn blocks_from<'a, E: PageEntry, T: Level<E>, S: Span<E>>(
     blocks: &'a [Arc<Block<T>>],
     span: &S,
 ) -> (&'a [T], &'a [Arc<Block<T>>])
-    requires { IsRising E.order (flat_map (held T.entries) blocks.now) }
+    requires { IsRising E.order (flat_map (of_block T.entries) blocks.now) }
     ensures parts { from_span (S.side span.now) (flat_map T.entries result.0.now)
-        ++ flat_map (held T.entries) result.1.now
-        ≡ from_span (S.side span.now) (flat_map (held T.entries) blocks.now) }
+        ++ flat_map (of_block T.entries) result.1.now
+        ≡ from_span (S.side span.now) (flat_map (of_block T.entries) blocks.now) }
     ensures rises { IsRising E.order (flat_map T.entries result.0.now) }
 {
     let (_, back) = split_at_edge(blocks, &Before(span));
@@ -268,8 +338,8 @@ pub(crate) fn entries_from<'a, E: PageEntry, S: Span<E>>(
     entries: &'a [Leaf<E>],
     span: &S,
 ) -> &'a [Leaf<E>]
-    requires { IsRising E.order (flat_map single entries.now) }
-    ensures { flat_map single result.now ≡ from_span (S.side span.now) (flat_map single entries.now) }
+    requires { IsRising E.order (flat_map singleton entries.now) }
+    ensures { flat_map singleton result.now ≡ from_span (S.side span.now) (flat_map singleton entries.now) }
 {
     let (_, back) = split_at_edge(entries, &Before(span));
     back
@@ -281,20 +351,13 @@ pub(crate) fn all_from<'a, E: PageEntry, S: Span<E>>(
     span: &S,
 ) -> Front<'a, E>
     requires { IsRising E.order (flat_map of_section sections.now) }
-    ensures { ahead result.entries.now result.pages.now result.runs.now result.groups.now result.sections.now
-        ≡ from_span (S.side span.now) (flat_map of_section sections.now) }
+    ensures { result ≡ from_span (S.side span.now) (flat_map of_section sections.now) }
 {
     let (groups, sections) = blocks_from(sections, span);
     let (runs, groups) = blocks_from(groups, span);
     let (pages, runs) = blocks_from(runs, span);
     let (entries, pages) = blocks_from(pages, span);
-    Front {
-        entries: entries_from(entries, span),
-        pages,
-        runs,
-        groups,
-        sections,
-    }
+    Front::of(entries_from(entries, span), pages, runs, groups, sections)
 }
 
 /// The blocks before the one in which the range ends, and the items of that one.
@@ -302,10 +365,10 @@ fn blocks_until<'a, E: PageEntry, T: Level<E>, S: Span<E>>(
     blocks: &'a [Arc<Block<T>>],
     span: &S,
 ) -> (&'a [Arc<Block<T>>], &'a [T])
-    requires { IsRising E.order (flat_map (held T.entries) blocks.now) }
-    ensures parts { flat_map (held T.entries) result.0.now
+    requires { IsRising E.order (flat_map (of_block T.entries) blocks.now) }
+    ensures parts { flat_map (of_block T.entries) result.0.now
         ++ until_span (S.side span.now) (flat_map T.entries result.1.now)
-        ≡ until_span (S.side span.now) (flat_map (held T.entries) blocks.now) }
+        ≡ until_span (S.side span.now) (flat_map (of_block T.entries) blocks.now) }
     ensures rises { IsRising E.order (flat_map T.entries result.1.now) }
 {
     let (before, from) = split_before_edge(blocks, &Until(span));
@@ -315,50 +378,49 @@ fn blocks_until<'a, E: PageEntry, T: Level<E>, S: Span<E>>(
 
 /// The entries up to the first that stands past the range.
 fn entries_until<'a, E: PageEntry, S: Span<E>>(entries: &'a [Leaf<E>], span: &S) -> &'a [Leaf<E>]
-    requires { IsRising E.order (flat_map single entries.now) }
-    ensures { flat_map single result.now ≡ until_span (S.side span.now) (flat_map single entries.now) }
+    requires { IsRising E.order (flat_map singleton entries.now) }
+    ensures { flat_map singleton result.now ≡ until_span (S.side span.now) (flat_map singleton entries.now) }
 {
     let (front, _) = split_at_edge(entries, &Until(span));
     front
 }
 
-/// The entries of these pages up to the first that stands past the range.
-fn pages_until<'a, E: PageEntry, S: Span<E>>(pages: &'a [Page<E>], span: &S) -> Back<'a, E>
+/// The entries of groups and of runs, and those of pages up to the first that stands past the range.
+fn pages_until<'a, E: PageEntry, S: Span<E>>(
+    groups: &'a [Group<E>],
+    runs: &'a [Run<E>],
+    pages: &'a [Page<E>],
+    span: &S,
+) -> Back<'a, E>
     requires { IsRising E.order (flat_map of_page pages.now) }
-    ensures entries { behind result.groups.now result.runs.now result.pages.now result.entries.now
-        ≡ until_span (S.side span.now) (flat_map of_page pages.now) }
-    ensures none { (result.groups.now ≡ []) × (result.runs.now ≡ []) }
+    ensures { result ≡ flat_map of_group groups.now ++ (flat_map of_run runs.now
+        ++ until_span (S.side span.now) (flat_map of_page pages.now)) }
 {
     let (pages, entries) = blocks_until(pages, span);
-    Back {
-        groups: &[],
-        runs: &[],
-        pages,
-        entries: entries_until(entries, span),
-    }
+    Back::of(groups, runs, pages, entries_until(entries, span))
 }
 
-/// The entries of these runs up to the first that stands past the range.
-fn runs_until<'a, E: PageEntry, S: Span<E>>(runs: &'a [Run<E>], span: &S) -> Back<'a, E>
+/// The entries of groups, and those of runs up to the first that stands past the range.
+fn runs_until<'a, E: PageEntry, S: Span<E>>(
+    groups: &'a [Group<E>],
+    runs: &'a [Run<E>],
+    span: &S,
+) -> Back<'a, E>
     requires { IsRising E.order (flat_map of_run runs.now) }
-    ensures entries { behind result.groups.now result.runs.now result.pages.now result.entries.now
-        ≡ until_span (S.side span.now) (flat_map of_run runs.now) }
-    ensures none { result.groups.now ≡ [] }
+    ensures { result ≡ flat_map of_group groups.now
+        ++ until_span (S.side span.now) (flat_map of_run runs.now) }
 {
     let (runs, pages) = blocks_until(runs, span);
-    let back = pages_until(pages, span);
-    Back { runs, ..back }
+    pages_until(groups, runs, pages, span)
 }
 
-/// The entries of these groups up to the first that stands past the range.
+/// The entries of groups up to the first that stands past the range.
 fn groups_until<'a, E: PageEntry, S: Span<E>>(groups: &'a [Group<E>], span: &S) -> Back<'a, E>
     requires { IsRising E.order (flat_map of_group groups.now) }
-    ensures { behind result.groups.now result.runs.now result.pages.now result.entries.now
-        ≡ until_span (S.side span.now) (flat_map of_group groups.now) }
+    ensures { result ≡ until_span (S.side span.now) (flat_map of_group groups.now) }
 {
     let (groups, runs) = blocks_until(groups, span);
-    let back = runs_until(runs, span);
-    Back { groups, ..back }
+    runs_until(groups, runs, span)
 }
 
 /// Whether the first of the items begins with an entry that is not past the range.
@@ -373,76 +435,60 @@ fn reaches<E: PageEntry, T: Level<E>, S: Span<E>>(items: &[T], span: &S) -> bool
     }
 }
 
-/// The entries up to the first that stands past the range, where all groups and sections stand past it.
-fn until_in_runs<'a, E: PageEntry, S: Span<E>>(front: Front<'a, E>, span: &S) -> Range<'a, E>
-    requires rises { IsRising E.order (ahead front.entries.now front.pages.now front.runs.now front.groups.now front.sections.now) }
-    requires groups { Holds (begins_with (λ e. is_gt (S.side span.now e)) (flat_map of_group front.groups.now)) }
-    requires sections { Holds (begins_with (λ e. is_gt (S.side span.now e)) (flat_map of_section front.sections.now)) }
+/// The entries of a page, of pages and of runs up to the first that stands past the range.
+fn until_in_runs<'a, E: PageEntry, S: Span<E>>(
+    entries: &'a [Leaf<E>],
+    pages: &'a [Page<E>],
+    runs: &'a [Run<E>],
+    span: &S,
+) -> Range<'a, E>
+    requires { IsRising E.order (flat_map singleton entries.now
+        ++ (flat_map of_page pages.now ++ flat_map of_run runs.now)) }
     ensures { result ≡ until_span (S.side span.now)
-        (ahead front.entry.entries.now front.entry.pages.now front.entry.runs.now front.entry.groups.now front.entry.sections.now) }
+        (flat_map singleton entries.now ++ (flat_map of_page pages.now ++ flat_map of_run runs.now)) }
 {
-    if reaches(front.runs, span) {
+    if reaches(runs, span) {
         return Range {
-            front: Front {
-                runs: &[],
-                groups: &[],
-                sections: &[],
-                ..front
-            },
-            back: runs_until(front.runs, span),
+            front: Front::of(entries, pages, &[], &[], &[]),
+            back: runs_until(&[], runs, span),
         };
     }
-    if reaches(front.pages, span) {
+    if reaches(pages, span) {
         return Range {
-            front: Front {
-                pages: &[],
-                runs: &[],
-                groups: &[],
-                sections: &[],
-                ..front
-            },
-            back: pages_until(front.pages, span),
+            front: Front::of(entries, &[], &[], &[], &[]),
+            back: pages_until(&[], &[], pages, span),
         };
     }
     Range {
-        front: Front {
-            entries: entries_until(front.entries, span),
-            pages: &[],
-            runs: &[],
-            groups: &[],
-            sections: &[],
-        },
-        back: Back {
-            groups: &[],
-            runs: &[],
-            pages: &[],
-            entries: &[],
-        },
+        front: Front::of(entries_until(entries, span), &[], &[], &[], &[]),
+        back: Back::of(&[], &[], &[], &[]),
     }
 }
 
 /// The entries up to the first that stands past the range.
 pub(crate) fn all_until<'a, E: PageEntry, S: Span<E>>(front: Front<'a, E>, span: &S) -> Range<'a, E>
-    requires { IsRising E.order (ahead front.entries.now front.pages.now front.runs.now front.groups.now front.sections.now) }
-    ensures { result ≡ until_span (S.side span.now)
-        (ahead front.entry.entries.now front.entry.pages.now front.entry.runs.now front.entry.groups.now front.entry.sections.now) }
+    requires { IsRising E.order front }
+    ensures { result ≡ until_span (S.side span.now) front.entry }
 {
-    if reaches(front.sections, span) {
-        let (sections, groups) = blocks_until(front.sections, span);
+    let Front { entries, pages } = front;
+    let FrontPages {
+        pages,
+        runs,
+        groups,
+        sections,
+    } = pages;
+    if reaches(sections, span) {
+        let (sections, last) = blocks_until(sections, span);
         return Range {
-            front: Front { sections, ..front },
+            front: Front::of(entries, pages, runs, groups, sections),
+            back: groups_until(last, span),
+        };
+    }
+    if reaches(groups, span) {
+        return Range {
+            front: Front::of(entries, pages, runs, &[], &[]),
             back: groups_until(groups, span),
         };
     }
-    if reaches(front.groups, span) {
-        return Range {
-            front: Front {
-                groups: &[],
-                sections: &[],
-                ..front
-            },
-            back: groups_until(front.groups, span),
-        };
-    }
-    until_in_runs(front, span)
+    until_in_runs(entries, pages, runs, span)
 }

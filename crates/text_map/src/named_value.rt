@@ -282,17 +282,17 @@ impl<V: Drop> Summed for NamedValue<V> {
 
     fn none() {}
 
-    fn added_to(&self, _sum: ()) {}
+    fn add_to(&self, _sum: ()) {}
 
-    fn joined(_sum: (), _kept: &()) {}
+    fn join(_sum: (), _kept: &()) {}
 
-    fn kept(_alloc: Global, _sum: ()) {}
+    fn keep(_alloc: Global, _sum: ()) {}
 
     fn is_settled(_sum: &()) -> bool {
         true
     }
 
-    fn kept_by_ends(_first: &Self, _last: &Self) -> Option<()> {
+    fn keep_by_ends(_first: &Self, _last: &Self) -> Option<()> {
         Some(())
     }
 }

@@ -1,5 +1,5 @@
 -- The lines of the places that cover a difference are those of the difference.
-use Rattle.std.proofs.Common.{◌≡◌, ◌∙◌, ap, sym, refl, cond, List, [], ◌∷◌, ◌++◌, map, Option, Some, None, option_map, option_and_then, unwrap_or, append-nil}
+use Rattle.std.proofs.Common.{◌≡◌, ◌∙◌, ap, sym, refl, subst, cond, List, [], ◌∷◌, ◌++◌, map, Option, Some, None, option_map, option_and_then, unwrap_or, append-nil}
 use Rattle.std.specs.List.{flat_map}
 use Rattle.filing_model.specs.Common.Text.{Text}
 use Rattle.filing_model.specs.Common.TextMap.{empty, get, keys}
@@ -15,6 +15,7 @@ use Rattle.filing_laws.proofs.Updating.FirstFound.{each_is_found}
 use Rattle.version_differences.specs.LineText.{lines_text}
 use Rattle.version_differences.specs.Places.{Ids, Places, ids_at, CoverFacts, CoverDifference}
 use Rattle.version_differences.proofs.KeysAlike.{made_of_either}
+use Rattle.version_differences.proofs.PushedLines.{written_both}
 
 -- nothing is told of what is the same
 same_fact : (name id : Text) (o : Option Fact) → fact_lines name id o o ≡ []
@@ -54,7 +55,8 @@ module _ (from to : Repository) (name : Text) where
   told_of_both ids before after is_before is_after cover = by (report_at from name) (report_at to name) refl refl is_before is_after
     where
       by : (o p : Option Report) → report_at from name ≡ o → report_at to name ≡ p → option_map (λ (r : Report). r.allowed) o ≡ Some before
-          → option_map (λ (r : Report). r.allowed) p ≡ Some after → declared_lines name before after ++ flat_map (lines_at_id from to name) (keys ids) ≡ lines_at from to name
+          → option_map (λ (r : Report). r.allowed) p ≡ Some after
+          → declared_lines name before after ++ flat_map (lines_at_id from to name) (keys ids) ≡ lines_at from to name
       by (Some r) (Some s) is_r is_s is_a is_b =
           let a : before ≡ r.allowed = cc in
           let b : after ≡ s.allowed = cc in
@@ -84,3 +86,29 @@ pub all_written : (places : Places) (from to : Repository) (out : Text) (left : 
 all_written places from to out left none cover so_far =
     sym (append-nil out) ∙ ap (λ es. out ++ lines_text (flat_map (lines_at from to) (map (λ (e : Text × Ids). e.0) es))) (sym none) ∙ so_far
     ∙ ap lines_text (all_lines places from to cover)
+
+-- the lines so far, and those of the names still to come, each with its identifiers
+abbrev pub IsWrittenTo : Places → Repository → Repository → Text → List (Text × Ids) → Type 0
+IsWrittenTo places from to out left =
+    Each (λ e. ids_at places e.0 ≡ e.1) left
+    × (CoverDifference places from to
+    → out ++ lines_text (flat_map (lines_at from to) (map (λ e. e.0) left)) ≡ lines_text (flat_map (lines_at from to) (keys places)))
+
+-- those of one name more are written
+pub next_written : (places : Places) (from to : Repository) (out out' : Text) (left rest : List (Text × Ids)) (e : Text × Ids) (name : Text) (ids : Ids)
+    → left ≡ e ∷ rest → name ≡ e.0 → ids ≡ e.1 → (CoverFacts ids from to name → out' ≡ out ++ lines_text (lines_at from to name))
+    → IsWrittenTo places from to out left → IsWrittenTo places from to out' rest
+next_written places from to out out' left rest e name ids is is_name is_ids push so_far =
+    let each = subst (Each (λ (x : Text × Ids). ids_at places x.0 ≡ x.1)) is so_far.0 in
+    let f = lines_at from to in
+    let names = map (λ (x : Text × Ids). x.0) rest in (
+      each.1,
+      λ cover.
+          let covered : CoverFacts ids from to name =
+          subst (λ (i : Ids). CoverFacts i from to name) (ap (ids_at places) is_name ∙ each.0 ∙ sym is_ids) (cover.facts name) in
+          let here : out' ≡ out ++ lines_text (f e.0) = push covered ∙ ap (λ n. out ++ lines_text (f n)) is_name in
+          let before : out ++ lines_text (f e.0 ++ flat_map f names) ≡ lines_text (flat_map f (keys places)) =
+          subst (λ (es : List (Text × Ids)). out ++ lines_text (flat_map f (map (λ (x : Text × Ids). x.0) es)) ≡ lines_text (flat_map f (keys places)))
+          is (so_far.1 cover) in
+          written_both out out' (out' ++ lines_text (flat_map f names)) (f e.0) (flat_map f names) here refl ∙ before,
+    )

@@ -59,7 +59,8 @@ module _ {A : Type 0} (f : Text → List A) where
       by [] none rest = rest ∙ ap (λ ys. ys ++ flat_map f (names es)) (sym none)
       by (x ∷ xs) some rest = ap (λ ys. f e.0 ++ ys) rest
 
-  module _ {X Y : Type 0} (m : TextMap X) (n : TextMap Y) (none_m : (key : Text) → get m key ≡ None → f key ≡ []) (none_n : (key : Text) → get n key ≡ None → f key ≡ []) where
+  module _ {X Y : Type 0} (m : TextMap X) (n : TextMap Y) (none_m : (key : Text) → get m key ≡ None → f key ≡ [])
+      (none_n : (key : Text) → get n key ≡ None → f key ≡ []) where
     never : {Z : Type 0} (o : Option Z) → only (λ z. false) o ≡ None
     never None = refl
     never (Some z) = refl
@@ -71,7 +72,8 @@ module _ {A : Type 0} (f : Text → List A) where
     alike : (q : Text) → only (λ z. some_made (f q)) (find text_cmp q (marked (keys m))) ≡ only (λ z. some_made (f q)) (find text_cmp q (marked (keys n)))
     alike q = by (f q) refl
       where
-        by : (xs : List A) → f q ≡ xs → only (λ z. some_made xs) (find text_cmp q (marked (keys m))) ≡ only (λ z. some_made xs) (find text_cmp q (marked (keys n)))
+        by : (xs : List A) → f q ≡ xs
+            → only (λ z. some_made xs) (find text_cmp q (marked (keys m))) ≡ only (λ z. some_made xs) (find text_cmp q (marked (keys n)))
         by [] none = never (find text_cmp q (marked (keys m))) ∙ sym (never (find text_cmp q (marked (keys n))))
         by (x ∷ xs) some =
             ap (only (λ z. true))
@@ -105,7 +107,8 @@ find_in_both q [] ls none = (refl, none)
 find_in_both q (k ∷ ks) ls none = by (text_eq q k) (find_in_both q ks ls) none
   where
     by : (b : Bool) → (find text_cmp q (marked (ks ++ ls)) ≡ None → (find text_cmp q (marked ks) ≡ None) × (find text_cmp q (marked ls) ≡ None))
-        → cond b (Some tt) (find text_cmp q (marked (ks ++ ls))) ≡ None → (cond b (Some tt) (find text_cmp q (marked ks)) ≡ None) × (find text_cmp q (marked ls) ≡ None)
+        → cond b (Some tt) (find text_cmp q (marked (ks ++ ls))) ≡ None
+        → (cond b (Some tt) (find text_cmp q (marked ks)) ≡ None) × (find text_cmp q (marked ls) ≡ None)
     by true later some = cc
     by false later none = later none
 

@@ -74,7 +74,8 @@ module _ (from to : Repository) (m : Text) where
   -- ---- facts
 
   module _ (q : Text) where
-    put_keeps : (c : Repository) (name id : Text) (o : Option Fact) → fact_at to name id ≡ o → fact_at c m q ≡ fact_at to m q → fact_at (with_fact_at c name id o) m q ≡ fact_at to m q
+    put_keeps : (c : Repository) (name id : Text) (o : Option Fact) → fact_at to name id ≡ o → fact_at c m q ≡ fact_at to m q
+        → fact_at (with_fact_at c name id o) m q ≡ fact_at to m q
     put_keeps c name id o is so = by (report_at c name) refl
       where
         here : (b : Bool) → (text_eq m name && text_eq q id) ≡ b → cond b o (fact_at c m q) ≡ fact_at to m q
@@ -87,7 +88,8 @@ module _ (from to : Repository) (m : Text) where
         by None gone = ap (λ c. fact_at c m q) (no_fact_put c name id o gone) ∙ so
         by (Some r) there = fact_at-with_fact_at c name id o m q (ap is_some there) ∙ here (text_eq m name && text_eq q id) refl
 
-    put_makes : (c : Repository) (name id : Text) (o : Option Fact) → fact_at to name id ≡ o → is_some (report_at c m) ≡ true → (text_eq m name && text_eq q id) ≡ true
+    put_makes : (c : Repository) (name id : Text) (o : Option Fact) → fact_at to name id ≡ o → is_some (report_at c m) ≡ true
+        → (text_eq m name && text_eq q id) ≡ true
         → fact_at (with_fact_at c name id o) m q ≡ fact_at to m q
     put_makes c name id o is there at =
         let parts = and_parts (text_eq m name) (text_eq q id) at in
@@ -103,11 +105,13 @@ module _ (from to : Repository) (m : Text) where
     line_keeps c (Removed name id fact) told so = put_keeps c name id None told.1 so
     line_keeps c (Changed name id f g) told so = put_keeps c name id (Some g) told.1 so
 
-    lines_keep : (c : Repository) (lines : List Line) → AllByRecursion (IsToldOf from to) lines → fact_at c m q ≡ fact_at to m q → fact_at (with_lines c lines) m q ≡ fact_at to m q
+    lines_keep : (c : Repository) (lines : List Line) → AllByRecursion (IsToldOf from to) lines → fact_at c m q ≡ fact_at to m q
+        → fact_at (with_lines c lines) m q ≡ fact_at to m q
     lines_keep c [] told so = so
     lines_keep c (line ∷ lines) told so = lines_keep (with_line c line) lines told.1 (line_keeps c line told.0 so)
 
-    line_makes : (c : Repository) (line : Line) → IsToldOf from to line → is_some (report_at c m) ≡ true → is_at m q line ≡ true → fact_at (with_line c line) m q ≡ fact_at to m q
+    line_makes : (c : Repository) (line : Line) → IsToldOf from to line → is_some (report_at c m) ≡ true → is_at m q line ≡ true
+        → fact_at (with_line c line) m q ≡ fact_at to m q
     line_makes c (NewReport name) told there at = absurd (true≢false (sym at))
     line_makes c (NoReport name) told there at = absurd (true≢false (sym at))
     line_makes c (Declared name a b) told there at = absurd (true≢false (sym at))
@@ -115,7 +119,8 @@ module _ (from to : Repository) (m : Text) where
     line_makes c (Removed name id fact) told there at = put_makes c name id None told.1 there at
     line_makes c (Changed name id f g) told there at = put_makes c name id (Some g) told.1 there at
 
-    lines_make : (c : Repository) (lines : List Line) → AllByRecursion (IsToldOf from to) lines → is_some (report_at c m) ≡ true → list_any (is_at m q) lines ≡ true
+    lines_make : (c : Repository) (lines : List Line) → AllByRecursion (IsToldOf from to) lines → is_some (report_at c m) ≡ true
+        → list_any (is_at m q) lines ≡ true
         → fact_at (with_lines c lines) m q ≡ fact_at to m q
     lines_make c [] told there at = absurd (true≢false (sym at))
     lines_make c (line ∷ lines) told there at = by (is_at m q line) refl (lines_make (with_line c line) lines told.1 (still_there c line there)) at
@@ -143,11 +148,13 @@ module _ (from to : Repository) (m : Text) where
   line_keeps_value c (Removed name id fact) told so = value_at-with_fact_at c name id None m ∙ so
   line_keeps_value c (Changed name id f g) told so = value_at-with_fact_at c name id (Some g) m ∙ so
 
-  lines_keep_value : (c : Repository) (lines : List Line) → AllByRecursion (IsToldOf from to) lines → value_at c m ≡ value_at to m → value_at (with_lines c lines) m ≡ value_at to m
+  lines_keep_value : (c : Repository) (lines : List Line) → AllByRecursion (IsToldOf from to) lines → value_at c m ≡ value_at to m
+      → value_at (with_lines c lines) m ≡ value_at to m
   lines_keep_value c [] told so = so
   lines_keep_value c (line ∷ lines) told so = lines_keep_value (with_line c line) lines told.1 (line_keeps_value c line told.0 so)
 
-  line_makes_value : (c : Repository) (line : Line) → IsToldOf from to line → is_some (report_at c m) ≡ true → is_declared m line ≡ true → value_at (with_line c line) m ≡ value_at to m
+  line_makes_value : (c : Repository) (line : Line) → IsToldOf from to line → is_some (report_at c m) ≡ true → is_declared m line ≡ true
+      → value_at (with_line c line) m ≡ value_at to m
   line_makes_value c (Declared name a b) (r, s, is_r, is_s, is_a, is_b, apart) there same =
       value_at-declaring_at c name b m (ap (λ n. is_some (report_at c n)) (sym (text_same m name same)) ∙ there)
       ∙ ap (λ t. cond t (Some b) (value_at c m)) same
@@ -158,10 +165,12 @@ module _ (from to : Repository) (m : Text) where
   line_makes_value c (Removed name id fact) told there at = absurd (true≢false (sym at))
   line_makes_value c (Changed name id f g) told there at = absurd (true≢false (sym at))
 
-  lines_make_value : (c : Repository) (lines : List Line) → AllByRecursion (IsToldOf from to) lines → is_some (report_at c m) ≡ true → list_any (is_declared m) lines ≡ true
+  lines_make_value : (c : Repository) (lines : List Line) → AllByRecursion (IsToldOf from to) lines → is_some (report_at c m) ≡ true
+      → list_any (is_declared m) lines ≡ true
       → value_at (with_lines c lines) m ≡ value_at to m
   lines_make_value c [] told there at = absurd (true≢false (sym at))
-  lines_make_value c (line ∷ lines) told there at = by (is_declared m line) refl (lines_make_value (with_line c line) lines told.1 (still_there c line there)) at
+  lines_make_value c (line ∷ lines) told there at = by (is_declared m line) refl
+      (lines_make_value (with_line c line) lines told.1 (still_there c line there)) at
     where
       by : (b : Bool) → is_declared m line ≡ b → (list_any (is_declared m) lines ≡ true → value_at (with_lines (with_line c line) lines) m ≡ value_at to m)
           → (b || list_any (is_declared m) lines) ≡ true → value_at (with_lines (with_line c line) lines) m ≡ value_at to m
@@ -187,7 +196,8 @@ module _ (test : Line → Bool) where
       by true later = refl
       by false later = later
 
-  any_of : (f : Text → List Line) (key : Text) (ks : List Text) → list_any (text_eq key) ks ≡ true → list_any test (f key) ≡ true → list_any test (flat_map f ks) ≡ true
+  any_of : (f : Text → List Line) (key : Text) (ks : List Text) → list_any (text_eq key) ks ≡ true → list_any test (f key) ≡ true
+      → list_any test (flat_map f ks) ≡ true
   any_of f key [] there any = absurd (true≢false (sym there))
   any_of f key (k ∷ ks) there any = by (text_eq key k) refl (λ at. any_of f key ks at any) there
     where
@@ -201,7 +211,8 @@ one_of_either : {X Y : Type 0} (m : TextMap X) (n : TextMap Y) (q : Text)
     → ((get m q ≡ None) × (get n q ≡ None)) ⊎ (list_any (text_eq q) (keys_of_either m n) ≡ true)
 one_of_either m n q = by (get (from_entries (marked (keys m ++ keys n))) q) refl
   where
-    by : (o : Option ⊤) → get (from_entries (marked (keys m ++ keys n))) q ≡ o → ((get m q ≡ None) × (get n q ≡ None)) ⊎ (list_any (text_eq q) (keys_of_either m n) ≡ true)
+    by : (o : Option ⊤) → get (from_entries (marked (keys m ++ keys n))) q ≡ o
+        → ((get m q ≡ None) × (get n q ≡ None)) ⊎ (list_any (text_eq q) (keys_of_either m n) ≡ true)
     by None none = inl (in_neither m n q none)
     by (Some x) some = inr (sym (is_some-find text_cmp q (from_entries (marked (keys m ++ keys n))).entries) ∙ ap is_some some)
 
@@ -213,7 +224,8 @@ module _ (from to : Repository) (m : Text) (r s : Report) (is_r : report_at from
   is_line : (test : Line → Bool) → list_any test (report_lines m (Some r) (Some s)) ≡ true → list_any test (difference from to) ≡ true
   is_line test any = by (one_of_either from.reports to.reports m)
     where
-      by : ((report_at from m ≡ None) × (report_at to m ≡ None)) ⊎ (list_any (text_eq m) (keys_of_either from.reports to.reports) ≡ true) → list_any test (difference from to) ≡ true
+      by : ((report_at from m ≡ None) × (report_at to m ≡ None)) ⊎ (list_any (text_eq m) (keys_of_either from.reports to.reports) ≡ true)
+          → list_any test (difference from to) ≡ true
       by (inl gone) = let apart : None ≡ Some r = sym gone.0 ∙ is_r in cc
       by (inr there) = any_of test (lines_at from to) m (keys_of_either from.reports to.reports) there (ap (list_any test) lines_here ∙ any)
 
@@ -286,7 +298,8 @@ module _ (from to : Repository) (m : Text) (r s : Report) (is_r : report_at from
       by (Some x) is =
           let names : Some x.names ≡ Some r.names = sym (ap (option_map (λ (r : Report). r.names)) is) ∙ lines_leave_names from to m from (difference from to)
           ∙ ap (option_map (λ (r : Report). r.names)) is_r in
-          let values : Some x.allowed ≡ Some s.allowed = sym (ap (option_map (λ (r : Report). r.allowed)) is) ∙ value_made ∙ ap (option_map (λ (r : Report). r.allowed)) is_s in (
+          let values : Some x.allowed ≡ Some s.allowed = sym (ap (option_map (λ (r : Report). r.allowed)) is) ∙ value_made
+          ∙ ap (option_map (λ (r : Report). r.allowed)) is_s in (
             x,
             is,
             record {

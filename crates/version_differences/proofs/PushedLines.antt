@@ -11,7 +11,8 @@ pub text_joined : (xs ys : List Line) → lines_text (xs ++ ys) ≡ lines_text x
 text_joined xs ys = flat_map-append line_text xs ys
 
 -- one after another
-pub written_both : (start out out' : Text) (xs ys : List Line) → out ≡ start ++ lines_text xs → out' ≡ out ++ lines_text ys → out' ≡ start ++ lines_text (xs ++ ys)
+pub written_both : (start out out' : Text) (xs ys : List Line) → out ≡ start ++ lines_text xs → out' ≡ out ++ lines_text ys
+    → out' ≡ start ++ lines_text (xs ++ ys)
 written_both start out out' xs ys first then =
     then ∙ ap (λ t. t ++ lines_text ys) first ∙ append_assoc start (lines_text xs) (lines_text ys) ∙ ap (λ t. start ++ t) (sym (text_joined xs ys))
 

@@ -9,7 +9,8 @@ use Rattle.filing_model.specs.Sessions.Repository.{Repository, report_at, fact_i
 use Rattle.filing_model.specs.declared.duplicates.Allowed.{Allowed}
 use Rattle.filing_laws.specs.Histories.SameReplies.{allowed_eq, fact_eq}
 
--- a report that is new, or is no longer there; a report's declared value, or a fact of it, that was one and is another; a fact of it that is new, or is no longer there
+-- a report that is new, or is no longer there; a report's declared value, or a fact of it, that was one and is another;
+-- a fact of it that is new, or is no longer there
 pub data Line : Type 0 where
   NewReport : Text → Line
   NoReport : Text → Line

@@ -2,7 +2,7 @@
 
 ghost use Rattle.std.specs.Prelude.{◌≡◌, ◌||◌, is_some, option_map, string_bytes, IfOk};
 ghost use Rattle.filing_model.specs.Sessions.Repository.{report_at};
-ghost use Rattle.filing_version.specs.Filed.{repository_in};
+ghost use Rattle.filing_version.specs.StampedReports.{repository_in};
 ghost use Rattle.version_differences.specs.Differences.{difference};
 ghost use Rattle.version_differences.specs.LineText.{difference_text, lines_text, report_difference_text};
 ghost use Rattle.version_differences.specs.Places.{CoverDifference};
@@ -61,7 +61,8 @@ fn text_of_report(
     Ok(Some(out))
 }
 
-/// The lines that turn the one version into the other: for all reports, or for the one of a name; none where neither version has that.
+/// The lines that turn the one version into the other: for all reports, or for the one of a name;
+/// none where neither version has that.
 /// It looks at the given places alone.
 pub fn difference_text(
     alloc: Global,

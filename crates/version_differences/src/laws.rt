@@ -2,7 +2,8 @@
 
 ghost use Rattle.version_differences.specs.Laid.{EachDifferenceMakesTheOther, EachLineIsToldOfBoth};
 
-/// Laid over the one repository, the difference turns each report that both have into that of the other: its facts and its declared value.
+/// Laid over the one repository, the difference turns each report that both have into that of the other:
+/// its facts and its declared value.
 pub fn each_difference_makes_the_other()
     ensures { EachDifferenceMakesTheOther }
 {}

@@ -175,7 +175,8 @@ pub(crate) fn push_fact_lines(
     to: Option<&Fact>,
 ) -> Result<(), AllocError>
     ensures { OnOk result (string_bytes out.new ≡ string_bytes out.old
-        ++ lines_text (fact_lines name.now id.now (option_map (λ f. f.now) from.entry) (option_map (λ f. f.now) to.entry))) }
+        ++ lines_text (fact_lines name.now id.now (option_map (λ f. f.now) from.entry)
+        (option_map (λ f. f.now) to.entry))) }
 {
     match (from, to) {
         (None, None) => Ok(()),

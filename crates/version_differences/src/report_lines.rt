@@ -4,7 +4,7 @@ ghost use Rattle.std.specs.Prelude.{◌≡◌, ◌++◌, option_map, string_byte
 ghost use Rattle.std.specs.List.{flat_map};
 ghost use Rattle.filing_model.specs.Common.TextMap.{keys};
 ghost use Rattle.filing_model.specs.Sessions.Repository.{fact_at};
-ghost use Rattle.filing_version.specs.Filed.{repository_in};
+ghost use Rattle.filing_version.specs.StampedReports.{repository_in};
 ghost use Rattle.version_differences.specs.Differences.{lines_at, lines_at_id};
 ghost use Rattle.version_differences.specs.LineText.{lines_text};
 ghost use Rattle.version_differences.specs.Places.{CoverFacts};
@@ -54,7 +54,8 @@ fn push_ids(
     to: &RepoVersion,
 ) -> Result<(), AllocError>
     ensures { OnOk result (string_bytes out.new ≡ string_bytes out.old
-        ++ lines_text (flat_map (lines_at_id (repository_in from.now) (repository_in to.now) name.now) (keys ids.now))) }
+        ++ lines_text (flat_map (lines_at_id (repository_in from.now) (repository_in to.now) name.now)
+        (keys ids.now))) }
 {
     for entry in ids.iter() {
         push_id(out, name, entry.name(), from, to)?;

@@ -40,15 +40,15 @@ impl Summed for Item {
         0
     }
 
-    fn added_to(&self, weight: u64) -> u64 {
+    fn add_to(&self, weight: u64) -> u64 {
         weight.max(self.weight)
     }
 
-    fn joined(weight: u64, kept: &u64) -> u64 {
+    fn join(weight: u64, kept: &u64) -> u64 {
         weight.max(*kept)
     }
 
-    fn kept(_alloc: Global, weight: u64) -> u64 {
+    fn keep(_alloc: Global, weight: u64) -> u64 {
         weight
     }
 }

@@ -101,7 +101,7 @@ impl List {
             strays = strays.saturating_add(u64::from(item.key != next));
             next = next.wrapping_add(1);
         }
-        let greatest = list.range(&span).summed();
+        let greatest = list.range(&span).total();
         Ok(format!(in alloc; "{first:?} {count} {strays} {greatest}\n")?)
     }
 }

@@ -1,17 +1,18 @@
 //! What differs between two versions of a history.
 
-ghost use Rattle.std.specs.Prelude.{◌≡◌, ◌≤◌, ◌<◌, IfOk, option_map};
+ghost use Rattle.std.specs.Prelude.{IfOk, option_map};
 ghost use Rattle.std.specs.Arc.{arc_value};
 ghost use Rattle.history_views.specs.Differing.{difference_asked};
 ghost use Rattle.filing.specs.Runs.{ShowsFound};
 
 use crate::fault::Fault;
-use crate::files::history::opened;
+use crate::files::history::open_history;
 use crate::files::named::{Named, OUTPUT, Reasons};
 use crate::files::table::numeric_table;
 use crate::keys::drawn_keys;
-use crate::reasons::departure::explained;
+use crate::reasons::departure::explain_fault;
 use crate::runs::beginning::departure;
+use crate::runs::between::Between;
 use filing_args::{DiffWords, number_of};
 use filing_cli::{FromReader, ToWriter};
 use filing_core::{HashKeys, Verdict};
@@ -19,13 +20,18 @@ use history_views::{FoundDifference, Shown, difference_of_history};
 use oim_fact::NumericTable;
 use std::alloc::Global;
 use std::io::{Read, Write};
-use std::marker::Brand;
 use std::mem::forget;
 use std::sync::Arc;
-use std::sync::ledger::{Blank, Ledger};
+
+/// What was shown, and the number of the version that is not there, if one is not.
+#[derive(Drop)]
+struct ShownDifference {
+    shown: Shown,
+    missing: Option<u64>,
+}
 
 /// The number of the version that is not there, if one is not.
-fn missing(found: &FoundDifference, from: u64, to: u64) -> Option<u64> {
+fn missing_version(found: &FoundDifference, from: u64, to: u64) -> Option<u64> {
     if found.from.is_none() {
         Some(from)
     } else if found.to.is_none() {
@@ -36,8 +42,8 @@ fn missing(found: &FoundDifference, from: u64, to: u64) -> Option<u64> {
 }
 
 /// Writes what differs between two versions of the history that a reader gives, in all reports or in one, to a writer, if both are there.
-/// It gives both back, and the number of the version that is not there.
-fn write_difference<R: Read + Drop, W: Write + Drop, L: Ledger, K: Ledger>(
+/// It gives both back.
+fn write_difference<R: Read + Drop, W: Write + Drop>(
     alloc: Global,
     keys: HashKeys,
     reader: R,
@@ -46,29 +52,26 @@ fn write_difference<R: Read + Drop, W: Write + Drop, L: Ledger, K: Ledger>(
     from: u64,
     to: u64,
     report: Option<&str>,
-    source_blank: Blank,
-    sink_blank: Blank,
-) -> Result<(R, W, Shown, Option<u64>), Fault>
-    requires source_name { source_blank.name ≡ L.name }
-    requires source_parts { source_blank.parts ≡ L.parts }
-    requires source_three { 3 ≤ source_blank.parts }
-    requires sink_name { sink_blank.name ≡ K.name }
-    requires sink_parts { sink_blank.parts ≡ K.parts }
-    requires sink_some { 0 < sink_blank.parts }
-    ensures { IfOk result (λ back. ShowsFound (arc_value table.now) (difference_asked from to (option_map (λ t. t.now) report.entry))
-        (R.remaining reader) (R.remaining back.0) (W.contents writer) (W.contents back.1) back.2) }
+) -> Result<Between<R, W, ShownDifference>, Fault>
+    ensures { IfOk result (λ back. ShowsFound (arc_value table.now)
+        (difference_asked from to (option_map (λ t. t.now) report.entry)) (R.remaining reader)
+        (R.remaining back.reader) (W.contents writer) (W.contents back.writer) back.left.shown) }
 {
-    let mut source: FromReader<R, L> = FromReader::new(reader, source_blank);
-    let mut sink: ToWriter<W, K> = ToWriter::new(writer, sink_blank);
+    let mut source = FromReader::new(reader);
+    let mut sink = ToWriter::new(writer);
     let found = difference_of_history(alloc, keys, &mut source, table, from, to, report)?;
     match found.verdict {
         Verdict::Lawful => {
             let shown = found.write(&mut sink);
-            let missing = missing(&found, from, to);
+            let missing = missing_version(&found, from, to);
             // The process ends soon, as after a script.
             forget(found);
             let shown = shown?;
-            Ok((source.into_inner(), sink.into_inner(), shown, missing))
+            Ok(Between {
+                reader: source.into_inner(),
+                writer: sink.into_inner(),
+                left: ShownDifference { shown, missing },
+            })
         }
         Verdict::Departs(place) => {
             forget(found);
@@ -78,7 +81,7 @@ fn write_difference<R: Read + Drop, W: Write + Drop, L: Ledger, K: Ledger>(
 }
 
 /// Tells what is not there, and gives the status.
-fn told(
+fn tell_missing(
     rt: &impl Eprint,
     given: &DiffWords<'_>,
     shown: Shown,
@@ -103,20 +106,21 @@ pub(crate) fn show_difference(rt: &HostRuntime, given: &DiffWords<'_>) -> Result
         rt.alloc(),
         numeric_table(rt, given.numeric.as_slice(), reasons)?,
     )?;
-    let found = write_difference::<_, _, Brand, Brand>(
+    let found = write_difference(
         rt.alloc(),
         drawn_keys(rt, reasons)?,
-        opened(rt, given.history, reasons)?,
+        open_history(rt, given.history, reasons)?,
         Named::new(rt.stdout(), OUTPUT, reasons),
         &table,
         from,
         to,
         given.report,
-        Blank::new(3),
-        Blank::new(1),
     );
     match found {
-        Ok((_, _, shown, missing)) => told(rt, given, shown, missing),
-        Err(fault) => Err(explained(rt, given.history, reasons, &table, fault)),
+        Ok(back) => {
+            let ShownDifference { shown, missing } = back.left;
+            tell_missing(rt, given, shown, missing)
+        }
+        Err(fault) => Err(explain_fault(rt, given.history, reasons, &table, fault)),
     }
 }

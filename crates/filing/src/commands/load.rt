@@ -1,6 +1,6 @@
 //! Reports that are loaded from files into a journal.
 
-ghost use Rattle.std.specs.Prelude.{◌≡◌, ◌≤◌, ◌<◌, ◌++◌, false, IfOk, OnOk, string_bytes};
+ghost use Rattle.std.specs.Prelude.{◌≡◌, ◌++◌, false, IfOk, OnOk, string_bytes};
 ghost use Rattle.std.specs.Arc.{arc_value};
 ghost use Rattle.filing_model.specs.Histories.History.{History};
 ghost use Rattle.journal.specs.Lines.{recovered};
@@ -16,20 +16,18 @@ use crate::files::table::numeric_table;
 use crate::keys::drawn_keys;
 use crate::reasons::echo::{Echo, Echoed};
 use crate::reasons::explainer::Explainer;
+use crate::runs::between::{Between, ExplainedRun};
 use crate::runs::opening::journal_at;
 use crate::runs::with_journal::{run_with_journal, status_after};
 use filing_args::{LoadWords, refuse_misfit_of_load};
-use filing_cli::JournaledRun;
 use filing_core::Engine;
 use journal::{Device, Journal};
 use oim_fact::NumericTable;
 use oim_report::push_quoted;
 use std::alloc::{AllocError, Global};
 use std::io::Write;
-use std::marker::Brand;
 use std::mem::forget;
 use std::sync::Arc;
-use std::sync::ledger::{Blank, Ledger};
 
 /// The text of a report, and the name under which it is loaded.
 #[derive(Drop)]
@@ -78,8 +76,8 @@ fn script_of(alloc: Global, reports: &[NamedText]) -> Result<String, AllocError>
 }
 
 /// Loads reports with a journal, from the history of an engine, writes the replies to a writer, and has them explained.
-/// It gives all of them back, with how the run ended, unless there is no memory for the script.
-fn load_reports<D: Device + Drop, W: Write + Drop, L: Ledger, K: Ledger>(
+/// It gives the writer back, with how the run ended, unless there is no memory for the script.
+fn load_reports<D: Device + Drop, W: Write + Drop>(
     alloc: Global,
     engine: Engine,
     journal: Journal<D>,
@@ -87,21 +85,13 @@ fn load_reports<D: Device + Drop, W: Write + Drop, L: Ledger, K: Ledger>(
     reports: Vec<NamedText>,
     writer: W,
     table: &Arc<NumericTable>,
-    source_blank: Blank,
-    sink_blank: Blank,
-) -> Result<(W, JournaledRun<D>, Explainer), Fault>
+) -> Result<(W, ExplainedRun<D>), Fault>
     requires kept { IsKept D.seen D.may_leave D.has_failed journal }
     requires goes_on { has_stopped journal ≡ false }
-    requires source_name { source_blank.name ≡ L.name }
-    requires source_parts { source_blank.parts ≡ L.parts }
-    requires source_three { 3 ≤ source_blank.parts }
-    requires sink_name { sink_blank.name ≡ K.name }
-    requires sink_parts { sink_blank.parts ≡ K.parts }
-    requires sink_some { 0 < sink_blank.parts }
     ensures loaded { (h : History) → IsEngineOf h engine → recovered (D.seen (device_of journal)) ≡ journal_text h
-        → IfOk result (λ back. LoadsAndKeeps D.seen D.may_leave D.moment D.left_since (arc_value table.now) h reports.items
-        (device_of journal) back.1 (W.contents writer) (W.contents back.0)) }
-    ensures kept { IfOk result (λ back. IsKept D.seen D.may_leave D.has_failed back.1.journal) }
+        → IfOk result (λ back. LoadsAndKeeps D.seen D.may_leave D.moment D.left_since (arc_value table.now) h
+        reports.items (device_of journal) back.1.run (W.contents writer) (W.contents back.0)) }
+    ensures kept { IfOk result (λ back. IsKept D.seen D.may_leave D.has_failed back.1.run.journal) }
 {
     let script = match script_of(alloc, reports.as_slice()) {
         Ok(script) => script,
@@ -112,7 +102,7 @@ fn load_reports<D: Device + Drop, W: Write + Drop, L: Ledger, K: Ledger>(
         }
     };
     drop(reports);
-    let (_, writer, run, explainer) = run_with_journal::<_, _, _, L, K>(
+    let Between { writer, left, .. } = run_with_journal(
         alloc,
         engine,
         journal,
@@ -121,10 +111,8 @@ fn load_reports<D: Device + Drop, W: Write + Drop, L: Ledger, K: Ledger>(
         writer,
         table,
         false,
-        source_blank,
-        sink_blank,
     );
-    Ok((writer, run, explainer))
+    Ok((writer, left))
 }
 
 /// The status of loads by their replies.
@@ -149,7 +137,7 @@ pub(crate) fn load_files(rt: &HostRuntime, given: &LoadWords<'_>) -> Result<u8, 
     let (engine, journal) = journal_at::<Engine>(rt, keys, given.journal, &table, reasons)?;
     let mut echo = Echo::new(rt.alloc(), true);
     let writer = Echoed::new(Named::new(rt.stdout(), OUTPUT, reasons), &mut echo);
-    let (_, run, explainer) = load_reports::<_, _, Brand, Brand>(
+    let (_, ran) = load_reports(
         rt.alloc(),
         engine,
         journal,
@@ -157,11 +145,9 @@ pub(crate) fn load_files(rt: &HostRuntime, given: &LoadWords<'_>) -> Result<u8, 
         reports,
         writer,
         &table,
-        Blank::new(3),
-        Blank::new(1),
     )?;
-    status_after(run, &explainer, false)?;
-    match echo.whole() {
+    status_after(ran, false)?;
+    match echo.whole_text() {
         Some(replies) => Ok(status_of(replies)),
         None => Err(Fault::NoMemory),
     }

@@ -1,17 +1,16 @@
 //! The sessions of a history, as lines or drawn.
 
-ghost use Rattle.std.specs.Prelude.{◌≡◌, ◌≤◌, ◌<◌, IfOk};
+ghost use Rattle.std.specs.Prelude.{IfOk};
 ghost use Rattle.std.specs.Arc.{arc_value};
-ghost use Rattle.history_views.specs.Log.{log_of, sessions_of};
-ghost use Rattle.session_pictures.specs.Picture.{picture_of};
-ghost use Rattle.filing.specs.Runs.{AreShown};
+ghost use Rattle.history_views.specs.Log.{log_of};
+ghost use Rattle.filing.specs.Runs.{AreShown, ShowsPicture};
 
 use crate::fault::Fault;
-use crate::files::history::opened;
+use crate::files::history::open_history;
 use crate::files::named::{Named, OUTPUT, Reasons};
 use crate::files::table::numeric_table;
 use crate::keys::drawn_keys;
-use crate::reasons::departure::explained;
+use crate::reasons::departure::explain_fault;
 use crate::runs::beginning::departure;
 use filing_args::{LogWords, number_given, refuse_misfit_of_log};
 use filing_cli::{FromReader, ToWriter};
@@ -20,32 +19,22 @@ use history_views::log_of_history;
 use oim_fact::NumericTable;
 use std::alloc::Global;
 use std::io::{Read, Write};
-use std::marker::Brand;
 use std::mem::forget;
 use std::sync::Arc;
-use std::sync::ledger::{Blank, Ledger};
 
 /// Writes a line for each session of the history that a reader gives to a writer. It gives both back.
-fn write_log<R: Read + Drop, W: Write + Drop, L: Ledger, K: Ledger>(
+fn write_log<R: Read + Drop, W: Write + Drop>(
     alloc: Global,
     keys: HashKeys,
     reader: R,
     writer: W,
     table: &Arc<NumericTable>,
-    source_blank: Blank,
-    sink_blank: Blank,
 ) -> Result<(R, W), Fault>
-    requires source_name { source_blank.name ≡ L.name }
-    requires source_parts { source_blank.parts ≡ L.parts }
-    requires source_three { 3 ≤ source_blank.parts }
-    requires sink_name { sink_blank.name ≡ K.name }
-    requires sink_parts { sink_blank.parts ≡ K.parts }
-    requires sink_some { 0 < sink_blank.parts }
     ensures { IfOk result (λ back. AreShown (arc_value table.now) log_of (R.remaining reader) (R.remaining back.0)
         (W.contents writer) (W.contents back.1)) }
 {
-    let mut source: FromReader<R, L> = FromReader::new(reader, source_blank);
-    let mut sink: ToWriter<W, K> = ToWriter::new(writer, sink_blank);
+    let mut source = FromReader::new(reader);
+    let mut sink = ToWriter::new(writer);
     let found = log_of_history(alloc, keys, &mut source, table)?;
     match found.verdict {
         Verdict::Lawful => {
@@ -62,28 +51,21 @@ fn write_log<R: Read + Drop, W: Write + Drop, L: Ledger, K: Ledger>(
     }
 }
 
-/// Writes the picture of the sessions, from this number on, of the history that a reader gives to a writer. It gives both back.
-fn write_picture<R: Read + Drop, W: Write + Drop, L: Ledger, K: Ledger>(
+/// Writes the picture of the sessions, from this number on, of the history that a reader gives to a writer.
+/// It gives both back.
+fn write_picture<R: Read + Drop, W: Write + Drop>(
     alloc: Global,
     keys: HashKeys,
     reader: R,
     writer: W,
     table: &Arc<NumericTable>,
     first: u64,
-    source_blank: Blank,
-    sink_blank: Blank,
 ) -> Result<(R, W), Fault>
-    requires source_name { source_blank.name ≡ L.name }
-    requires source_parts { source_blank.parts ≡ L.parts }
-    requires source_three { 3 ≤ source_blank.parts }
-    requires sink_name { sink_blank.name ≡ K.name }
-    requires sink_parts { sink_blank.parts ≡ K.parts }
-    requires sink_some { 0 < sink_blank.parts }
-    ensures { IfOk result (λ back. AreShown (arc_value table.now) (λ h. picture_of first (sessions_of h)) (R.remaining reader)
-        (R.remaining back.0) (W.contents writer) (W.contents back.1)) }
+    ensures { IfOk result (λ back. ShowsPicture (arc_value table.now) first (R.remaining reader) (R.remaining back.0)
+        (W.contents writer) (W.contents back.1)) }
 {
-    let mut source: FromReader<R, L> = FromReader::new(reader, source_blank);
-    let mut sink: ToWriter<W, K> = ToWriter::new(writer, sink_blank);
+    let mut source = FromReader::new(reader);
+    let mut sink = ToWriter::new(writer);
     let found = log_of_history(alloc, keys, &mut source, table)?;
     match found.verdict {
         Verdict::Lawful => {
@@ -110,31 +92,27 @@ pub(crate) fn show_sessions(rt: &HostRuntime, given: &LogWords<'_>) -> Result<u8
         numeric_table(rt, given.numeric.as_slice(), reasons)?,
     )?;
     let keys = drawn_keys(rt, reasons)?;
-    let reader = opened(rt, given.history, reasons)?;
+    let reader = open_history(rt, given.history, reasons)?;
     let written = if given.svg {
-        write_picture::<_, _, Brand, Brand>(
+        write_picture(
             rt.alloc(),
             keys,
             reader,
             Named::new(rt.stdout(), OUTPUT, reasons),
             &table,
             first,
-            Blank::new(3),
-            Blank::new(1),
         )
     } else {
-        write_log::<_, _, Brand, Brand>(
+        write_log(
             rt.alloc(),
             keys,
             reader,
             Named::new(rt.stdout(), OUTPUT, reasons),
             &table,
-            Blank::new(3),
-            Blank::new(1),
         )
     };
     match written {
         Ok(_) => Ok(0),
-        Err(fault) => Err(explained(rt, given.history, reasons, &table, fault)),
+        Err(fault) => Err(explain_fault(rt, given.history, reasons, &table, fault)),
     }
 }

@@ -1,18 +1,19 @@
 //! What a version of a history has: a report, or the list of all.
 
-ghost use Rattle.std.specs.Prelude.{◌≡◌, ◌≤◌, ◌<◌, IfOk, string_bytes};
+ghost use Rattle.std.specs.Prelude.{IfOk};
 ghost use Rattle.std.specs.Arc.{arc_value};
 ghost use Rattle.history_views.specs.Listing.{listing_shown};
 ghost use Rattle.history_views.specs.Shown.{report_shown};
 ghost use Rattle.filing.specs.Runs.{ShowsVersion};
 
 use crate::fault::Fault;
-use crate::files::history::opened;
+use crate::files::history::open_history;
 use crate::files::named::{Named, OUTPUT, Reasons};
 use crate::files::table::numeric_table;
 use crate::keys::drawn_keys;
-use crate::reasons::departure::explained;
+use crate::reasons::departure::explain_fault;
 use crate::runs::beginning::departure;
+use crate::runs::between::Between;
 use filing_args::{ShowWords, number_given};
 use filing_cli::{FromReader, ToWriter};
 use filing_core::{HashKeys, Verdict};
@@ -20,34 +21,24 @@ use history_views::{Shown, listing_of_history, version_of_history};
 use oim_fact::NumericTable;
 use std::alloc::Global;
 use std::io::{Read, Write};
-use std::marker::Brand;
 use std::mem::forget;
 use std::sync::Arc;
-use std::sync::ledger::{Blank, Ledger};
 
 /// Writes a report of a version of the history that a reader gives to a writer, if it is there. It gives both back.
-fn write_report<R: Read + Drop, W: Write + Drop, L: Ledger, K: Ledger>(
+fn write_report<R: Read + Drop, W: Write + Drop>(
     alloc: Global,
     keys: HashKeys,
     reader: R,
     writer: W,
     table: &Arc<NumericTable>,
     number: Option<u64>,
-    name: &String,
-    source_blank: Blank,
-    sink_blank: Blank,
-) -> Result<(R, W, Shown), Fault>
-    requires source_name { source_blank.name ≡ L.name }
-    requires source_parts { source_blank.parts ≡ L.parts }
-    requires source_three { 3 ≤ source_blank.parts }
-    requires sink_name { sink_blank.name ≡ K.name }
-    requires sink_parts { sink_blank.parts ≡ K.parts }
-    requires sink_some { 0 < sink_blank.parts }
-    ensures { IfOk result (λ back. ShowsVersion (arc_value table.now) number (report_shown (string_bytes name.now)) (R.remaining reader)
-        (R.remaining back.0) (W.contents writer) (W.contents back.1) back.2) }
+    name: &str,
+) -> Result<Between<R, W, Shown>, Fault>
+    ensures { IfOk result (λ back. ShowsVersion (arc_value table.now) number (report_shown name.now)
+        (R.remaining reader) (R.remaining back.reader) (W.contents writer) (W.contents back.writer) back.left) }
 {
-    let mut source: FromReader<R, L> = FromReader::new(reader, source_blank);
-    let mut sink: ToWriter<W, K> = ToWriter::new(writer, sink_blank);
+    let mut source = FromReader::new(reader);
+    let mut sink = ToWriter::new(writer);
     let found = version_of_history(alloc, keys, &mut source, table, number)?;
     match found.verdict {
         Verdict::Lawful => {
@@ -55,7 +46,11 @@ fn write_report<R: Read + Drop, W: Write + Drop, L: Ledger, K: Ledger>(
             // The process ends soon, as after a script.
             forget(found);
             let shown = shown?;
-            Ok((source.into_inner(), sink.into_inner(), shown))
+            Ok(Between {
+                reader: source.into_inner(),
+                writer: sink.into_inner(),
+                left: shown,
+            })
         }
         Verdict::Departs(place) => {
             forget(found);
@@ -65,27 +60,19 @@ fn write_report<R: Read + Drop, W: Write + Drop, L: Ledger, K: Ledger>(
 }
 
 /// Writes the list of the reports of a version of the history that a reader gives to a writer, if it is there. It gives both back.
-fn write_listing<R: Read + Drop, W: Write + Drop, L: Ledger, K: Ledger>(
+fn write_listing<R: Read + Drop, W: Write + Drop>(
     alloc: Global,
     keys: HashKeys,
     reader: R,
     writer: W,
     table: &Arc<NumericTable>,
     number: Option<u64>,
-    source_blank: Blank,
-    sink_blank: Blank,
-) -> Result<(R, W, Shown), Fault>
-    requires source_name { source_blank.name ≡ L.name }
-    requires source_parts { source_blank.parts ≡ L.parts }
-    requires source_three { 3 ≤ source_blank.parts }
-    requires sink_name { sink_blank.name ≡ K.name }
-    requires sink_parts { sink_blank.parts ≡ K.parts }
-    requires sink_some { 0 < sink_blank.parts }
+) -> Result<Between<R, W, Shown>, Fault>
     ensures { IfOk result (λ back. ShowsVersion (arc_value table.now) number listing_shown (R.remaining reader)
-        (R.remaining back.0) (W.contents writer) (W.contents back.1) back.2) }
+        (R.remaining back.reader) (W.contents writer) (W.contents back.writer) back.left) }
 {
-    let mut source: FromReader<R, L> = FromReader::new(reader, source_blank);
-    let mut sink: ToWriter<W, K> = ToWriter::new(writer, sink_blank);
+    let mut source = FromReader::new(reader);
+    let mut sink = ToWriter::new(writer);
     let found = listing_of_history(alloc, keys, &mut source, table, number)?;
     match found.verdict {
         Verdict::Lawful => {
@@ -93,7 +80,11 @@ fn write_listing<R: Read + Drop, W: Write + Drop, L: Ledger, K: Ledger>(
             // The process ends soon.
             forget(found);
             let shown = shown?;
-            Ok((source.into_inner(), sink.into_inner(), shown))
+            Ok(Between {
+                reader: source.into_inner(),
+                writer: sink.into_inner(),
+                left: shown,
+            })
         }
         Verdict::Departs(place) => {
             forget(found);
@@ -103,16 +94,16 @@ fn write_listing<R: Read + Drop, W: Write + Drop, L: Ledger, K: Ledger>(
 }
 
 /// Tells what is not there, and gives the status.
-fn told(rt: &impl Eprint, given: &ShowWords<'_>, shown: Shown) -> Result<u8, Fault> {
+fn tell_missing(rt: &impl Eprint, given: &ShowWords<'_>, shown: Shown) -> Result<u8, Fault> {
     let name = given.report.unwrap_or("");
     let number = given.version.unwrap_or("");
-    let told = match shown {
+    let written = match shown {
         Shown::Written => return Ok(0),
         Shown::NoVersion => eprintln!(rt; "filing: no version {number}"),
         Shown::NoReport if given.version.is_none() => eprintln!(rt; "filing: no report \"{name}\""),
         Shown::NoReport => eprintln!(rt; "filing: no report \"{name}\" in version {number}"),
     };
-    let _ = told;
+    let _ = written;
     Err(Fault::Words)
 }
 
@@ -125,32 +116,28 @@ pub(crate) fn show_version(rt: &HostRuntime, given: &ShowWords<'_>) -> Result<u8
         numeric_table(rt, given.numeric.as_slice(), reasons)?,
     )?;
     let keys = drawn_keys(rt, reasons)?;
-    let reader = opened(rt, given.history, reasons)?;
+    let reader = open_history(rt, given.history, reasons)?;
     let found = match given.report {
-        Some(name) => write_report::<_, _, Brand, Brand>(
+        Some(name) => write_report(
             rt.alloc(),
             keys,
             reader,
             Named::new(rt.stdout(), OUTPUT, reasons),
             &table,
             number,
-            &String::from_str(rt.alloc(), name)?,
-            Blank::new(3),
-            Blank::new(1),
+            name,
         ),
-        None => write_listing::<_, _, Brand, Brand>(
+        None => write_listing(
             rt.alloc(),
             keys,
             reader,
             Named::new(rt.stdout(), OUTPUT, reasons),
             &table,
             number,
-            Blank::new(3),
-            Blank::new(1),
         ),
     };
     match found {
-        Ok((_, _, shown)) => told(rt, given, shown),
-        Err(fault) => Err(explained(rt, given.history, reasons, &table, fault)),
+        Ok(back) => tell_missing(rt, given, back.left),
+        Err(fault) => Err(explain_fault(rt, given.history, reasons, &table, fault)),
     }
 }

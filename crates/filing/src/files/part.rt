@@ -1,7 +1,7 @@
 //! A new file next to the place that it is to take. Nothing that is there is opened, followed or written over.
 
 use crate::files::misplaced::Misplaced;
-use crate::files::place::beside;
+use crate::files::place::path_beside;
 use std::fs::{File, Metadata, OpenOptions, Permissions};
 use std::io::{ErrorKind, Result as IoResult};
 use std::os::unix::fs::{MetadataExt, OpenOptionsExt, PermissionsExt, fchown};
@@ -35,7 +35,7 @@ pub(crate) fn new_part(rt: &HostRuntime, path: &str, is_private: bool) -> Result
     }
     for number in 0..MOST_NAMES {
         let name = format!(in rt.alloc(); ".filing-{run}-{number}")?;
-        let path = beside(rt.alloc(), path, name.as_str())?;
+        let path = path_beside(rt.alloc(), path, name.as_str())?;
         match options.open(rt, path.as_str()) {
             Ok(file) => return Ok(Part { file, path }),
             Err(error) if error.kind() == ErrorKind::AlreadyExists => {}

@@ -28,7 +28,7 @@ pub(crate) enum Place {
 const MOST_LINKS: usize = 40;
 
 /// The path of a name in the folder of another path.
-pub(crate) fn beside(alloc: Global, path: &str, name: &str) -> Result<String, AllocError> {
+pub(crate) fn path_beside(alloc: Global, path: &str, name: &str) -> Result<String, AllocError> {
     match path.rsplit_once('/') {
         Some((folder, _)) => format!(in alloc; "{folder}/{name}"),
         None => String::from_str(alloc, name),
@@ -74,7 +74,7 @@ fn without_links(rt: &HostRuntime, path: &str) -> Result<String, Misplaced> {
         at = if target.starts_with('/') {
             target
         } else {
-            beside(rt.alloc(), at.as_str(), target.as_str())?
+            path_beside(rt.alloc(), at.as_str(), target.as_str())?
         };
     }
     Err(Misplaced::Unusable)

@@ -3,7 +3,7 @@
 ghost use Rattle.std.specs.Prelude.{◌≡◌, ◌≤◌};
 
 use crate::fault::Fault;
-use crate::files::history::opened;
+use crate::files::history::open_history;
 use crate::files::named::Reasons;
 use crate::keys::drawn_keys;
 use crate::progress::length_in;
@@ -12,15 +12,13 @@ use filing_core::{Engine, EngineFault, HashKeys};
 use filing_step::{Entry, Reply, Step};
 use oim_fact::NumericTable;
 use oim_report::json_value;
-use script_format::{reply_text, text_at};
+use script_format::{JsonArray, reply_text};
 use script_reasons::reading_stop;
 use std::alloc::{AllocError, Global};
 use std::fs;
 use std::io::Read;
-use std::marker::Brand;
 use std::mem::forget;
 use std::sync::Arc;
-use std::sync::ledger::{Blank, Ledger};
 
 /// Follows the lines of a history, and keeps in words why the first that departs does.
 #[derive(Drop)]
@@ -33,7 +31,7 @@ struct Follower {
 }
 
 /// Whether an entry has the number that its session has, or has none where none is to be.
-fn misnumbered(
+fn number_fault(
     alloc: Global,
     engine: &Engine,
     entry: &Entry,
@@ -82,7 +80,7 @@ fn is_load(alloc: Global, line: &[u8]) -> Result<bool, AllocError> {
         return Ok(false);
     };
     match value.get(1) {
-        Some(step) => Ok(text_at(step, 0) == Some("load")),
+        Some(step) => Ok(step.text_at(0) == Some("load")),
         None => Ok(false),
     }
 }
@@ -108,7 +106,7 @@ impl Follower {
         number: u128,
         entry: Entry,
     ) -> Result<Option<String>, AllocError> {
-        if let Some(told) = misnumbered(alloc, &self.engine, &entry)? {
+        if let Some(told) = number_fault(alloc, &self.engine, &entry)? {
             return Ok(Some(format!(in alloc; "line {number}: {told}")?));
         }
         let Entry {
@@ -163,18 +161,13 @@ impl Machine for Follower {
 }
 
 /// Why the history that a reader gives departs, in words; none where it does not, or cannot be read.
-fn reason_of<R: Read + Drop, L: Ledger>(
+fn reason_of<R: Read + Drop>(
     alloc: Global,
     keys: HashKeys,
     reader: R,
     table: &Arc<NumericTable>,
-    blank: Blank,
-) -> Result<Option<String>, AllocError>
-    requires name { blank.name ≡ L.name }
-    requires parts { blank.parts ≡ L.parts }
-    requires three { 3 ≤ blank.parts }
-{
-    let mut source: FromReader<R, L> = FromReader::new(reader, blank);
+) -> Result<Option<String>, AllocError> {
+    let mut source = FromReader::new(reader);
     let mut follower = Follower::new(alloc, keys, table)?;
     let ended = run(alloc, &mut follower, &mut source, &mut Nowhere, READS);
     let Follower { engine, reason, .. } = follower;
@@ -199,22 +192,16 @@ pub(crate) fn explain_departure(
     let Ok(keys) = drawn_keys(rt, reasons) else {
         return;
     };
-    let Ok(reader) = opened(rt, path, reasons) else {
+    let Ok(reader) = open_history(rt, path, reasons) else {
         return;
     };
-    if let Ok(Some(reason)) = reason_of::<_, Brand>(
-        rt.alloc(),
-        keys,
-        reader,
-        table,
-        Blank::new(3),
-    ) {
+    if let Ok(Some(reason)) = reason_of(rt.alloc(), keys, reader, table) {
         let _ = eprintln!(rt; "{reason}");
     }
 }
 
 /// Tells why a history or a journal departs, where this is its fault and reasons are wanted, and gives the fault back.
-pub(crate) fn explained(
+pub(crate) fn explain_fault(
     rt: &HostRuntime,
     path: &str,
     reasons: Reasons,

@@ -30,7 +30,7 @@ impl Echo {
     }
 
     /// The whole text; none where it was not kept, or where memory was refused.
-    pub(crate) fn whole(&self) -> Option<&[u8]> {
+    pub(crate) fn whole_text(&self) -> Option<&[u8]> {
         if self.is_kept && self.is_whole {
             Some(self.text.as_slice())
         } else {

@@ -1,14 +1,26 @@
 //! `Explainer`: what tells on standard error why lines were refused, and knows whether one was a mistake of the script.
 
-ghost use Rattle.std.specs.Prelude.{◌≡◌, false, IfOk};
+ghost use Rattle.std.specs.Prelude.{◌≡◌, ◌||◌, false, IfOk, string_bytes};
+ghost use Rattle.script_reasons.specs.Refusals.{tells_mistake};
 ghost use Rattle.filing.specs.Mistakes.{notes, strict_status};
 
 use crate::reasons::open_sessions::OpenSessions;
 use filing_cli::Observes;
 use oim_fact::NumericTable;
-use script_reasons::{explain, push_reasons, tells_mistake};
+use script_reasons::{explain, push_reasons, reports_mistake, tells_mistake};
+use script_runs::Answer;
 use std::alloc::{AllocError, Global};
 use std::sync::Arc;
+
+/// Whether an answer tells a mistake. Its text is looked at only where the line took no step.
+fn is_mistake(answer: &Answer) -> bool
+    ensures { result ≡ tells_mistake (string_bytes answer.now.text) }
+{
+    match &answer.reply {
+        Some(reply) => reports_mistake(reply),
+        None => tells_mistake(&answer.text),
+    }
+}
 
 /// Looks at the lines of a script and at their replies, and reports why a line was refused, where that is asked for.
 /// What cannot be reported, out of memory or without a standard error, is dropped: replies never see it.
@@ -129,6 +141,26 @@ impl Explainer {
         let _ = eprint!(&self.rt; "{text}");
     }
 
+    /// Notes a line with the text of its reply, and whether that tells a mistake.
+    pub(crate) fn note(
+        &mut self,
+        alloc: Global,
+        number: u128,
+        line: &[u8],
+        reply: &str,
+        is_mistake: bool,
+    )
+        ensures { self.new.found_mistake ≡ (self.old.found_mistake || is_mistake) }
+    {
+        self.found_mistake = self.found_mistake || is_mistake;
+        self.lines = self.lines.saturating_add(1);
+        if self.explains {
+            let number = u64::try_from(number).unwrap_or(u64::MAX);
+            self.tell(alloc, number, line, reply);
+            let _ = self.open.take(alloc, line, reply);
+        }
+    }
+
     /// Tells at the end of a run how many lines were refused, and which sessions were never ended.
     pub(crate) fn tell_end(&self) {
         if self.refused == 0 && !self.open.is_empty() {
@@ -163,13 +195,7 @@ impl Explainer {
 impl Observes for Explainer {
     ghost sees = { notes };
 
-    fn observe(&mut self, alloc: Global, number: u128, line: &[u8], reply: &str) {
-        self.found_mistake = self.found_mistake || tells_mistake(reply);
-        self.lines = self.lines.saturating_add(1);
-        if self.explains {
-            let number = u64::try_from(number).unwrap_or(u64::MAX);
-            self.tell(alloc, number, line, reply);
-            let _ = self.open.take(alloc, line, reply);
-        }
+    fn observe(&mut self, alloc: Global, number: u128, line: &[u8], answer: &Answer) {
+        self.note(alloc, number, line, &answer.text, is_mistake(answer));
     }
 }

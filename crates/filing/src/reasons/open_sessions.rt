@@ -1,7 +1,7 @@
 //! `OpenSessions`: the sessions of a script that were opened and not ended yet.
 
 use oim_report::json_value;
-use script_format::text_at;
+use script_format::JsonArray;
 use std::alloc::{AllocError, Global};
 use std::collections::BTreeMap;
 
@@ -32,7 +32,7 @@ fn session_named(alloc: Global, line: &[u8]) -> Result<Option<String>, AllocErro
     let Some(value) = json_value(alloc, line)? else {
         return Ok(None);
     };
-    match (text_at(&value, 0), text_at(&value, 1)) {
+    match (value.text_at(0), value.text_at(1)) {
         (Some("load"), _) | (_, None) => Ok(None),
         (_, Some(name)) => Ok(Some(String::from_str(alloc, name)?)),
     }

@@ -4,8 +4,9 @@ use crate::fault::Fault;
 use crate::files::named::Reasons;
 use crate::reasons::explainer::Explainer;
 use filing_args::ThreadsWords;
-use filing_cli::{Observes, is_blank};
+use filing_cli::is_blank;
 use oim_fact::NumericTable;
+use script_reasons::tells_mistake;
 use std::alloc::Global;
 use std::str::from_utf8;
 use std::sync::Arc;
@@ -27,7 +28,7 @@ fn show_script(
         };
         shown = shown.saturating_add(1);
         if let Ok(reply) = from_utf8(reply) {
-            explainer.observe(alloc, place as u128 + 1, line, reply);
+            explainer.note(alloc, place as u128 + 1, line, reply, tells_mistake(reply));
         }
     }
     shown

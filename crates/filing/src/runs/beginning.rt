@@ -6,9 +6,9 @@ ghost use Rattle.line_io.specs.Devices.{new_source};
 ghost use Rattle.filing.specs.Runs.{BeginsOn, IsNotBegun};
 
 use crate::fault::Fault;
-use crate::files::history::{HistoryFile, opened};
+use crate::files::history::{HistoryFile, open_history};
 use crate::files::named::Reasons;
-use crate::reasons::departure::explained;
+use crate::reasons::departure::explain_fault;
 use filing_cli::{FromReader, Source, view_history};
 use filing_core::{Engine, HashKeys, Verdict};
 use oim_fact::NumericTable;
@@ -17,7 +17,6 @@ use std::alloc::Global;
 use std::io::Read;
 use std::mem::forget;
 use std::sync::Arc;
-use std::sync::ledger::{Blank, Ledger};
 
 /// The fault of a history that departs at a place, from 0.
 pub(crate) fn departure(place: usize) -> Fault
@@ -26,8 +25,8 @@ pub(crate) fn departure(place: usize) -> Fault
     Fault::HistoryLine(place as u128 + 1)
 }
 
-/// The engine of the lawful history that a source gives to its end, and what a view sees of it; with no source, an engine that took no step, and the view as it was.
-/// The source is given back.
+/// The engine of the lawful history that a source gives to its end, and what a view sees of it. The source is given back.
+/// With no source it is an engine that took no step, and the view as it was.
 pub(crate) fn begin_from<V: View + Drop, H: Source + Drop>(
     alloc: Global,
     keys: HashKeys,
@@ -63,17 +62,12 @@ pub(crate) fn begin_from<V: View + Drop, H: Source + Drop>(
 }
 
 /// A source of what a reader gives, if there is one.
-pub(crate) fn source_of<H: Read + Drop, M: Ledger>(
-    reader: Option<H>,
-    blank: Blank,
-) -> Option<FromReader<H, M>>
-    requires name { blank.name ≡ M.name }
-    requires parts { blank.parts ≡ M.parts }
-    requires three { 3 ≤ blank.parts }
-    ensures { option_map ⟦<FromReader<H, M> as Source>⟧.state result ≡ option_map (λ r. new_source (H.remaining r)) reader }
+pub(crate) fn source_of<H: Read + Drop>(reader: Option<H>) -> Option<FromReader<H>>
+    ensures { option_map ⟦<FromReader<H> as Source>⟧.state result
+        ≡ option_map (λ r. new_source (H.remaining r)) reader }
 {
     match reader {
-        Some(reader) => Some(FromReader::new(reader, blank)),
+        Some(reader) => Some(FromReader::new(reader)),
         None => None,
     }
 }
@@ -87,7 +81,7 @@ pub(crate) fn history_given<'a>(
     ensures { IfOk result (λ file. is_some file ≡ is_some from.entry) }
 {
     match from {
-        Some(path) => Ok(Some(opened(rt, path, reasons)?)),
+        Some(path) => Ok(Some(open_history(rt, path, reasons)?)),
         None => Ok(None),
     }
 }
@@ -103,7 +97,7 @@ pub(crate) fn begin_fault(
     ensures { result ≡ fault }
 {
     match from {
-        Some(path) => explained(rt, path, reasons, table, fault),
+        Some(path) => explain_fault(rt, path, reasons, table, fault),
         None => fault,
     }
 }

@@ -1,6 +1,6 @@
 //! Scripts whose history goes to a file.
 
-ghost use Rattle.std.specs.Prelude.{◌≡◌, ◌≤◌, ◌<◌, [], false, option_map, OnOk};
+ghost use Rattle.std.specs.Prelude.{◌≡◌, [], false, option_map, OnOk};
 ghost use Rattle.std.specs.Arc.{arc_value};
 ghost use Rattle.line_io.specs.Devices.{new_source};
 ghost use Rattle.filing_core.specs.Engines.{IsEngineOf};
@@ -16,6 +16,7 @@ use crate::keys::drawn_keys;
 use crate::progress::{Watched, input_length};
 use crate::reasons::explainer::Explainer;
 use crate::runs::beginning::{begin_fault, begin_from, history_given, source_of};
+use crate::runs::between::{Between, ResumedRun};
 use filing_args::RunWords;
 use filing_cli::{
     EntryFile, FromReader, RecordedRun, Sink, Source, ToWriter, record_script_observed,
@@ -26,12 +27,11 @@ use journal_file::JournalFile;
 use oim_fact::NumericTable;
 use std::alloc::Global;
 use std::io::{Read, Write};
-use std::marker::Brand;
 use std::mem::forget;
 use std::sync::Arc;
-use std::sync::ledger::{Blank, Ledger};
 
-/// Runs a script from a source, writes its replies to a sink, and has lines and replies explained. It goes on from the history that another source gives, or from none.
+/// Runs a script from a source, writes its replies to a sink, and has lines and replies explained.
+/// It goes on from the history that another source gives, or from none.
 /// The lines of all entries are written to a file. That source and the explainer are given back.
 fn record_script<D: Device + Drop, H: Source + Drop, R: Source, W: Sink>(
     alloc: Global,
@@ -42,16 +42,23 @@ fn record_script<D: Device + Drop, H: Source + Drop, R: Source, W: Sink>(
     source: &mut R,
     sink: &mut W,
     table: &Arc<NumericTable>,
-) -> (Option<H>, Explainer, Result<(Engine, EntryFile<D>), Fault>)
+) -> ResumedRun<H, (Engine, EntryFile<D>)>
     requires { HasLines D.seen entries [] }
     ensures ran { RunsFrom H.state R.state (arc_value table.now) (λ t h. IsEngineOf h t.0 × HasLines D.seen t.1 h)
-        from result.0 result.2 source.old source.new (W.state sink.old) (W.state sink.new) }
-    ensures noted { OnOk result.2 (NotesMistakes (W.state sink.old).written (W.state sink.new).written explainer result.1) }
+        from result.from result.ended source.old source.new (W.state sink.old) (W.state sink.new) }
+    ensures noted { OnOk result.ended
+        (NotesMistakes (W.state sink.old).written (W.state sink.new).written explainer result.explainer) }
 {
     let (from, found) = begin_from(alloc, keys, from, table, entries);
     let (engine, entries) = match found {
         Ok(found) => found,
-        Err(fault) => return (from, explainer, Err(fault)),
+        Err(fault) => {
+            return ResumedRun {
+                from,
+                explainer,
+                ended: Err(fault),
+            };
+        }
     };
     let (run, explainer) = record_script_observed(
         alloc, engine, entries, explainer, source, sink, table,
@@ -62,25 +69,25 @@ fn record_script<D: Device + Drop, H: Source + Drop, R: Source, W: Sink>(
         entries,
     } = run;
     match ended {
-        Ok(()) => (from, explainer, Ok((engine, entries))),
+        Ok(()) => ResumedRun {
+            from,
+            explainer,
+            ended: Ok((engine, entries)),
+        },
         Err(fault) => {
             forget(engine);
             drop(entries);
-            (from, explainer, Err(Fault::from(fault)))
+            ResumedRun {
+                from,
+                explainer,
+                ended: Err(Fault::from(fault)),
+            }
         }
     }
 }
 
 /// Runs a script as `record_script` does, from a reader to a writer. Both are given back.
-fn record_between<
-    D: Device + Drop,
-    H: Read + Drop,
-    R: Read + Drop,
-    W: Write + Drop,
-    M: Ledger,
-    L: Ledger,
-    K: Ledger,
->(
+fn record_between<D: Device + Drop, H: Read + Drop, R: Read + Drop, W: Write + Drop>(
     alloc: Global,
     keys: HashKeys,
     from: Option<H>,
@@ -89,32 +96,21 @@ fn record_between<
     reader: R,
     writer: W,
     table: &Arc<NumericTable>,
-    from_blank: Blank,
-    source_blank: Blank,
-    sink_blank: Blank,
-) -> (R, W, Explainer, Result<(Engine, EntryFile<D>), Fault>)
+) -> Between<R, W, ResumedRun<FromReader<H>, (Engine, EntryFile<D>)>>
     requires empty { HasLines D.seen entries [] }
-    requires from_name { from_blank.name ≡ M.name }
-    requires from_parts { from_blank.parts ≡ M.parts }
-    requires from_three { 3 ≤ from_blank.parts }
-    requires source_name { source_blank.name ≡ L.name }
-    requires source_parts { source_blank.parts ≡ L.parts }
-    requires source_three { 3 ≤ source_blank.parts }
-    requires sink_name { sink_blank.name ≡ K.name }
-    requires sink_parts { sink_blank.parts ≡ K.parts }
-    requires sink_some { 0 < sink_blank.parts }
-    ensures ran { (first : _) × ((first' : _)
-        × ((option_map ⟦<FromReader<H, M> as Source>⟧.state first ≡ option_map (λ r. new_source (H.remaining r)) from)
-        × Over ⟦<FromReader<R, L> as Source>⟧.state ⟦<ToWriter<W, K> as Sink>⟧.state
-        (R.remaining reader) (R.remaining result.0) (W.contents writer) (W.contents result.1)
-        (RunsFrom ⟦<FromReader<H, M> as Source>⟧.state ⟦<FromReader<R, L> as Source>⟧.state (arc_value table.now)
-        (λ t h. IsEngineOf h t.0 × HasLines D.seen t.1 h) first first' result.3))) }
-    ensures noted { OnOk result.3 (NotesMistakes (W.contents writer) (W.contents result.1) explainer result.2) }
+    ensures ran { (first : _) × ((option_map ⟦<FromReader<H> as Source>⟧.state first
+        ≡ option_map (λ r. new_source (H.remaining r)) from)
+        × Over ⟦<FromReader<R> as Source>⟧.state ⟦<ToWriter<W> as Sink>⟧.state
+        (R.remaining reader) (R.remaining result.reader) (W.contents writer) (W.contents result.writer)
+        (RunsFrom ⟦<FromReader<H> as Source>⟧.state ⟦<FromReader<R> as Source>⟧.state (arc_value table.now)
+        (λ t h. IsEngineOf h t.0 × HasLines D.seen t.1 h) first result.left.from result.left.ended)) }
+    ensures noted { OnOk result.left.ended (NotesMistakes (W.contents writer) (W.contents result.writer)
+        explainer result.left.explainer) }
 {
-    let from: Option<FromReader<H, M>> = source_of(from, from_blank);
-    let mut source: FromReader<R, L> = FromReader::new(reader, source_blank);
-    let mut sink: ToWriter<W, K> = ToWriter::new(writer, sink_blank);
-    let (_, explainer, ended) = record_script(
+    let from = source_of(from);
+    let mut source = FromReader::new(reader);
+    let mut sink = ToWriter::new(writer);
+    let left = record_script(
         alloc,
         keys,
         from,
@@ -124,7 +120,11 @@ fn record_between<
         &mut sink,
         table,
     );
-    (source.into_inner(), sink.into_inner(), explainer, ended)
+    Between {
+        reader: source.into_inner(),
+        writer: sink.into_inner(),
+        left,
+    }
 }
 
 /// Runs the script on standard input, and gives the file with the whole history, and the status. That a write to it failed is a fault at the end.
@@ -141,7 +141,7 @@ fn history_of_input(
     let keys = drawn_keys(rt, reasons)?;
     let explainer = Explainer::new(rt, table, reasons.are_told())?;
     let from = history_given(rt, given.from, reasons)?;
-    let (_, _, explainer, ended) = record_between::<_, _, _, _, Brand, Brand, Brand>(
+    let Between { left, .. } = record_between(
         rt.alloc(),
         keys,
         from,
@@ -150,12 +150,14 @@ fn history_of_input(
         Watched::new(rt, Named::new(rt.stdin(), INPUT, reasons), input_length(rt)),
         Named::new(rt.stdout(), OUTPUT, reasons),
         table,
-        Blank::new(3),
-        Blank::new(3),
-        Blank::new(1),
     );
+    let ResumedRun {
+        explainer,
+        ended,
+        ..
+    } = left;
     let (engine, entries) = match ended {
-        Ok(ran) => ran,
+        Ok(kept) => kept,
         Err(fault) => return Err(begin_fault(rt, given.from, reasons, table, fault)),
     };
     forget(engine);
@@ -167,7 +169,7 @@ fn history_of_input(
 }
 
 /// Runs the script on standard input, from a history or from nothing, and puts the whole history to where a path leads once it has ended.
-pub(crate) fn run_recorded(
+pub(crate) fn run_to_history(
     rt: &HostRuntime,
     table: &Arc<NumericTable>,
     given: &RunWords<'_>,

@@ -1,5 +1,6 @@
 -- A call is answered alike in two repositories that agree on what it reads, reads the same in both, and keeps all that they agree on.
-use Rattle.std.proofs.Common.{◌≡◌, ◌∙◌, ap, sym, refl, subst, ℕ, Bool, true, false, cond, ◌&&◌, List, map, Option, Some, None, is_some, option_map, option_and_then}
+use Rattle.std.proofs.Common.{◌≡◌, ◌∙◌, ap, sym, refl, subst, ℕ, Bool, true, false, cond, ◌&&◌, List, map}
+use Rattle.std.proofs.Common.{Option, Some, None, is_some, option_map, option_and_then}
 use Rattle.std.specs.Option.{option_map_or}
 use Rattle.std.specs.declared.result.Result.{Result}
 use Rattle.std.specs.declared.result.Result.TheVariants.{Ok, Err}
@@ -50,13 +51,14 @@ names_there c name r is = ap (option_map (λ (r : Report). r.names)) is
 pub fact_there : (c : Repository) (name : Text) (r : Report) (id : Text) → report_at c name ≡ Some r → fact_at c name id ≡ fact_in r id
 fact_there c name r id there = ap (option_and_then (λ r. fact_in r id)) there
 
-pub there : (c : Repository) (name : Text) (r : Report) → report_at c name ≡ Some r → is_some (report_at c name) ≡ true
-there c name r is = ap is_some is
-
-names_alike : (c d : Repository) (name : Text) (r s : Report) → Stays c d → report_at c name ≡ Some r → report_at d name ≡ Some s → r.names ≡ s.names
+names_alike : (c d : Repository) (name : Text) (r s : Report) → Stays c d
+    → report_at c name ≡ Some r → report_at d name ≡ Some s → r.names ≡ s.names
 names_alike c d name r s stays in_c in_d =
     let names : Some r.names ≡ Some s.names = sym (stays name r.names (names_there c name r in_c)) ∙ names_there d name s in_d in
     cc
+
+pub there : (c : Repository) (name : Text) (r : Report) → report_at c name ≡ Some r → is_some (report_at c name) ≡ true
+there c name r is = ap is_some is
 
 -- ---- in that report
 
@@ -67,26 +69,26 @@ module _ (c d : Repository) (name : Text) (r s : Report) (in_c : report_at c nam
   fact_alike : (id : Text) → Agree (thing.Id name id) c d → fact_in r id ≡ fact_in s id
   fact_alike id agree = sym (fact_there c name r id in_c) ∙ agree_fact name id c d agree ∙ fact_there d name s id in_d
 
-  facts_alike : (test : Text → Fact → Bool) → ((id : Text) → only (test id) (fact_at c name id) ≡ only (test id) (fact_at d name id)) → (id : Text)
-      → only (test id) (fact_in r id) ≡ only (test id) (fact_in s id)
-  facts_alike test same id = ap (only (test id)) (sym (fact_there c name r id in_c)) ∙ same id ∙ ap (only (test id)) (fact_there d name s id in_d)
+  facts_alike : (test : Text → Fact → Bool) → ((id : Text) → only (test id) (fact_at c name id) ≡ only (test id) (fact_at d name id))
+      → (id : Text) → only (test id) (fact_in r id) ≡ only (test id) (fact_in s id)
+  facts_alike test same id =
+      ap (only (test id)) (sym (fact_there c name r id in_c)) ∙ same id ∙ ap (only (test id)) (fact_there d name s id in_d)
+
+  -- a read leaves both copies
+  read_alike : {x y : Reply} {t u : Option Thing} → x ≡ y → t ≡ u → IsAlike c d (x, c) (y, d) t u
+  read_alike reply read = record { reply = reply; kept = λ t agree. agree; read = read }
 
   get_alike : (id : Text) → Agree (thing.Id name id) c d → Alike (call.Get name id)
-  get_alike id agree = record {
-    reply = ap (λ o. option_map_or reply.Found o reply.Absent) (fact_alike id agree);
-    kept = λ t agree. agree;
-    read = refl;
-  }
+  get_alike id agree = read_alike (ap (λ o. option_map_or reply.Found o reply.Absent) (fact_alike id agree)) refl
 
   cell_alike : (dims : Dims) → Agree (thing.Cell name dims) c d → Alike (call.Cell name dims)
-  cell_alike dims agree = record {
-    reply = ap (λ (es : List (Text × Fact)). reply.Cell (class_of (map (λ e. e.1) es)) (map (λ e. e.0) es))
-        (those_same (λ id fact. has_dims dims fact) r.facts s.facts (facts_alike (λ id fact. has_dims dims fact) agree.facts));
-    kept = λ t agree. agree;
-    read = refl;
-  }
+  cell_alike dims agree = read_alike
+      (ap (λ (es : List (Text × Fact)). reply.Cell (class_of (map (λ e. e.1) es)) (map (λ e. e.0) es))
+      (those_same (λ id fact. has_dims dims fact) r.facts s.facts (facts_alike (λ id fact. has_dims dims fact) agree.facts)))
+      refl
 
-  front_alike : (query : PageQuery) (limit : ℕ) → Agree (thing.Range name query (first_cut limit (ids_for query r.facts))) c d → SameFront limit (ids_for query r.facts) (ids_for query s.facts)
+  front_alike : (query : PageQuery) (limit : ℕ) → Agree (thing.Range name query (first_cut limit (ids_for query r.facts))) c d
+      → SameFront limit (ids_for query r.facts) (ids_for query s.facts)
   front_alike query limit agree =
       let upto = first_cut limit (ids_for query r.facts) in
       let sees : Text → Fact → Bool = λ id fact. is_within query.after upto id && answers_query query.concept query.period fact in
@@ -95,50 +97,52 @@ module _ (c d : Repository) (name : Text) (r s : Report) (in_c : report_at c nam
       ∙ ap (λ (es : List (Text × Fact)). map (λ e. e.0) es) (those_same sees r.facts s.facts (facts_alike sees agree.facts))
       ∙ sym (page_query_upto query upto s.facts.entries))
 
-  page_alike : (query : PageQuery) (limit : Limit) → Agree (thing.Range name query (first_cut limit.number (ids_for query r.facts))) c d → Alike (call.Page name query limit)
+  page_alike : (query : PageQuery) (limit : Limit) → Agree (thing.Range name query (first_cut limit.number (ids_for query r.facts))) c d
+      → Alike (call.Page name query limit)
   page_alike query limit agree =
       let same = front_alike query limit.number agree in
-      record {
-        reply = λ i. reply.Page (same.front i) (is_some (same.cut i));
-        kept = λ t agree. agree;
-        read = ap (λ upto. Some (thing.Range name query upto)) same.cut;
-      }
-
-  fitted_alike : (id : Text) (fit : Result Fact FactFault) → IsAlike c d (fitted c name id fit) (fitted d name id fit) (Some (thing.Id name id)) (Some (thing.Id name id))
-  fitted_alike id (Ok fact) = record { reply = refl; kept = λ t agree. agree_kept t c d name id (Some fact) (there c name r in_c) (there d name s in_d) agree; read = refl }
-  fitted_alike id (Err fault) = record { reply = refl; kept = λ t agree. agree; read = refl }
-
-  added_alike : (id : Text) (taken : Bool) (fit : Result Fact FactFault)
-      → IsAlike c d (cond taken (reply.Taken, c) (fitted c name id fit)) (cond taken (reply.Taken, d) (fitted d name id fit)) (Some (thing.Id name id)) (Some (thing.Id name id))
-  added_alike id true fit = record { reply = refl; kept = λ t agree. agree; read = refl }
-  added_alike id false fit = fitted_alike id fit
-
-  add_alike : (id : Text) (raw : RawFact) → r.names ≡ s.names → Agree (thing.Id name id) c d → Alike (call.Add name id raw)
-  add_alike id raw names agree =
-      let taken : is_some (fact_in r id) ≡ is_some (fact_in s id) = ap is_some (fact_alike id agree) in
-      let fit : fit_of r.names raw ≡ fit_of s.names raw = ap (λ names. fit_of names raw) names in
-      subst (λ b. IsAlike c d (added c name id raw r) (cond b (reply.Taken, d) (fitted d name id (fit_of s.names raw))) (Some (thing.Id name id)) (Some (thing.Id name id))) taken
-      (subst (λ x. IsAlike c d (added c name id raw r) (cond (is_some (fact_in r id)) (reply.Taken, d) (fitted d name id x)) (Some (thing.Id name id)) (Some (thing.Id name id))) fit
-      (added_alike id (is_some (fact_in r id)) (fit_of r.names raw)))
-
-  removed_alike : (id : Text) (found : Bool)
-      → IsAlike c d (cond found (reply.Staged, with_fact_at c name id None) (reply.Absent, c))
-      (cond found (reply.Staged, with_fact_at d name id None) (reply.Absent, d)) (Some (thing.Id name id))
-      (Some (thing.Id name id))
-  removed_alike id true = record { reply = refl; kept = λ t agree. agree_kept t c d name id None (there c name r in_c) (there d name s in_d) agree; read = refl }
-  removed_alike id false = record { reply = refl; kept = λ t agree. agree; read = refl }
-
-  remove_alike : (id : Text) → Agree (thing.Id name id) c d → Alike (call.Remove name id)
-  remove_alike id agree =
-      let found : is_some (fact_in r id) ≡ is_some (fact_in s id) = ap is_some (fact_alike id agree) in
-      subst (λ b. IsAlike c d (removed c name id r) (cond b (reply.Staged, with_fact_at d name id None) (reply.Absent, d)) (Some (thing.Id name id)) (Some (thing.Id name id))) found
-      (removed_alike id (is_some (fact_in r id)))
+      read_alike (λ i. reply.Page (same.front i) (is_some (same.cut i))) (ap (λ upto. Some (thing.Range name query upto)) same.cut)
 
   declared_alike : Agree (thing.Policy name) c d → Alike (call.Declared name)
   declared_alike agree =
-      let same : Some r.allowed ≡ Some s.allowed = sym (ap (option_map (λ (r : Report). r.allowed)) in_c) ∙ agree.value ∙ ap (option_map (λ (r : Report). r.allowed)) in_d in
+      let same : Some r.allowed ≡ Some s.allowed =
+      sym (ap (option_map (λ (r : Report). r.allowed)) in_c) ∙ agree.value ∙ ap (option_map (λ (r : Report). r.allowed)) in_d in
       let values : r.allowed ≡ s.allowed = cc in
-      record { reply = ap reply.Declared values; kept = λ t agree. agree; read = refl }
+      read_alike (ap reply.Declared values) refl
+
+  -- an addition and a removal read their identifier
+  abbrev AlikeAt : Text → Answer → Answer → Type 0
+  AlikeAt id p q = IsAlike c d p q (Some (thing.Id name id)) (Some (thing.Id name id))
+
+  put_alike : (id : Text) (fact : Option Fact) → AlikeAt id (reply.Staged, with_fact_at c name id fact) (reply.Staged, with_fact_at d name id fact)
+  put_alike id fact = record {
+    reply = refl;
+    kept = λ t agree. agree_kept t c d name id fact (there c name r in_c) (there d name s in_d) agree;
+    read = refl;
+  }
+
+  added_alike : (id : Text) (taken : Bool) (fit : Result Fact FactFault)
+      → AlikeAt id (cond taken (reply.Taken, c) (fitted c name id fit)) (cond taken (reply.Taken, d) (fitted d name id fit))
+  added_alike id true fit = read_alike refl refl
+  added_alike id false (Ok fact) = put_alike id (Some fact)
+  added_alike id false (Err fault) = read_alike refl refl
+
+  add_alike : (id : Text) (raw : RawFact) → r.names ≡ s.names → Agree (thing.Id name id) c d → Alike (call.Add name id raw)
+  add_alike id raw names agree = subst
+      (λ (p : Option Fact × Names). AlikeAt id (added c name id raw r)
+      (cond (is_some p.0) (reply.Taken, d) (fitted d name id (fit_of p.1 raw))))
+      (λ i. (fact_alike id agree i, names i)) (added_alike id (is_some (fact_in r id)) (fit_of r.names raw))
+
+  removed_alike : (id : Text) (found : Bool)
+      → AlikeAt id (cond found (reply.Staged, with_fact_at c name id None) (reply.Absent, c))
+      (cond found (reply.Staged, with_fact_at d name id None) (reply.Absent, d))
+  removed_alike id true = put_alike id None
+  removed_alike id false = read_alike refl refl
+
+  remove_alike : (id : Text) → Agree (thing.Id name id) c d → Alike (call.Remove name id)
+  remove_alike id agree = subst
+      (λ o. AlikeAt id (removed c name id r) (cond (is_some o) (reply.Staged, with_fact_at d name id None) (reply.Absent, d)))
+      (fact_alike id agree) (removed_alike id (is_some (fact_in r id)))
 
   declare_alike : (value : Allowed) → Alike (call.Declare name value)
   declare_alike value = record {
@@ -147,7 +151,8 @@ module _ (c d : Repository) (name : Text) (r s : Report) (in_c : report_at c nam
     read = refl;
   }
 
-alike_in : (c d : Repository) (ask : Call) (r s : Report) → report_at c (report_of_call ask) ≡ Some r → report_at d (report_of_call ask) ≡ Some s → r.names ≡ s.names → AgreeOn (read_in ask r) c d
+alike_in : (c d : Repository) (ask : Call) (r s : Report) → report_at c (report_of_call ask) ≡ Some r → report_at d (report_of_call ask) ≡ Some s
+    → r.names ≡ s.names → AgreeOn (read_in ask r) c d
     → IsAlike c d (answer_in c ask r) (answer_in d ask s) (read_in ask r) (read_in ask s)
 alike_in c d (call.Get name id) r s in_c in_d names agree = get_alike c d name r s in_c in_d id agree
 alike_in c d (call.Cell name dims) r s in_c in_d names agree = cell_alike c d name r s in_c in_d dims agree

@@ -1,6 +1,6 @@
--- Two rising lists that have the same identifiers up to the first that a limit cuts from one of them: the limit leaves the same front of both and cuts the same identifier.
+-- Where two rising lists agree up to the first identifier that a limit cuts from one, it leaves the same front of both and cuts the same identifier.
 use Rattle.std.proofs.Common.{◌≡◌, ◌∙◌, ap, sym, refl, subst, ℕ, zero, suc, Bool, true, false, cond, not, ◌&&◌, T}
-use Rattle.std.proofs.Common.{List, [], ◌∷◌, map, filter, take, Option, Some, None, Ordering, Less, Equal, Greater}
+use Rattle.std.proofs.Common.{List, [], ◌∷◌, map, filter, take, Option, Some, None, Ordering, Less}
 use Rattle.std.proofs.Common.{is_lt, true≢false}
 use Rattle.std.specs.Option.{option_map_or}
 use Rattle.std.specs.Cmp.Lexicographic.{nat_list_cmp_total}
@@ -13,7 +13,7 @@ use Rattle.filing_model.specs.Oim.Facts.{Fact}
 use Rattle.filing_model.specs.Sessions.Calls.{PageQuery}
 use Rattle.filing_model.specs.Sessions.Queries.{answers_query, query_ids, is_after, ids_after, ids_for, first_cut}
 use Rattle.filing_model.specs.Histories.Touches.{is_within}
-use Rattle.filing_model.proofs.Common.Tests.{both_hold, first_holds, second_holds}
+use Rattle.filing_model.proofs.Common.Tests.{both_hold, first_holds, second_holds, less_from_is_lt}
 use Rattle.filing_laws.proofs.Lists.FilteredFacts.{sorted-filter}
 
 -- ---- rising identifiers
@@ -27,16 +27,11 @@ abbrev pub rises : List Text → Bool
 rises [] = true
 rises (x ∷ xs) = below_each x xs && rises xs
 
-less_is : (o : Ordering) → T (is_lt o) → o ≡ Less
-less_is Less h = refl
-less_is Equal h = absurd h
-less_is Greater h = absurd h
-
 is_less : (o : Ordering) → o ≡ Less → T (is_lt o)
 is_less o h = subst (λ o. T (is_lt o)) (sym h) tt
 
 less_then : (x y z : Text) → T (is_lt (text_cmp x y)) → T (is_lt (text_cmp y z)) → T (is_lt (text_cmp x z))
-less_then x y z a b = is_less (text_cmp x z) (nat_list_cmp_total.trans x y z (less_is (text_cmp x y) a) (less_is (text_cmp y z) b))
+less_then x y z a b = is_less (text_cmp x z) (nat_list_cmp_total.trans x y z (less_from_is_lt (text_cmp x y) a) (less_from_is_lt (text_cmp y z) b))
 
 -- what is less than the first is less than all
 pub below_from_less : (x y : Text) (ys : List Text) → T (is_lt (text_cmp x y)) → T (below_each y ys) → T (below_each x ys)
@@ -88,7 +83,7 @@ IsBefore x (Some last) = T (is_lt (text_cmp x last))
 before_the_end : (x : Text) (upto : Option Text) → IsBefore x upto → is_upto upto x ≡ true
 before_the_end x None less = refl
 before_the_end x (Some u) less =
-    ap (λ o. not (is_lt o)) (nat_list_cmp_total.antisymm u x ∙ ap ordering_reverse (less_is (text_cmp x u) less))
+    ap (λ o. not (is_lt o)) (nat_list_cmp_total.antisymm u x ∙ ap ordering_reverse (less_from_is_lt (text_cmp x u) less))
 
 -- the end itself too
 the_end_itself : (x : Text) → is_upto (Some x) x ≡ true
@@ -113,7 +108,8 @@ same_end x xs ys below rise same = by ys rise (sym first ∙ same)
     first = ap (λ b. cond b (x ∷ ids_upto (Some x) xs) (ids_upto (Some x) xs)) (the_end_itself x)
         ∙ ap (λ rest. x ∷ rest) (none_behind x xs below)
 
-    at : (y : Text) (zs : List Text) → T (below_each y zs) → (b : Bool) → is_upto (Some x) y ≡ b → x ∷ [] ≡ cond b (y ∷ ids_upto (Some x) zs) (ids_upto (Some x) zs) → SameFront 0 (x ∷ xs) (y ∷ zs)
+    at : (y : Text) (zs : List Text) → T (below_each y zs) → (b : Bool) → is_upto (Some x) y ≡ b
+        → x ∷ [] ≡ cond b (y ∷ ids_upto (Some x) zs) (ids_upto (Some x) zs) → SameFront 0 (x ∷ xs) (y ∷ zs)
     at y zs after true is same = let here : x ≡ y = cc in record { front = refl; cut = ap Some here }
     at y zs after false out same = let apart : x ∷ [] ≡ [] = same ∙ none_later (Some x) y zs out after in absurd (cc)
 
@@ -126,7 +122,8 @@ same_front n [] ys rise_x rise_y same =
     let none : [] ≡ ys = same ∙ all_without_end ys in
     record { front = ap (take n) none; cut = ap (first_cut n) none }
 same_front zero (x ∷ xs) ys rise_x rise_y same = same_end x xs ys (first_holds (below_each x xs) (rises xs) rise_x) rise_y same
-same_front (suc n) (x ∷ xs) ys rise_x rise_y same = by (λ zs. same_front n xs zs (second_holds (below_each x xs) (rises xs) rise_x)) ys rise_y (sym first ∙ same)
+same_front (suc n) (x ∷ xs) ys rise_x rise_y same =
+    by (λ zs. same_front n xs zs (second_holds (below_each x xs) (rises xs) rise_x)) ys rise_y (sym first ∙ same)
   where
     end : Option Text
     end = first_cut n xs
@@ -197,7 +194,8 @@ pub page_query_upto : (query : PageQuery) (upto : Option Text) (es : List (Text 
     → ids_upto upto (ids_after query.after (map (λ e. e.0) (filter (λ e. answers_query query.concept query.period e.1) es)))
     ≡ map (λ e. e.0) (filter (λ e. is_within query.after upto e.0 && answers_query query.concept query.period e.1) es)
 page_query_upto query upto [] = refl
-page_query_upto query upto (e ∷ es) = by (answers_query query.concept query.period e.1) (is_after query.after e.0) refl (is_upto upto e.0) refl (page_query_upto query upto es)
+page_query_upto query upto (e ∷ es) =
+    by (answers_query query.concept query.period e.1) (is_after query.after e.0) refl (is_upto upto e.0) refl (page_query_upto query upto es)
   where
     rest : List Text
     rest = map (λ (e : Text × Fact). e.0) (filter (λ e. answers_query query.concept query.period e.1) es)

@@ -1,13 +1,11 @@
 -- A session's solo run in two repositories that agree on what it reads, what it may have read, and what it leaves.
-use Rattle.std.proofs.Common.{◌≡◌, ◌∙◌, ap, sym, refl, Bool, true, false, cond, ◌&&◌, List, [], ◌∷◌, Option, Some, None, is_some, option_map}
+use Rattle.std.proofs.Common.{◌≡◌, ◌∙◌, ap, sym, refl, Bool, true, false, cond, ◌&&◌, List, [], ◌∷◌, Option, Some, None, is_some, option_map, true≢false}
 use Rattle.std.specs.List.{cons_option}
 use Rattle.std.specs.Option.{option_map_or, option_or}
-use Rattle.std.specs.declared.result.Result.{Result}
-use Rattle.std.specs.declared.result.Result.TheVariants.{Ok, Err}
 use Rattle.filing_model.specs.Common.Text.{Text, text_eq}
-use Rattle.filing_model.specs.Oim.Facts.{Fact, RawFact, fit_of}
+use Rattle.filing_model.specs.Oim.Facts.{Fact}
 use Rattle.filing_model.specs.Oim.Reports.{Report}
-use Rattle.filing_model.specs.Sessions.Repository.{Repository, report_at, fact_in, fact_at, with_fact_at, declaring_at}
+use Rattle.filing_model.specs.Sessions.Repository.{Repository, report_at, fact_at, with_fact_at, declaring_at}
 use Rattle.filing_model.specs.Sessions.Changes.{declaring_if}
 use Rattle.filing_model.specs.Sessions.Calls as call
 use Rattle.filing_model.specs.Sessions.Calls.{Call, report_of_call}
@@ -15,18 +13,18 @@ use Rattle.filing_model.specs.Sessions.Replies as reply
 use Rattle.filing_model.specs.Sessions.Replies.{Reply}
 use Rattle.filing_model.specs.Sessions.Things as thing
 use Rattle.filing_model.specs.Sessions.Things.{Thing, report_of}
-use Rattle.filing_model.specs.Sessions.Sessions.{Answer, may_make, answer_in, answer, solo_replies, solo_copy, fitted}
+use Rattle.filing_model.specs.Sessions.Sessions.{Answer, may_make, answer_in, answer, solo_replies, solo_copy}
 use Rattle.filing_model.specs.Histories.Touches.{read_in, read_by, reads, if_staged, place_of_call, value_of_call, staged_places, staged_values}
 use Rattle.filing_model.specs.declared.duplicates.Allowed.{Allowed}
 use Rattle.filing_model.specs.declared.kind.Kind.{Kind}
-use Rattle.filing_model.specs.declared.faults.FactFault.{FactFault}
 use Rattle.filing_laws.proofs.Lists.EachElement.{Each, OnEach, each_mapped, each_parts, each_joined, IsNever, never_parts}
 use Rattle.filing_laws.proofs.Lists.WithOneFact.{names_at, fact_at-with_fact_at}
-use Rattle.filing_laws.proofs.Lists.WithOneValue.{bare_at, names_of_bare, value_for, last_value, names-declaring_if}
+use Rattle.filing_laws.proofs.Lists.WithOneValue.{bare_at, names_of_bare, value_for, last_value, or_none, names-declaring_if}
 use Rattle.filing_laws.proofs.Lists.WithOneValue.{declaring_twice, nothing_declared, bare_at-with_fact_at}
 use Rattle.filing_laws.proofs.Lists.WithOneValue.{bare_at-declaring_at, fact_at-declaring_at}
 use Rattle.filing_laws.proofs.Agreement.AgreeOnThings.{Agree}
 use Rattle.filing_laws.proofs.Agreement.AnsweredAlike.{Stays, call_alike, there}
+use Rattle.filing_laws.proofs.Agreement.AnswerCases.{finds_none, stages, each_answer}
 
 -- ---- what a call leaves
 
@@ -41,13 +39,15 @@ pub record Leaves (c : Repository) (place : Option (Text × Text)) (value : Opti
 leaves_all : (c : Repository) (place : Option (Text × Text)) → Leaves c place None c
 leaves_all c place = record { facts = λ m q out. refl; heads = λ m. sym (nothing_declared (bare_at c m)) }
 
-leaves_facts : (c : Repository) (name id : Text) (fact : Option Fact) → is_some (report_at c name) ≡ true → Leaves c (Some (name, id)) None (with_fact_at c name id fact)
+leaves_facts : (c : Repository) (name id : Text) (fact : Option Fact) → is_some (report_at c name) ≡ true
+    → Leaves c (Some (name, id)) None (with_fact_at c name id fact)
 leaves_facts c name id fact is = record {
   facts = λ m q out. fact_at-with_fact_at c name id fact m q is ∙ ap (λ b. cond b fact (fact_at c m q)) out;
   heads = λ m. bare_at-with_fact_at c name id fact m ∙ sym (nothing_declared (bare_at c m));
 }
 
-leaves_value : (c : Repository) (name : Text) (value : Allowed) → is_some (report_at c name) ≡ true → Leaves c None (Some (name, value)) (declaring_at c name value)
+leaves_value : (c : Repository) (name : Text) (value : Allowed) → is_some (report_at c name) ≡ true
+    → Leaves c None (Some (name, value)) (declaring_at c name value)
 leaves_value c name value is = record {
   facts = λ m q out. fact_at-declaring_at c name value m q;
   heads = λ m. bare_at-declaring_at c name value m is;
@@ -57,39 +57,21 @@ leaves_value c name value is = record {
 abbrev pub LeavesBy : Repository → Call → Answer → Type 0
 LeavesBy c ask a = Leaves c (if_staged a.0 (place_of_call ask)) (if_staged a.0 (value_of_call ask)) a.1
 
-added_leaves : (c : Repository) (name id : Text) (raw : RawFact) → is_some (report_at c name) ≡ true → (taken : Bool) (fit : Result Fact FactFault)
-    → LeavesBy c (call.Add name id raw) (cond taken (reply.Taken, c) (fitted c name id fit))
-added_leaves c name id raw is true fit = leaves_all c None
-added_leaves c name id raw is false (Ok fact) = leaves_facts c name id (Some fact) is
-added_leaves c name id raw is false (Err fault) = leaves_all c None
-
-removed_leaves : (c : Repository) (name id : Text) → is_some (report_at c name) ≡ true → (found : Bool)
-    → LeavesBy c (call.Remove name id) (cond found (reply.Staged, with_fact_at c name id None) (reply.Absent, c))
-removed_leaves c name id is true = leaves_facts c name id None is
-removed_leaves c name id is false = leaves_all c None
-
-got_leaves : (c : Repository) (name id : Text) (o : Option Fact) → LeavesBy c (call.Get name id) (option_map_or reply.Found o reply.Absent, c)
-got_leaves c name id None = leaves_all c None
-got_leaves c name id (Some fact) = leaves_all c None
-
-leaves_in : (c : Repository) (ask : Call) (r : Report) → report_at c (report_of_call ask) ≡ Some r → LeavesBy c ask (answer_in c ask r)
-leaves_in c (call.Get name id) r is = got_leaves c name id (fact_in r id)
-leaves_in c (call.Cell name dims) r is = leaves_all c None
-leaves_in c (call.Page name query limit) r is = leaves_all c None
-leaves_in c (call.Add name id raw) r is = added_leaves c name id raw (there c name r is) (is_some (fact_in r id)) (fit_of r.names raw)
-leaves_in c (call.Remove name id) r is = removed_leaves c name id (there c name r is) (is_some (fact_in r id))
-leaves_in c (call.Declared name) r is = leaves_all c None
-leaves_in c (call.Declare name value) r is = leaves_value c name value (there c name r is)
-
 pub call_leaves : (kind : Kind) (ask : Call) (c : Repository) → LeavesBy c ask (answer kind ask c)
-call_leaves kind ask c = by (may_make kind ask) (report_at c (report_of_call ask)) refl
+call_leaves kind ask c = each_answer (LeavesBy c) kind ask c (record {
+  told = told;
+  found = λ name id r fact is some. leaves_all c None;
+  put = λ name id raw r fact is fits. leaves_facts c name id (Some fact) (there c name r is);
+  removed = λ name id r is. leaves_facts c name id None (there c name r is);
+  declared = λ name value r is. leaves_value c name value (there c name r is);
+})
   where
-    by : (may : Bool) (o : Option Report) → report_at c (report_of_call ask) ≡ o → LeavesBy c ask (cond may (option_map_or (answer_in c ask) o (reply.NoReport, c)) (reply.ReadOnly, c))
-    by false o is = leaves_all c None
-    by true None is = leaves_all c None
-    by true (Some r) is = leaves_in c ask r is
+    told : (ask : Call) (r : Reply) → stages r ≡ false → finds_none r ≡ true → LeavesBy c ask (r, c)
+    told ask reply.Staged kept none = absurd (true≢false kept)
+    told ask r kept none = leaves_all c None
 
-names_declared : (value : Option Allowed) (o : Option Report) → option_map (λ (r : Report). r.names) (option_map (declaring_if value) o) ≡ option_map (λ (r : Report). r.names) o
+names_declared : (value : Option Allowed) (o : Option Report)
+    → option_map (λ (r : Report). r.names) (option_map (declaring_if value) o) ≡ option_map (λ (r : Report). r.names) o
 names_declared value None = refl
 names_declared value (Some r) = ap Some (names-declaring_if value r)
 
@@ -107,7 +89,8 @@ pub run_leaves_names : (kind : Kind) (calls : List Call) (c : Repository) (m : T
 run_leaves_names kind [] c m = refl
 run_leaves_names kind (ask ∷ calls) c m = run_leaves_names kind calls (answer kind ask c).1 m ∙ call_leaves_names kind ask c m
 
-apart_parts : (m q : Text) (o : Option (Text × Text)) (ps : List (Text × Text)) → IsNever (is_place m q) (cons_option o ps) → (option_map_or (is_place m q) o false ≡ false) × IsNever (is_place m q) ps
+apart_parts : (m q : Text) (o : Option (Text × Text)) (ps : List (Text × Text)) → IsNever (is_place m q) (cons_option o ps)
+    → (option_map_or (is_place m q) o false ≡ false) × IsNever (is_place m q) ps
 apart_parts m q None ps h = (refl, h)
 apart_parts m q (Some p) ps h = never_parts (is_place m q) p ps h
 
@@ -119,15 +102,13 @@ run_leaves_facts kind (ask ∷ calls) c m q out =
     let parts = apart_parts m q (if_staged after.0 (place_of_call ask)) (staged_places calls (solo_replies kind after.1 calls)) out in
     run_leaves_facts kind calls after.1 m q parts.1 ∙ (call_leaves kind ask c).facts m q parts.0
 
-last_of_more : (m : Text) (o : Option (Text × Allowed)) (vs : List (Text × Allowed)) → option_or (last_value m vs) (value_for m o) ≡ last_value m (cons_option o vs)
-last_of_more m None vs = by (last_value m vs)
-  where
-    by : (o : Option Allowed) → option_or o None ≡ o
-    by None = refl
-    by (Some value) = refl
+last_of_more : (m : Text) (o : Option (Text × Allowed)) (vs : List (Text × Allowed))
+    → option_or (last_value m vs) (value_for m o) ≡ last_value m (cons_option o vs)
+last_of_more m None vs = or_none (last_value m vs)
 last_of_more m (Some v) vs = refl
 
-declared_in_turn : (first last : Option Allowed) (o : Option Report) → option_map (declaring_if last) (option_map (declaring_if first) o) ≡ option_map (declaring_if (option_or last first)) o
+declared_in_turn : (first last : Option Allowed) (o : Option Report)
+    → option_map (declaring_if last) (option_map (declaring_if first) o) ≡ option_map (declaring_if (option_or last first)) o
 declared_in_turn first last None = refl
 declared_in_turn first last (Some r) = ap Some (declaring_twice first last r)
 
@@ -178,13 +159,8 @@ abbrev pub IsValid : Thing → Repository → Type 0
 IsValid t c = is_some (names_at c (report_of t)) ≡ is_in_report t
 
 valid_in : (c : Repository) (ask : Call) (r : Report) → is_some (names_at c (report_of_call ask)) ≡ true → OnEach (λ t. IsValid t c) (read_in ask r)
-valid_in c (call.Get name id) r is = is
-valid_in c (call.Cell name dims) r is = is
-valid_in c (call.Page name query limit) r is = is
-valid_in c (call.Add name id raw) r is = is
-valid_in c (call.Remove name id) r is = is
-valid_in c (call.Declared name) r is = is
 valid_in c (call.Declare name value) r is = tt
+valid_in c ask r is = is
 
 reading_valid : (kind : Kind) (ask : Call) (c : Repository) → OnEach (λ t. IsValid t c) (read_by kind ask c)
 reading_valid kind ask c = by (may_make kind ask) (report_at c name) refl
@@ -196,7 +172,8 @@ reading_valid kind ask c = by (may_make kind ask) (report_at c name) refl
     named None is = ap (λ o. is_some (option_map (λ (r : Report). r.names) o)) is
     named (Some r) is = ap (λ o. is_some (option_map (λ (r : Report). r.names) o)) is
 
-    by : (may : Bool) (o : Option Report) → report_at c name ≡ o → OnEach (λ t. IsValid t c) (cond may (option_map_or (read_in ask) o (Some (thing.Report name))) None)
+    by : (may : Bool) (o : Option Report) → report_at c name ≡ o
+        → OnEach (λ t. IsValid t c) (cond may (option_map_or (read_in ask) o (Some (thing.Report name))) None)
     by false o is = tt
     by true None is = named None is
     by true (Some r) is = valid_in c ask r (named (Some r) is)
@@ -213,7 +190,8 @@ readings_valid kind (ask ∷ calls) c =
 
 -- ---- a place that was staged was read
 
-staged_reading : (P : Thing → Type 0) (c : Repository) (ask : Call) (r : Report) → OnEach P (read_in ask r) → OnEach (λ (p : Text × Text). P (thing.Id p.0 p.1)) (place_of_call ask)
+staged_reading : (P : Thing → Type 0) (c : Repository) (ask : Call) (r : Report) → OnEach P (read_in ask r)
+    → OnEach (λ (p : Text × Text). P (thing.Id p.0 p.1)) (place_of_call ask)
 staged_reading P c (call.Add name id raw) r h = h
 staged_reading P c (call.Remove name id) r h = h
 staged_reading P c ask r h = tt
@@ -227,7 +205,8 @@ call_read : (P : Thing → Type 0) (kind : Kind) (ask : Call) (c : Repository) �
 call_read P kind ask c = by (may_make kind ask) (report_at c (report_of_call ask))
   where
     by : (may : Bool) (o : Option Report) → OnEach P (cond may (option_map_or (read_in ask) o (Some (thing.Report (report_of_call ask)))) None)
-        → OnEach (λ (p : Text × Text). P (thing.Id p.0 p.1)) (if_staged (cond may (option_map_or (answer_in c ask) o (reply.NoReport, c)) (reply.ReadOnly, c)).0 (place_of_call ask))
+        → OnEach (λ (p : Text × Text). P (thing.Id p.0 p.1)) (if_staged
+        (cond may (option_map_or (answer_in c ask) o (reply.NoReport, c)) (reply.ReadOnly, c)).0 (place_of_call ask))
     by false o h = tt
     by true None h = tt
     by true (Some r) h = only_staged (λ (p : Text × Text). P (thing.Id p.0 p.1)) (answer_in c ask r).0 (place_of_call ask) (staged_reading P c ask r h)

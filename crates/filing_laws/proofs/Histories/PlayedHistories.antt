@@ -10,14 +10,14 @@ use Rattle.filing_laws.proofs.Histories.UntouchedIsSerial.{next_reply_is_lawful,
 
 -- ---- whatever is played is lawful
 
-stepped : (h : History) (session : Option ℕ) (step : Step) → IsLawful h → (o : Option Reply) → next_reply h session step ≡ o
+pub step_is_lawful : (h : History) (session : Option ℕ) (step : Step) → IsLawful h → (o : Option Reply) → next_reply h session step ≡ o
     → IsLawful (option_map_or (λ r. record { session = entered_under h session step; step = step; reply = r } ∷ h) o h)
-stepped h session step lawful None e = lawful
-stepped h session step lawful (Some r) e = next_reply_is_lawful h session step r lawful e
+step_is_lawful h session step lawful None e = lawful
+step_is_lawful h session step lawful (Some r) e = next_reply_is_lawful h session step r lawful e
 
 played_on_is_lawful : (steps : List SessionStep) (h : History) → IsLawful h → IsLawful (played_on h steps)
 played_on_is_lawful [] h lawful = lawful
-played_on_is_lawful (l ∷ ls) h lawful = played_on_is_lawful ls (after_step h l.0 l.1) (stepped h l.0 l.1 lawful (next_reply h l.0 l.1) refl)
+played_on_is_lawful (l ∷ ls) h lawful = played_on_is_lawful ls (after_step h l.0 l.1) (step_is_lawful h l.0 l.1 lawful (next_reply h l.0 l.1) refl)
 
 pub played_is_lawful : (steps : List SessionStep) → IsLawful (played steps)
 played_is_lawful steps = played_on_is_lawful steps [] tt
@@ -43,12 +43,14 @@ played_again (e ∷ older) lawful =
 
 -- ---- a step that may not be taken
 
-none_at : (h : History) (s : ℕ) (step : Step) → (status : Status) → status_of s h ≡ status → ¬ IsOfOpenSession h (Some s) → reply_at_status h s step status ≡ None
+none_at : (h : History) (s : ℕ) (step : Step) → (status : Status) → status_of s h ≡ status → ¬ IsOfOpenSession h (Some s)
+    → reply_at_status h s step status ≡ None
 none_at h s step Unknown is not_open = refl
 none_at h s step (Live kind) is not_open = absurd (not_open (s, kind, record { of_it = refl; live = is }))
 none_at h s step Ended is not_open = refl
 
-no_reply : (h : History) (session : Option ℕ) (step : Step) → ¬ IsOfOpenSession h session → option_and_then (λ s. reply_at_status h s step (status_of s h)) session ≡ None
+no_reply : (h : History) (session : Option ℕ) (step : Step) → ¬ IsOfOpenSession h session
+    → option_and_then (λ s. reply_at_status h s step (status_of s h)) session ≡ None
 no_reply h None step not_open = refl
 no_reply h (Some s) step not_open = none_at h s step (status_of s h) refl not_open
 

@@ -1,5 +1,5 @@
 -- What holds of each element of a list, and of what an option holds.
-use Rattle.std.proofs.Common.{◌≡◌, refl, Bool, false, List, [], ◌∷◌, Option, Some, None}
+use Rattle.std.proofs.Common.{◌≡◌, Bool, false, List, [], ◌∷◌, ◌++◌, Option, Some, None}
 use Rattle.std.proofs.lemmas.Bool.{or_parts}
 use Rattle.std.specs.List.{list_any, cons_option}
 
@@ -14,6 +14,10 @@ OnEach P (Some x) = P x
 pub each_mapped : {A : Type 0} (P Q : A → Type 0) → ((x : A) → P x → Q x) → (xs : List A) → Each P xs → Each Q xs
 each_mapped P Q f [] h = tt
 each_mapped P Q f (x ∷ xs) h = (f x h.0, each_mapped P Q f xs h.1)
+
+pub each_appended : {A : Type 0} (P : A → Type 0) (xs ys : List A) → Each P xs → Each P ys → Each P (xs ++ ys)
+each_appended P [] ys h hs = hs
+each_appended P (x ∷ xs) ys h hs = (h.0, each_appended P xs ys h.1 hs)
 
 -- of what may stand before a list, and of the list
 pub each_parts : {A : Type 0} (P : A → Type 0) (o : Option A) (xs : List A) → Each P (cons_option o xs) → OnEach P o × Each P xs

@@ -1,5 +1,6 @@
 -- What stands at each place of a repository in which a fact was put or a value declared: all of a report but its facts, and its facts.
-use Rattle.std.proofs.Common.{◌≡◌, ◌∙◌, ap, sym, refl, Bool, true, false, cond, List, [], ◌∷◌, Option, Some, None, is_some, option_map, option_and_then, true≢false}
+use Rattle.std.proofs.Common.{◌≡◌, ◌∙◌, ap, sym, refl, Bool, true, false, cond, List, [], ◌∷◌, Option, Some, None, is_some, option_map}
+use Rattle.std.proofs.Common.{option_and_then, true≢false}
 use Rattle.std.specs.Option.{option_map_or, option_or}
 use Rattle.filing_model.specs.Common.Text.{Text, text_eq}
 use Rattle.filing_model.specs.Common.TextMap.{empty}
@@ -56,6 +57,10 @@ value_for m (Some v) = cond (text_eq m v.0) (Some v.1) None
 abbrev pub last_value : Text → List (Text × Allowed) → Option Allowed
 last_value m [] = None
 last_value m (v ∷ vs) = option_or (last_value m vs) (value_for m (Some v))
+
+pub or_none : (o : Option Allowed) → option_or o None ≡ o
+or_none None = refl
+or_none (Some value) = refl
 
 pub bare-declaring_if : (value : Option Allowed) (r : Report) → bare (declaring_if value r) ≡ declaring_if value (bare r)
 bare-declaring_if None r = refl
@@ -138,14 +143,16 @@ value_at-with_fact_at c name id fact m =
     ∙ ap (option_map (λ (r : Report). r.allowed)) (bare_at-with_fact_at c name id fact m)
     ∙ sym (value_of_bare c m)
 
-pub names_at-declaring_at : (c : Repository) (name : Text) (value : Allowed) (m : Text) → is_some (report_at c name) ≡ true → names_at (declaring_at c name value) m ≡ names_at c m
+pub names_at-declaring_at : (c : Repository) (name : Text) (value : Allowed) (m : Text) → is_some (report_at c name) ≡ true
+    → names_at (declaring_at c name value) m ≡ names_at c m
 names_at-declaring_at c name value m there =
     names_of_bare (declaring_at c name value) m
     ∙ ap (option_map (λ (r : Report). r.names)) (bare_at-declaring_at c name value m there)
     ∙ by (value_for m (Some (name, value))) (bare_at c m)
     ∙ sym (names_of_bare c m)
   where
-    by : (v : Option Allowed) (o : Option Report) → option_map (λ (r : Report). r.names) (option_map (declaring_if v) o) ≡ option_map (λ (r : Report). r.names) o
+    by : (v : Option Allowed) (o : Option Report)
+        → option_map (λ (r : Report). r.names) (option_map (declaring_if v) o) ≡ option_map (λ (r : Report). r.names) o
     by v None = refl
     by v (Some r) = ap Some (names-declaring_if v r)
 

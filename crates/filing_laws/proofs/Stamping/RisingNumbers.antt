@@ -1,10 +1,11 @@
 -- The numbers of accepted loads and commits: they rise by one, and tell what came after a session's opening.
-use Rattle.std.proofs.Common.{◌≡◌, ◌∙◌, ap, sym, refl, subst, ℕ, zero, suc, ◌+◌, ◌==◌, ◌<◌, ◌≤◌, arith, Bool, true, false, cond, ◌||◌, ◌↔◌, [], ◌∷◌, ◌++◌, Option, eqb-true, true≢false, append-nil}
+use Rattle.std.proofs.Common.{◌≡◌, ◌∙◌, ap, sym, refl, subst, ℕ, zero, suc, ◌+◌, ◌==◌, ◌<◌, ◌≤◌, arith, Bool, true, false, cond, ◌||◌, ◌↔◌}
+use Rattle.std.proofs.Common.{[], ◌∷◌, ◌++◌, Option, eqb-true, true≢false, append-nil}
 use Rattle.std.specs.List.{range_with_len}
 use Rattle.std.specs.Option.{option_map_or}
 use Rattle.std.proofs.lemmas.Bool.{and_parts, and_right}
 use Rattle.filing_model.specs.Sessions.Replies.{Reply}
-use Rattle.filing_model.specs.Histories.History.{Step, Load, Open, Ask, Commit, Close, Entry, History, is_of, is_opening, opens, base_of, repository}
+use Rattle.filing_model.specs.Histories.History.{Step, Open, Entry, History, is_of, is_opening, opens, base_of, repository}
 use Rattle.filing_model.specs.Histories.Touches.{number_in}
 use Rattle.filing_model.specs.Histories.Lawful.{IsLawful, IsNext, IsNextStep, openings}
 use Rattle.filing_model.specs.Histories.Versions.{counts}
@@ -28,7 +29,7 @@ counted older e next counting = by (entry_case older e next)
     by (Accepted load) = record { number = ap number_in load.reply; count = ap (λ c. c.count) load.result; no_opening = ap is_opening load.step }
     by (Passed passed) = record { number = ap number_in passed.reply; count = ap (λ c. c.count) passed.result; no_opening = ap is_opening passed.step }
 
-quiet_count : (older : History) (e : Entry) → counts e.reply ≡ false → (repository (e ∷ older)).count ≡ (repository older).count
+pub quiet_count : (older : History) (e : Entry) → counts e.reply ≡ false → (repository (e ∷ older)).count ≡ (repository older).count
 quiet_count older e quiet = ap (λ c. c.count) (quiet_repository older e quiet)
 
 pub count_grows : (older : History) (e : Entry) → IsNext older e → (repository older).count ≤ (repository (e ∷ older)).count
@@ -58,7 +59,9 @@ base_count s (e ∷ older) lawful = by (opens s e) (base_count s older lawful.0)
 
 range_more : (a n : ℕ) → range_with_len a (suc n) ≡ range_with_len a n ++ (a + n) ∷ []
 range_more a zero = let same : a ≡ a + 0 = omega arith in ap (λ m. m ∷ []) same
-range_more a (suc n) = let same : a + 1 + n ≡ a + suc n = omega arith in ap (λ ms. a ∷ ms) (range_more (a + 1) n) ∙ ap (λ m. a ∷ range_with_len (a + 1) n ++ m ∷ []) same
+range_more a (suc n) =
+    let same : a + 1 + n ≡ a + suc n = omega arith in
+    ap (λ ms. a ∷ ms) (range_more (a + 1) n) ∙ ap (λ m. a ∷ range_with_len (a + 1) n ++ m ∷ []) same
 
 pub numbers_rise_by_one : NumbersRiseByOne
 numbers_rise_by_one [] lawful = refl
@@ -88,11 +91,9 @@ each_number_is_the_count h e older lawful at holds = number_here e older (older_
 
 opening_number : (older : History) (session : Option ℕ) (step : Step) (r : Reply) (s : ℕ) → IsNextStep older session step r → is_opening step ≡ true
     → option_map_or (λ n. n == s) session false ≡ true → openings older + 1 ≡ s
-opening_number older session (Load name x) r s next opening mine = absurd (true≢false (sym opening))
-opening_number older session (Open kind) r s next opening mine = eqb-true (openings older + 1) s (sym (ap (λ o. option_map_or (λ n. n == s) o false) next.0) ∙ mine)
-opening_number older session (Ask call) r s next opening mine = absurd (true≢false (sym opening))
-opening_number older session Commit r s next opening mine = absurd (true≢false (sym opening))
-opening_number older session Close r s next opening mine = absurd (true≢false (sym opening))
+opening_number older session (Open kind) r s next opening mine =
+    eqb-true (openings older + 1) s (sym (ap (λ o. option_map_or (λ n. n == s) o false) next.0) ∙ mine)
+opening_number older session step r s next opening mine = absurd (true≢false (sym opening))
 
 pub opens_next : (older : History) (e : Entry) (s : ℕ) → IsNext older e → opens s e ≡ true → (openings older + 1 ≡ s) × (is_opening e.step ≡ true)
 opens_next older e s next holds =
@@ -138,7 +139,8 @@ base_stays s (e ∷ newer) h lawful holds = by (opens s e) refl (base_stays s ne
     by true again rest = absurd (true≢false (sym (still_open s newer h holds) ∙ opens_first (newer ++ h) e s lawful again))
     by false other rest = rest
 
-opened_after : (s : ℕ) (newer h : History) → IsLawful (newer ++ h) → has_opening s h ≡ false → has_opening s (newer ++ h) ≡ true → (repository h).count ≤ (base_of s (newer ++ h)).count
+opened_after : (s : ℕ) (newer h : History) → IsLawful (newer ++ h) → has_opening s h ≡ false → has_opening s (newer ++ h) ≡ true
+    → (repository h).count ≤ (base_of s (newer ++ h)).count
 opened_after s [] h lawful fails holds = absurd (true≢false (sym holds ∙ fails))
 opened_after s (e ∷ newer) h lawful fails holds = by (opens s e) holds (opened_after s newer h lawful.0 fails)
   where
@@ -151,7 +153,8 @@ opened_after s (e ∷ newer) h lawful fails holds = by (opens s e) holds (opened
 not_opened_by : (s : ℕ) (e : Entry) → is_opening e.step ≡ false → opens s e ≡ false
 not_opened_by s e fails = and_right (is_of s e) (is_opening e.step) fails
 
-tells : (newer : History) (s : ℕ) (e : Entry) (older : History) → IsLawful (newer ++ e ∷ older) → has_opening s (newer ++ e ∷ older) ≡ true → counts e.reply ≡ true
+tells : (newer : History) (s : ℕ) (e : Entry) (older : History) → IsLawful (newer ++ e ∷ older) → has_opening s (newer ++ e ∷ older) ≡ true
+    → counts e.reply ≡ true
     → (b : Bool) → has_opening s older ≡ b → (b ≡ true) ↔ ((base_of s (newer ++ e ∷ older)).count < number_in e.reply)
 tells newer s e older lawful holds counting true before =
     let there = older_is_lawful newer (e ∷ older) lawful in

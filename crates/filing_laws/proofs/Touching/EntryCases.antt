@@ -1,28 +1,26 @@
 -- Each entry of a lawful history changes nothing, or loads a report that obeys under a new name, or is the commit of an amendment that passed and obeys.
-use Rattle.std.proofs.Common.{◌≡◌, ◌∙◌, ap, sym, refl, ℕ, ◌+◌, Bool, true, false, cond, [], ◌∷◌, Option, Some, None, is_some, option_map, unwrap_or, find, not, MatchOption, true≢false}
+use Rattle.std.proofs.Common.{◌≡◌, ◌∙◌, ap, sym, refl, ℕ, ◌+◌, Bool, true, false, cond, [], ◌∷◌, Option, Some, None, is_some, option_map}
+use Rattle.std.proofs.Common.{unwrap_or, find, not, MatchOption, true≢false}
 use Rattle.std.specs.Option.{option_map_or}
 use Rattle.filing_model.specs.Common.Text.{Text}
 use Rattle.filing_model.specs.Oim.Dimensions.{Dims}
-use Rattle.filing_model.specs.Oim.Facts.{Fact, fit_of}
 use Rattle.filing_model.specs.Oim.Reports.{Report}
 use Rattle.filing_model.specs.Oim.Duplicates.{class_of, least_disallowed}
 use Rattle.filing_model.specs.Sessions.Queries.{cell_facts, cell_ids}
-use Rattle.filing_model.specs.Sessions.Repository.{Repository, report_at, fact_in, with_fact_at, with_report}
-use Rattle.filing_model.specs.Sessions.Calls as call
-use Rattle.filing_model.specs.Sessions.Calls.{Call, report_of_call}
+use Rattle.filing_model.specs.Sessions.Repository.{Repository, report_at, with_report}
+use Rattle.filing_model.specs.Sessions.Calls.{Call}
 use Rattle.filing_model.specs.Sessions.Replies as reply
 use Rattle.filing_model.specs.Sessions.Replies.{Reply}
 use Rattle.filing_model.specs.Sessions.Things.{Thing}
-use Rattle.filing_model.specs.Sessions.Sessions.{Answer, may_make, answer_in, answer, solo_copy, fitted, report_obeys, disallowed_cell, refusal_of}
-use Rattle.filing_model.specs.Histories.History.{Step, Load, Open, Ask, Commit, Close, Entry, History, Live, status_of, calls_of, repository, effect_of, committed}
+use Rattle.filing_model.specs.Sessions.Sessions.{answer, solo_copy, report_obeys, disallowed_cell, refusal_of}
+use Rattle.filing_model.specs.Histories.History.{Step, Load, Open, Ask, Commit, Close, Entry, History, Live, status_of, calls_of}
+use Rattle.filing_model.specs.Histories.History.{repository, effect_of, committed}
 use Rattle.filing_model.specs.Histories.Lawful.{IsNext, IsNextStep, IsCommitReply, IsOngoing, IsPassed, conflict_of}
 use Rattle.filing_model.specs.Histories.Versions.{counts}
 use Rattle.filing_model.specs.declared.duplicates.Class.TheVariants.{Empty}
 use Rattle.filing_model.specs.declared.kind.Kind.{Kind}
 use Rattle.filing_model.specs.declared.kind.Kind.TheVariants.{Review, Amend}
-use Rattle.filing_model.specs.declared.faults.FactFault.{FactFault}
-use Rattle.std.specs.declared.result.Result.{Result}
-use Rattle.std.specs.declared.result.Result.TheVariants.{Ok, Err}
+use Rattle.filing_laws.proofs.Agreement.AnswerCases.{finds_none, stages, each_answer}
 use Rattle.filing_laws.proofs.Opening.OwnReplies.{IsSoloAt}
 
 -- the copy of an amendment that runs alone at the repository as it is
@@ -62,50 +60,37 @@ quiet_effect (reply.Committed n) session step older c quiet = absurd (true≢fal
 quiet_effect _ session step older c quiet = refl
 
 refused_is_quiet : (name : Text) (r : Report) (o : Option Dims)
-    → counts (option_map_or (λ dims. reply.Disallowed name (class_of (cell_facts dims r.facts)) (cell_ids dims r.facts)) o (reply.Disallowed name Empty [])) ≡ false
+    → counts (option_map_or (λ dims. reply.Disallowed name (class_of (cell_facts dims r.facts)) (cell_ids dims r.facts)) o (reply.Disallowed name Empty []))
+    ≡ false
 refused_is_quiet name r None = refl
 refused_is_quiet name r (Some dims) = refl
 
 pub cell_is_quiet : (name : Text) (r : Report) → counts (disallowed_cell name r) ≡ false
 cell_is_quiet name r = refused_is_quiet name r (least_disallowed r.allowed r.facts.entries)
 
-pub found_refusal_is_quiet : (o : Option (Text × Report)) (x : Reply) → option_map (λ (e : Text × Report). disallowed_cell e.0 e.1) o ≡ Some x → counts x ≡ false
+pub found_refusal_is_quiet : (o : Option (Text × Report)) (x : Reply) → option_map (λ (e : Text × Report). disallowed_cell e.0 e.1) o ≡ Some x
+    → counts x ≡ false
 found_refusal_is_quiet None x is = let apart : None ≡ Some x = is in cc
 found_refusal_is_quiet (Some e) x is = let same : disallowed_cell e.0 e.1 ≡ x = cc in ap counts (sym same) ∙ cell_is_quiet e.0 e.1
 
-got_is_quiet : (o : Option Fact) → counts (option_map_or reply.Found o reply.Absent) ≡ false
-got_is_quiet None = refl
-got_is_quiet (Some fact) = refl
-
-added_is_quiet : (c : Repository) (name id : Text) (taken : Bool) (fit : Result Fact FactFault) → counts (cond taken (reply.Taken, c) (fitted c name id fit)).0 ≡ false
-added_is_quiet c name id true fit = refl
-added_is_quiet c name id false (Ok fact) = refl
-added_is_quiet c name id false (Err fault) = refl
-
-removed_is_quiet : (c : Repository) (name id : Text) (found : Bool) → counts (cond {A = Answer} found (reply.Staged, with_fact_at c name id None) (reply.Absent, c)).0 ≡ false
-removed_is_quiet c name id true = refl
-removed_is_quiet c name id false = refl
-
-quiet_in : (c : Repository) (ask : Call) (r : Report) → counts (answer_in c ask r).0 ≡ false
-quiet_in c (call.Get name id) r = got_is_quiet (fact_in r id)
-quiet_in c (call.Cell name dims) r = refl
-quiet_in c (call.Page name query limit) r = refl
-quiet_in c (call.Add name id raw) r = added_is_quiet c name id (is_some (fact_in r id)) (fit_of r.names raw)
-quiet_in c (call.Remove name id) r = removed_is_quiet c name id (is_some (fact_in r id))
-quiet_in c (call.Declared name) r = refl
-quiet_in c (call.Declare name value) r = refl
-
 pub answer_is_quiet : (kind : Kind) (ask : Call) (c : Repository) → counts (answer kind ask c).0 ≡ false
-answer_is_quiet kind ask c = by (may_make kind ask) (report_at c (report_of_call ask))
+answer_is_quiet kind ask c = each_answer (λ ask a. counts a.0 ≡ false) kind ask c (record {
+  told = quiet;
+  found = λ name id r fact is some. refl;
+  put = λ name id raw r fact is fits. refl;
+  removed = λ name id r is. refl;
+  declared = λ name value r is. refl;
+})
   where
-    by : (may : Bool) (o : Option Report) → counts (cond may (option_map_or (answer_in c ask) o (reply.NoReport, c)) (reply.ReadOnly, c)).0 ≡ false
-    by false o = refl
-    by true None = refl
-    by true (Some r) = quiet_in c ask r
+    quiet : (ask : Call) (r : Reply) → stages r ≡ false → finds_none r ≡ true → counts r ≡ false
+    quiet ask (reply.Loaded n) kept none = sym none
+    quiet ask (reply.Committed n) kept none = sym none
+    quiet ask r kept none = refl
 
 -- ---- the cases
 
-loading : (older : History) (session : Option ℕ) (name : Text) (x : Report) (r : Reply) (taken fits : Bool) → is_some (report_at (repository older) name) ≡ taken → report_obeys x ≡ fits
+loading : (older : History) (session : Option ℕ) (name : Text) (x : Report) (r : Reply) (taken fits : Bool)
+    → is_some (report_at (repository older) name) ≡ taken → report_obeys x ≡ fits
     → r ≡ cond taken reply.NameTaken (cond fits (reply.Loaded ((repository older).count + 1)) (disallowed_cell name x))
     → EntryCase older (record { session = session; step = Load name x; reply = r })
 loading older session name x r true fits there obeys is = Quiet (ap counts is)
@@ -120,7 +105,8 @@ loading older session name x r false true there obeys is = Accepted (record {
 })
 loading older session name x r false false there obeys is = Quiet (ap counts is ∙ cell_is_quiet name x)
 
-passing : (older : History) (session : Option ℕ) (s : ℕ) (r : Reply) → IsOngoing older session s Amend → conflict_of s older ≡ None → IsSoloAt Amend (repository older) s older
+passing : (older : History) (session : Option ℕ) (s : ℕ) (r : Reply) → IsOngoing older session s Amend → conflict_of s older ≡ None
+    → IsSoloAt Amend (repository older) s older
     → (o : Option Reply) → refusal_of (passed_copy s older) ≡ o → r ≡ unwrap_or o (reply.Committed ((repository older).count + 1))
     → EntryCase older (record { session = session; step = Commit; reply = r })
 passing older session s r ongoing untouched earlier None obeys is = Passed (record {
@@ -143,7 +129,8 @@ passing older session s r ongoing untouched earlier (Some x) refused is =
 
 validating : (older : History) (session : Option ℕ) (s : ℕ) (r : Reply) → IsOngoing older session s Amend → (o : Option (ℕ × Thing)) → conflict_of s older ≡ o
     → MatchOption o (IsPassed older s r) (λ c. r ≡ reply.Conflict c.0 c.1) → EntryCase older (record { session = session; step = Commit; reply = r })
-validating older session s r ongoing None untouched passed = passing older session s r ongoing untouched passed.earlier (refusal_of (passed_copy s older)) refl passed.commit
+validating older session s r ongoing None untouched passed =
+    passing older session s r ongoing untouched passed.earlier (refusal_of (passed_copy s older)) refl passed.commit
 validating older session s r ongoing (Some c) touched is = Quiet (ap counts is)
 
 committing : (older : History) (session : Option ℕ) (s : ℕ) (kind : Kind) (r : Reply) → IsOngoing older session s kind → IsCommitReply kind older s r
@@ -151,7 +138,8 @@ committing : (older : History) (session : Option ℕ) (s : ℕ) (kind : Kind) (r
 committing older session s Review r ongoing is = Quiet (ap counts is)
 committing older session s Amend r ongoing is = validating older session s r ongoing (conflict_of s older) refl is
 
-step_case : (older : History) (session : Option ℕ) (step : Step) (r : Reply) → IsNextStep older session step r → EntryCase older (record { session = session; step = step; reply = r })
+step_case : (older : History) (session : Option ℕ) (step : Step) (r : Reply) → IsNextStep older session step r
+    → EntryCase older (record { session = session; step = step; reply = r })
 step_case older session (Load name x) r h = loading older session name x r (is_some (report_at (repository older) name)) (report_obeys x) refl refl h.1
 step_case older session (Open kind) r h = Quiet (ap counts h.1)
 step_case older session (Ask ask) r (s, kind, ongoing, h) = Quiet (ap counts h ∙ answer_is_quiet kind ask _)

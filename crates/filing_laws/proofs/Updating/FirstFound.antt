@@ -1,5 +1,6 @@
 -- What is found first in maps that answer alike is the same.
-use Rattle.std.proofs.Common.{◌≡◌, ◌∙◌, ap, sym, refl, Bool, true, false, cond, T, List, [], ◌∷◌, filter_map, Option, Some, None, option_map, option_and_then, is_lt}
+use Rattle.std.proofs.Common.{◌≡◌, ◌∙◌, ap, sym, refl, Bool, true, false, cond, T, List, [], ◌∷◌, filter_map, Option, Some, None}
+use Rattle.std.proofs.Common.{option_map, option_and_then, is_lt}
 use Rattle.std.specs.List.{cons_option, list_all}
 use Rattle.std.specs.Option.{option_or}
 use Rattle.std.specs.Cmp.Lexicographic.{nat_list_cmp_total}
@@ -15,7 +16,8 @@ use Rattle.filing_laws.proofs.Lists.EachElement.{Each, each_mapped}
 -- ---- entries are found
 
 -- what is found behind the first entry of a sorted list is found in the list
-pub found_behind : {X : Type 0} (e : Text × X) (es : List (Text × X)) (q : Text) (x : X) → T (below_all text_cmp e.0 es) → find text_cmp q es ≡ Some x → find text_cmp q (e ∷ es) ≡ Some x
+pub found_behind : {X : Type 0} (e : Text × X) (es : List (Text × X)) (q : Text) (x : X) → T (below_all text_cmp e.0 es) → find text_cmp q es ≡ Some x
+    → find text_cmp q (e ∷ es) ≡ Some x
 found_behind e es q x below found = by (text_eq q e.0) refl
   where
     by : (b : Bool) → text_eq q e.0 ≡ b → cond b (Some e.1) (find text_cmp q es) ≡ Some x
@@ -26,6 +28,11 @@ found_behind e es q x below found = by (text_eq q e.0) refl
 
 pub found_first : {X : Type 0} (e : Text × X) (es : List (Text × X)) → find text_cmp e.0 (e ∷ es) ≡ Some e.1
 found_first e es = ap (λ b. cond b (Some e.1) (find text_cmp e.0 es)) (text_eq-refl e.0)
+
+-- nothing is found behind the first entry under its key
+pub none_behind : {X : Type 0} (q : Text) (e : Text × X) (es : List (Text × X)) → T (is_sorted text_cmp (e ∷ es)) → text_eq q e.0 ≡ true
+    → find text_cmp q es ≡ None
+none_behind q e es sorted same = tied_is_not_found q e.0 es same (first_holds (below_all text_cmp e.0 es) (is_sorted text_cmp es) sorted)
 
 -- in a sorted list each entry is the one that is found under its key
 pub each_is_found : {X : Type 0} (es : List (Text × X)) → T (is_sorted text_cmp es) → Each (λ e. find text_cmp e.0 es ≡ Some e.1) es
@@ -39,7 +46,8 @@ each_is_found {X} (e ∷ es) sorted = (
 )
 
 -- what passes of each entry passes of one that is found
-pub all_found : {X : Type 0} (test : X → Bool) (key : Text) (x : X) (es : List (Text × X)) → list_all (λ e. test e.1) es ≡ true → find text_cmp key es ≡ Some x → test x ≡ true
+pub all_found : {X : Type 0} (test : X → Bool) (key : Text) (x : X) (es : List (Text × X)) → list_all (λ e. test e.1) es ≡ true → find text_cmp key es ≡ Some x
+    → test x ≡ true
 all_found test key x [] all found = let apart : None ≡ Some x = found in cc
 all_found test key x (e ∷ es) all found =
     let parts = and_parts (test e.1) (list_all (λ e. test e.1) es) all in
@@ -73,20 +81,19 @@ module _ {X B : Type 0} (f : Text → X → Option B) where
       by (f e.0 e.1) (below-made e.0 es (first_holds (below_all text_cmp e.0 es) (is_sorted text_cmp es) sorted))
       (sorted-made es (second_holds (below_all text_cmp e.0 es) (is_sorted text_cmp es) sorted))
     where
-      by : (o : Option B) → T (below_all text_cmp e.0 (made es)) → T (is_sorted text_cmp (made es)) → T (is_sorted text_cmp (cons_option (option_map (λ b. (e.0, b)) o) (made es)))
+      by : (o : Option B) → T (below_all text_cmp e.0 (made es)) → T (is_sorted text_cmp (made es))
+          → T (is_sorted text_cmp (cons_option (option_map (λ b. (e.0, b)) o) (made es)))
       by None below later = later
       by (Some b) below later = both_hold _ _ below later
 
   find-made : (q : Text) (es : List (Text × X)) → T (is_sorted text_cmp es) → find text_cmp q (made es) ≡ option_and_then (f q) (find text_cmp q es)
   find-made q [] sorted = refl
-  find-made q (e ∷ es) sorted = by (text_eq q e.0) refl (f e.0 e.1) refl (find-made q es (second_holds (below_all text_cmp e.0 es) (is_sorted text_cmp es) sorted))
+  find-made q (e ∷ es) sorted =
+      by (text_eq q e.0) refl (f e.0 e.1) refl (find-made q es (second_holds (below_all text_cmp e.0 es) (is_sorted text_cmp es) sorted))
     where
-      gone : text_eq q e.0 ≡ true → find text_cmp q es ≡ None
-      gone same = tied_is_not_found q e.0 es same (first_holds (below_all text_cmp e.0 es) (is_sorted text_cmp es) sorted)
-
       by : (b : Bool) → text_eq q e.0 ≡ b → (o : Option B) → f e.0 e.1 ≡ o → find text_cmp q (made es) ≡ option_and_then (f q) (find text_cmp q es)
           → find text_cmp q (cons_option (option_map (λ b. (e.0, b)) o) (made es)) ≡ option_and_then (f q) (cond b (Some e.1) (find text_cmp q es))
-      by true same None is later = later ∙ ap (option_and_then (f q)) (gone same) ∙ sym (ap (λ k. f k e.1) (text_same q e.0 same) ∙ is)
+      by true same None is later = later ∙ ap (option_and_then (f q)) (none_behind q e es sorted same) ∙ sym (ap (λ k. f k e.1) (text_same q e.0 same) ∙ is)
       by true same (Some x) is later = ap (λ b. cond b (Some x) (find text_cmp q (made es))) same ∙ sym (ap (λ k. f k e.1) (text_same q e.0 same) ∙ is)
       by false other None is later = later
       by false other (Some x) is later = ap (λ b. cond b (Some x) (find text_cmp q (made es))) other ∙ later
@@ -105,7 +112,8 @@ find_map-front {A} {B} g (x ∷ xs) = by (g x) (find_map-front g xs)
     by None later = later
     by (Some y) later = refl
 
-pub first_same : {X Y B : Type 0} (f : Text → X → Option B) (g : Text → Y → Option B) (es : List (Text × X)) (ys : List (Text × Y)) → T (is_sorted text_cmp es) → T (is_sorted text_cmp ys)
+pub first_same : {X Y B : Type 0} (f : Text → X → Option B) (g : Text → Y → Option B) (es : List (Text × X)) (ys : List (Text × Y)) → T (is_sorted text_cmp es)
+    → T (is_sorted text_cmp ys)
     → ((q : Text) → option_and_then (f q) (find text_cmp q es) ≡ option_and_then (g q) (find text_cmp q ys))
     → find_map (keyed f) es ≡ find_map (keyed g) ys
 first_same f g es ys es_sorted ys_sorted alike =

@@ -1,20 +1,21 @@
 -- What stands at each place of a repository with a change laid over it, and that repositories with the same reports are one.
-use Rattle.std.proofs.Common.{◌≡◌, ◌∙◌, ap, sym, refl, Bool, true, false, cond, T, List, [], ◌∷◌, Option, Some, None, option_map, unwrap_or}
+use Rattle.std.proofs.Common.{◌≡◌, ◌∙◌, ap, sym, refl, Bool, true, false, cond, T, List, [], ◌∷◌, Option, Some, None, option_map, option_and_then, unwrap_or}
 use Rattle.std.specs.Option.{option_map_or}
 use Rattle.std.specs.FinMap.Entries.{find, is_sorted, below_all}
 use Rattle.filing_model.specs.Common.Text.{Text, text_cmp, text_eq}
 use Rattle.filing_model.specs.Oim.Facts.{Fact}
 use Rattle.filing_model.specs.Oim.Reports.{Report}
 use Rattle.filing_model.specs.Reading.DeclaredValue.{report_declaring}
-use Rattle.filing_model.specs.Sessions.Repository.{Repository, report_at, fact_in, with_fact, with_report_at, with_fact_at, declaring_at}
-use Rattle.filing_model.specs.Sessions.Changes.{ReportChange, Change, no_change, change_in, with_facts, declaring_if, changed, changed_at, with_changes, laid_over}
+use Rattle.filing_model.specs.Sessions.Repository.{Repository, report_at, fact_in, fact_at, with_fact, with_report_at, with_fact_at, declaring_at}
+use Rattle.filing_model.specs.Sessions.Changes.{ReportChange, Change, no_change, change_in, change_at, declared_in, with_facts}
+use Rattle.filing_model.specs.Sessions.Changes.{declaring_if, changed, changed_at, with_changes, laid_over}
 use Rattle.filing_model.specs.declared.duplicates.Allowed.{Allowed}
 use Rattle.filing_model.proofs.Common.TextMaps.{same_map, get-insert}
 use Rattle.filing_model.proofs.Common.Texts.{text_same}
-use Rattle.filing_model.proofs.Common.Tests.{first_holds, second_holds}
-use Rattle.filing_model.proofs.Common.MapsOfLists.{tied_is_not_found}
+use Rattle.filing_model.proofs.Common.Tests.{second_holds}
+use Rattle.filing_laws.proofs.Updating.FirstFound.{none_behind}
 use Rattle.filing_laws.proofs.Lists.WithOneFact.{fact_in-with_fact}
-use Rattle.filing_laws.proofs.Lists.WithOneValue.{bare, bare-with_fact, bare-declaring_if, facts-declaring_if}
+use Rattle.filing_laws.proofs.Lists.WithOneValue.{bare, bare_at, bare-with_fact, bare-declaring_if, facts-declaring_if}
 
 -- ---- one report
 
@@ -35,20 +36,27 @@ fact_in-with_facts (e ∷ es) r q = fact_in-with_fact (with_facts es r) e.0 e.1 
 pub bare-changed : (change : ReportChange) (r : Report) → bare (changed change r) ≡ declaring_if change.declared (bare r)
 bare-changed change r = bare-with_facts change.facts.entries (declaring_if change.declared r) ∙ bare-declaring_if change.declared r
 
-pub fact_in-changed : (change : ReportChange) (r : Report) (q : Text) → fact_in (changed change r) q ≡ unwrap_or (find text_cmp q change.facts.entries) (fact_in r q)
+pub fact_in-changed : (change : ReportChange) (r : Report) (q : Text)
+    → fact_in (changed change r) q ≡ unwrap_or (find text_cmp q change.facts.entries) (fact_in r q)
 fact_in-changed change r q =
     fact_in-with_facts change.facts.entries (declaring_if change.declared r) q
     ∙ ap (unwrap_or (find text_cmp q change.facts.entries)) (facts-declaring_if change.declared r q)
 
 pub reports_same : (r s : Report) → bare r ≡ bare s → ((q : Text) → fact_in r q ≡ fact_in s q) → r ≡ s
-reports_same r s heads facts = λ i. record { info = (heads i).info; names = (heads i).names; allowed = (heads i).allowed; facts = same_map r.facts s.facts facts i }
+reports_same r s heads facts = λ i. record {
+  info = (heads i).info;
+  names = (heads i).names;
+  allowed = (heads i).allowed;
+  facts = same_map r.facts s.facts facts i;
+}
 
 -- ---- all reports
 
 pub repositories_same : (c d : Repository) → c.count ≡ d.count → ((m : Text) → report_at c m ≡ report_at d m) → c ≡ d
 repositories_same c d count same = λ i. record { count = count i; reports = same_map c.reports d.reports same i }
 
-report_at-changed_at : (c : Repository) (e : Text × ReportChange) (m : Text) → report_at (changed_at c e) m ≡ cond (text_eq m e.0) (option_map (changed e.1) (report_at c m)) (report_at c m)
+report_at-changed_at : (c : Repository) (e : Text × ReportChange) (m : Text)
+    → report_at (changed_at c e) m ≡ cond (text_eq m e.0) (option_map (changed e.1) (report_at c m)) (report_at c m)
 report_at-changed_at c e m = by (report_at c e.0) refl (text_eq m e.0) refl
   where
     by : (o : Option Report) → report_at c e.0 ≡ o → (b : Bool) → text_eq m e.0 ≡ b
@@ -65,11 +73,11 @@ report_at-changed_at c e m = by (report_at c e.0) refl (text_eq m e.0) refl
         get-insert c.reports e.0 (changed e.1 r) m
         ∙ ap (λ b. cond b (Some (changed e.1 r)) (report_at c m)) other
 
-unchanged : (o : Option Report) → option_map (changed no_change) o ≡ o
+pub unchanged : (o : Option Report) → option_map (changed no_change) o ≡ o
 unchanged None = refl
 unchanged (Some r) = refl
 
-abbrev change_of : List (Text × ReportChange) → Text → ReportChange
+abbrev pub change_of : List (Text × ReportChange) → Text → ReportChange
 change_of es m = unwrap_or (find text_cmp m es) no_change
 
 report_at-with_changes : (es : List (Text × ReportChange)) (c : Repository) (m : Text) → T (is_sorted text_cmp es)
@@ -79,19 +87,19 @@ report_at-with_changes (e ∷ es) c m sorted =
     report_at-changed_at (with_changes es c) e m
     ∙ by (text_eq m e.0) refl (report_at-with_changes es c m (second_holds (below_all text_cmp e.0 es) (is_sorted text_cmp es) sorted))
   where
-    gone : text_eq m e.0 ≡ true → find text_cmp m es ≡ None
-    gone same = tied_is_not_found m e.0 es same (first_holds (below_all text_cmp e.0 es) (is_sorted text_cmp es) sorted)
-
     by : (b : Bool) → text_eq m e.0 ≡ b → report_at (with_changes es c) m ≡ option_map (changed (change_of es m)) (report_at c m)
         → cond b (option_map (changed e.1) (report_at (with_changes es c) m)) (report_at (with_changes es c) m)
         ≡ option_map (changed (unwrap_or (cond b (Some e.1) (find text_cmp m es)) no_change)) (report_at c m)
     by true same later =
         ap (option_map (changed e.1))
-        (later ∙ ap (λ (o : Option ReportChange). option_map (changed (unwrap_or o no_change)) (report_at c m)) (gone same) ∙ unchanged (report_at c m))
+        (later
+        ∙ ap (λ (o : Option ReportChange). option_map (changed (unwrap_or o no_change)) (report_at c m)) (none_behind m e es sorted same)
+        ∙ unchanged (report_at c m))
     by false other later = later
 
 -- each report that is there has the change of it
-pub report_at-laid_over : (change : Change) (c : Repository) (m : Text) → report_at (laid_over change c) m ≡ option_map (changed (change_in change m)) (report_at c m)
+pub report_at-laid_over : (change : Change) (c : Repository) (m : Text)
+    → report_at (laid_over change c) m ≡ option_map (changed (change_in change m)) (report_at c m)
 report_at-laid_over change c m = report_at-with_changes change.entries c m change.sorted
 
 count-changed_at : (c : Repository) (e : Text × ReportChange) → (changed_at c e).count ≡ c.count
@@ -107,6 +115,26 @@ count-with_changes (e ∷ es) c = count-changed_at (with_changes es c) e ∙ cou
 
 pub count-laid_over : (change : Change) (c : Repository) → (laid_over change c).count ≡ c.count
 count-laid_over change c = count-with_changes change.entries c
+
+-- a repository is what a change makes of another where its reports are the other's with the declared values and its facts the changed ones
+pub laid_over_makes : (change : Change) (c d : Repository) → c.count ≡ d.count
+    → ((m : Text) → bare_at d m ≡ option_map (declaring_if (declared_in change m)) (bare_at c m))
+    → ((m q : Text) → unwrap_or (change_at change m q) (fact_at c m q) ≡ fact_at d m q) → laid_over change c ≡ d
+laid_over_makes change c d count heads facts = repositories_same (laid_over change c) d (count-laid_over change c ∙ count)
+    (λ m. report_at-laid_over change c m ∙ by m (report_at c m) (report_at d m) refl refl (heads m))
+  where
+    by : (m : Text) (o p : Option Report) → report_at c m ≡ o → report_at d m ≡ p
+        → option_map bare p ≡ option_map (declaring_if (declared_in change m)) (option_map bare o) → option_map (changed (change_in change m)) o ≡ p
+    by m None None there made heads = refl
+    by m None (Some r) there made heads = let apart : Some (bare r) ≡ None = heads in cc
+    by m (Some r) None there made heads = let apart : None ≡ Some (declaring_if (declared_in change m) (bare r)) = heads in cc
+    by m (Some r) (Some x) there made heads =
+        let same : bare x ≡ declaring_if (declared_in change m) (bare r) = cc in
+        ap Some (reports_same (changed (change_in change m) r) x (bare-changed (change_in change m) r ∙ sym same) (λ q.
+        fact_in-changed (change_in change m) r q
+        ∙ ap (λ o. unwrap_or (change_at change m q) (option_and_then (λ r. fact_in r q) o)) (sym there)
+        ∙ facts m q
+        ∙ ap (option_and_then (λ r. fact_in r q)) made))
 
 -- ---- one fact put or removed, and one value declared
 

@@ -1,45 +1,39 @@
 -- The net change of an untouched amendment, laid over the repository as it is, makes its copy at the end of its solo run there.
 use Rattle.std.proofs.Common.{◌≡◌, ◌∙◌, ap, sym, refl, subst, ℕ, ◌+◌, Bool, true, false, cond, ◌&&◌, ◌||◌, List}
-use Rattle.std.proofs.Common.{[], ◌∷◌, Option, Some, None, is_some, option_map, option_and_then, unwrap_or}
+use Rattle.std.proofs.Common.{[], ◌∷◌, Option, Some, None, is_some, option_map, unwrap_or}
 use Rattle.std.proofs.Common.{true≢false}
 use Rattle.std.specs.List.{list_any}
-use Rattle.std.specs.Option.{option_map_or, option_or}
-use Rattle.std.specs.declared.result.Result.{Result}
-use Rattle.std.specs.declared.result.Result.TheVariants.{Ok, Err}
+use Rattle.std.specs.Option.{option_or}
 use Rattle.std.proofs.lemmas.Bool.{and_parts, or_parts, and_right}
 use Rattle.std.proofs.lemmas.Option.{same_Some}
 use Rattle.filing_model.specs.Common.Text.{Text, text_eq}
-use Rattle.filing_model.specs.Oim.Facts.{Fact, fit_of}
-use Rattle.filing_model.specs.Oim.Reports.{Report}
-use Rattle.filing_model.specs.Sessions.Repository.{Repository, report_at, fact_in, fact_at, with_fact_at, declaring_at}
-use Rattle.filing_model.specs.Sessions.Changes.{Change, change_in, change_at, declared_in, with_change, declaring_if, changed, laid_over, after_change}
-use Rattle.filing_model.specs.Sessions.Calls as call
-use Rattle.filing_model.specs.Sessions.Calls.{Call, report_of_call}
+use Rattle.filing_model.specs.Oim.Facts.{Fact}
+use Rattle.filing_model.specs.Sessions.Repository.{Repository, fact_at}
+use Rattle.filing_model.specs.Sessions.Changes.{Change, change_at, declared_in, with_change, declaring_if, laid_over, after_change}
+use Rattle.filing_model.specs.Sessions.Calls.{Call}
 use Rattle.filing_model.specs.Sessions.Replies as reply
-use Rattle.filing_model.specs.Sessions.Replies.{Reply}
 use Rattle.filing_model.specs.Sessions.Things as thing
-use Rattle.filing_model.specs.Sessions.Things.{Thing}
-use Rattle.filing_model.specs.Sessions.Sessions.{Answer, may_make, answer_in, answer, solo_replies, solo_copy, fitted}
+use Rattle.filing_model.specs.Sessions.Sessions.{answer, solo_replies, solo_copy}
 use Rattle.filing_model.specs.Histories.History.{History, calls_of, replies_of, base_of, repository}
 use Rattle.filing_model.specs.Histories.Touches.{reads, change_between, staged_places, staged_values, net_change_of}
 use Rattle.filing_model.specs.Histories.Versions.{counts}
 use Rattle.filing_model.specs.declared.duplicates.Allowed.{Allowed}
-use Rattle.filing_model.specs.declared.faults.FactFault.{FactFault}
 use Rattle.filing_model.specs.declared.kind.Kind.{Kind}
 use Rattle.filing_model.specs.declared.kind.Kind.TheVariants.{Amend}
 use Rattle.filing_model.proofs.Common.Texts.{text_same}
 use Rattle.filing_model.proofs.Common.Tests.{none_from_not_is_some}
 use Rattle.filing_laws.specs.Updating.NetChange.{IsUntouchedAmendment, copy_now, EachNetChangeMakesTheCopy, EachCommitLaysItsNetChange}
 use Rattle.filing_laws.proofs.Lists.EachElement.{Each, IsNever}
-use Rattle.filing_laws.proofs.Lists.WithOneValue.{bare, bare_at, last_value}
+use Rattle.filing_laws.proofs.Lists.WithOneValue.{bare_at, last_value, or_none}
 use Rattle.filing_laws.proofs.Agreement.AgreeOnThings.{Agree, agree_fact}
+use Rattle.filing_laws.proofs.Agreement.AnswerCases.{each_answer}
 use Rattle.filing_laws.proofs.Agreement.RunsAlike.{IsAlikeRun, run_leaves_facts, run_leaves_heads, staged_were_read, is_place}
 use Rattle.filing_laws.proofs.Touching.ChangedPlaces.{change_at-with_change, change_at-with_values, declared_in-with_values, declared_in-change_between}
 use Rattle.filing_laws.proofs.Opening.OwnReplies.{own_replies}
 use Rattle.filing_laws.proofs.Touching.UntouchedThingsStand.{known, reads_agree}
 use Rattle.filing_laws.proofs.Histories.UntouchedIsSerial.{alike_now, serial}
 use Rattle.filing_laws.proofs.Touching.EntryCases.{EntryCase, Quiet, Accepted, Passed, entry_case}
-use Rattle.filing_laws.proofs.Updating.LaidOver.{bare-changed, fact_in-changed, reports_same, repositories_same, report_at-laid_over, count-laid_over, count-with_fact_at, count-declaring_at}
+use Rattle.filing_laws.proofs.Updating.LaidOver.{laid_over_makes, count-with_fact_at, count-declaring_at}
 
 -- ---- what a net change has at each place
 
@@ -59,7 +53,9 @@ change_at-change_between opening copy (p ∷ ps) m q = by (is_place m q p) refl 
     fact = fact_at copy p.0 p.1
 
     kept_as : is_place m q p ≡ true → is_kept opening copy p.0 p.1 ≡ is_kept opening copy m q
-    kept_as here = let parts = and_parts (text_eq m p.0) (text_eq q p.1) here in sym (λ i. is_kept opening copy (text_same m p.0 parts.0 i) (text_same q p.1 parts.1 i))
+    kept_as here =
+        let parts = and_parts (text_eq m p.0) (text_eq q p.1) here in
+        sym (λ i. is_kept opening copy (text_same m p.0 parts.0 i) (text_same q p.1 parts.1 i))
 
     fact_as : is_place m q p ≡ true → fact ≡ fact_at copy m q
     fact_as here = let parts = and_parts (text_eq m p.0) (text_eq q p.1) here in sym (λ i. fact_at copy (text_same m p.0 parts.0 i) (text_same q p.1 parts.1 i))
@@ -69,7 +65,8 @@ change_at-change_between opening copy (p ∷ ps) m q = by (is_place m q p) refl 
 
     by : (here : Bool) → is_place m q p ≡ here → (b : Bool) → is_kept opening copy p.0 p.1 ≡ b
         → change_at rest m q ≡ cond (list_any (is_place m q) ps && is_kept opening copy m q) (Some (fact_at copy m q)) None
-        → change_at (cond b (with_change rest p.0 p.1 fact) rest) m q ≡ cond ((here || list_any (is_place m q) ps) && is_kept opening copy m q) (Some (fact_at copy m q)) None
+        → change_at (cond b (with_change rest p.0 p.1 fact) rest) m q
+        ≡ cond ((here || list_any (is_place m q) ps) && is_kept opening copy m q) (Some (fact_at copy m q)) None
     by true here true kept later =
         with_it true here ∙ ap Some (fact_as here) ∙ sym (ap (λ b. cond b (Some (fact_at copy m q)) None) (sym (kept_as here) ∙ kept))
     by true here false out later =
@@ -82,38 +79,18 @@ change_at-change_between opening copy (p ∷ ps) m q = by (is_place m q p) refl 
 
 -- ---- what a run leaves of the count
 
--- a call leaves the copy as it is, puts or removes one fact, or declares one value
-answer_either : (P : Repository → Type 0) (kind : Kind) (ask : Call) (c : Repository) → P c
-    → ((name id : Text) (fact : Option Fact) → P (with_fact_at c name id fact)) → ((name : Text) (value : Allowed) → P (declaring_at c name value))
-    → P (answer kind ask c).1
-answer_either P kind ask c same put declare = by (may_make kind ask) (report_at c (report_of_call ask))
-  where
-    fitting : (name id : Text) (taken : Bool) (fit : Result Fact FactFault) → P (cond taken (reply.Taken, c) (fitted c name id fit)).1
-    fitting name id true fit = same
-    fitting name id false (Ok fact) = put name id (Some fact)
-    fitting name id false (Err fault) = same
-
-    removing : (name id : Text) (found : Bool) → P (cond {A = Answer} found (reply.Staged, with_fact_at c name id None) (reply.Absent, c)).1
-    removing name id true = put name id None
-    removing name id false = same
-
-    within : (ask : Call) (r : Report) → P (answer_in c ask r).1
-    within (call.Get name id) r = same
-    within (call.Cell name dims) r = same
-    within (call.Page name query limit) r = same
-    within (call.Add name id raw) r = fitting name id (is_some (fact_in r id)) (fit_of r.names raw)
-    within (call.Remove name id) r = removing name id (is_some (fact_in r id))
-    within (call.Declared name) r = same
-    within (call.Declare name value) r = declare name value
-
-    by : (may : Bool) (o : Option Report) → P (cond may (option_map_or (answer_in c ask) o (reply.NoReport, c)) (reply.ReadOnly, c)).1
-    by false o = same
-    by true None = same
-    by true (Some r) = within ask r
+call_leaves_count : (kind : Kind) (ask : Call) (c : Repository) → (answer kind ask c).1.count ≡ c.count
+call_leaves_count kind ask c = each_answer (λ ask a. a.1.count ≡ c.count) kind ask c (record {
+  told = λ ask r kept none. refl;
+  found = λ name id r fact is some. refl;
+  put = λ name id raw r fact is fits. count-with_fact_at c name id (Some fact);
+  removed = λ name id r is. count-with_fact_at c name id None;
+  declared = λ name value r is. count-declaring_at c name value;
+})
 
 pub run_leaves_count : (kind : Kind) (calls : List Call) (c : Repository) → (solo_copy kind c calls).count ≡ c.count
 run_leaves_count kind [] c = refl
-run_leaves_count kind (ask ∷ calls) c = run_leaves_count kind calls (answer kind ask c).1 ∙ answer_either (λ d. d.count ≡ c.count) kind ask c refl (count-with_fact_at c) (count-declaring_at c)
+run_leaves_count kind (ask ∷ calls) c = run_leaves_count kind calls (answer kind ask c).1 ∙ call_leaves_count kind ask c
 
 -- ---- an untouched amendment
 
@@ -122,7 +99,9 @@ each_placed P m q [] each placed = absurd (true≢false (sym placed))
 each_placed P m q (p ∷ ps) each placed = by (each_placed P m q ps each.1) (is_place m q p) refl placed
   where
     by : (list_any (is_place m q) ps ≡ true → P (m, q)) → (here : Bool) → is_place m q p ≡ here → (here || list_any (is_place m q) ps) ≡ true → P (m, q)
-    by later true here placed = let parts = and_parts (text_eq m p.0) (text_eq q p.1) here in subst P (sym (λ i. (text_same m p.0 parts.0 i, text_same q p.1 parts.1 i))) each.0
+    by later true here placed =
+        let parts = and_parts (text_eq m p.0) (text_eq q p.1) here in
+        subst P (sym (λ i. (text_same m p.0 parts.0 i, text_same q p.1 parts.1 i))) each.0
     by later false apart placed = later placed
 
 module _ (h : History) (s : ℕ) (amendment : IsUntouchedAmendment h s) where
@@ -157,7 +136,8 @@ module _ (h : History) (s : ℕ) (amendment : IsUntouchedAmendment h s) where
   told_now = serial h s Amend amendment.lawful amendment.live amendment.untouched
 
   staged : Each (λ (p : Text × Text). Agree (thing.Id p.0 p.1) opening now) places
-  staged = subst (λ rs. Each (λ (p : Text × Text). Agree (thing.Id p.0 p.1) opening now) (staged_places calls rs)) (sym (own_replies h s Amend amendment.lawful amendment.live))
+  staged = subst (λ rs. Each (λ (p : Text × Text). Agree (thing.Id p.0 p.1) opening now) (staged_places calls rs))
+      (sym (own_replies h s Amend amendment.lawful amendment.live))
       (staged_were_read (λ t. Agree t opening now) Amend calls opening agree)
 
   pub staged_agrees : (m q : Text) → list_any (is_place m q) places ≡ true → Agree (thing.Id m q) opening now
@@ -179,7 +159,8 @@ module _ (h : History) (s : ℕ) (amendment : IsUntouchedAmendment h s) where
   -- at each place the copy has what the net change has, and else what stands there now
   pub fact_of_copy : (m q : Text) → unwrap_or (change_at net m q) (fact_at now m q) ≡ fact_at (copy_now h s) m q
   fact_of_copy m q =
-      ap (λ o. unwrap_or o (fact_at now m q)) (change_at-with_values values (change_between opening copy places) m q ∙ change_at-change_between opening copy places m q)
+      ap (λ o. unwrap_or o (fact_at now m q))
+      (change_at-with_values values (change_between opening copy places) m q ∙ change_at-change_between opening copy places m q)
       ∙ by (list_any (is_place m q) places) refl
     where
       by : (b : Bool) → list_any (is_place m q) places ≡ b
@@ -192,33 +173,14 @@ module _ (h : History) (s : ℕ) (amendment : IsUntouchedAmendment h s) where
   value_of_copy m =
       declared_in-with_values values (change_between opening copy places) m
       ∙ ap (option_or (last_value m values)) (declared_in-change_between opening copy places m)
-      ∙ alone (last_value m values)
+      ∙ or_none (last_value m values)
       ∙ ap (λ rs. last_value m (staged_values calls rs)) told_now
-    where
-      alone : (o : Option Allowed) → option_or o None ≡ o
-      alone None = refl
-      alone (Some value) = refl
 
   head_of_copy : (m : Text) → bare_at (copy_now h s) m ≡ option_map (declaring_if (declared_in net m)) (bare_at now m)
   head_of_copy m = run_leaves_heads Amend calls now m ∙ ap (λ v. option_map (declaring_if v) (bare_at now m)) (sym (value_of_copy m))
 
-  report_of_copy : (m : Text) (o p : Option Report) → report_at now m ≡ o → report_at (copy_now h s) m ≡ p
-      → option_map bare p ≡ option_map (declaring_if (declared_in net m)) (option_map bare o) → option_map (changed (change_in net m)) o ≡ p
-  report_of_copy m None None there copied heads = refl
-  report_of_copy m None (Some r) there copied heads = let apart : Some (bare r) ≡ None = heads in cc
-  report_of_copy m (Some r) None there copied heads = let apart : None ≡ Some (declaring_if (declared_in net m) (bare r)) = heads in cc
-  report_of_copy m (Some r) (Some x) there copied heads =
-      let same : bare x ≡ declaring_if (declared_in net m) (bare r) = cc in
-      ap Some (reports_same (changed (change_in net m) r) x (bare-changed (change_in net m) r ∙ sym same) (λ q.
-      fact_in-changed (change_in net m) r q
-      ∙ ap (λ o. unwrap_or (change_at net m q) (option_and_then (λ r. fact_in r q) o)) (sym there)
-      ∙ fact_of_copy m q
-      ∙ ap (option_and_then (λ r. fact_in r q)) copied))
-
   pub net_change_makes_the_copy : laid_over net now ≡ copy_now h s
-  net_change_makes_the_copy = repositories_same (laid_over net now) (copy_now h s)
-      (count-laid_over net now ∙ sym (run_leaves_count Amend calls now))
-      (λ m. report_at-laid_over net now m ∙ report_of_copy m (report_at now m) (report_at (copy_now h s) m) refl refl (head_of_copy m))
+  net_change_makes_the_copy = laid_over_makes net now (copy_now h s) (sym (run_leaves_count Amend calls now)) head_of_copy fact_of_copy
 
 pub each_net_change_makes_the_copy : EachNetChangeMakesTheCopy
 each_net_change_makes_the_copy h s amendment = net_change_makes_the_copy h s amendment

@@ -1,7 +1,7 @@
 use Rattle.std.proofs.Common.{[], ◌∷◌}
 use Rattle.std.specs.Arc.{arc_value}
 use Rattle.filing_step.specs.Steps.{call_of}
-use Rattle.filing_version.specs.Filed.{repository_in}
+use Rattle.filing_version.specs.StampedReports.{repository_in}
 use Rattle.embedding.proofs.LoneRuns.{replies_alone}
 use Rattle.embedding.proofs.lone_session.run_alone.Goals as goal
 

@@ -1,6 +1,6 @@
 use Rattle.std.proofs.Common.{string_bytes, ap, ◌∙◌}
 use Rattle.filing_model.specs.Histories.Stamps.{Version, version_with}
-use Rattle.filing_version.specs.Filed.{repository_in}
+use Rattle.filing_version.specs.StampedReports.{repository_in}
 use Rattle.embedding.proofs.lone_session.version_of.Goals as goal
 
 pub returns : goal.returns

@@ -1,6 +1,6 @@
 use Rattle.std.proofs.Common.{◌≡◌, map}
 use Rattle.filing_step.specs.Steps.{thing_of}
-use Rattle.filing_version.specs.Filed.{version_in}
+use Rattle.filing_version.specs.StampedReports.{version_in}
 use Rattle.filing_laws.specs.Stamping.StampedVersions.{first_stamped}
 use Rattle.filing_core.proofs.conflict.conflict.Given as goal
 

@@ -5,5 +5,5 @@ use Rattle.filing_index.proofs.cell_sum.with_fact.Goals as goal
 
 pub returns : goal.returns
 returns c facts told =
-    subst (λ (f : Fact). Tells c.told.result (facts ++ f ∷ [])) c.deref.ensures
-    (c.told.ensures (facts ++ c.deref.result.now ∷ []) (c.add.ensures facts told))
+    subst (λ (f : Fact). Tells c.sum_of.result (facts ++ f ∷ [])) c.deref.ensures
+    (c.sum_of.ensures (facts ++ c.deref.result.now ∷ []) (c.add.ensures facts told))

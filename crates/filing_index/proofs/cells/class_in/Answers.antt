@@ -8,7 +8,7 @@ use Rattle.filing_index.proofs.cells.class_in.Goals as goal
 
 pub returns-in-Some : goal.returns-in-Some
 returns-in-Some c = λ facts index.
-    let found = c.under-cell.ensures facts index ∙ found_all (has_dims c.args.dims.now) facts in
+    let found = c.of_hash-cell.ensures facts index ∙ found_all (has_dims c.args.dims.now) facts in
     c.in-Some.ensures ∙ ap (λ es. class_of (map (λ e. e.1) es)) found
 
 pub returns : goal.returns
@@ -16,7 +16,7 @@ returns c = λ facts index.
     let (given, (end, (last, given_by, over)), class) = c.class_over.ensures in
     let all = items_from_drains given (last, given_by, λ _. (end, over))
     (YieldsList-from_map_by _ (λ f. arc_value f.now) (λ e. e.1)
-    (YieldsList-at c.map.ensures.source (YieldsList-from_first (λ x. x.now) (λ f. f) c.under-cell.result refl))
+    (YieldsList-at c.map.ensures.source (YieldsList-from_first (λ x. x.now) (λ f. f) c.of_hash-cell.result refl))
     c.map.ensures.closure (λ x r q k. search rules)) in
-    let found = c.under-cell.ensures facts index ∙ found_all (has_dims c.args.dims.now) facts in
+    let found = c.of_hash-cell.ensures facts index ∙ found_all (has_dims c.args.dims.now) facts in
     class ∙ ap class_of (all ∙ ap (map (λ e. e.1)) found)

@@ -15,7 +15,8 @@ use Rattle.filing_index.proofs.CrowdedCells.{IsLeastSoFar, one_more, passed_over
 use Rattle.filing_index.proofs.cells.least_disallowed_among.Goals as goal
 use Rattle.filing_index.proofs.cells.least_disallowed_among.Goals.{then-not-are_these, else-not-are_these}
 
-taken : (a : Allowed) (all : TextMap Fact) (given : List (Bor (Text × Fact))) (held : Bor (Text × Fact)) (dims : Dims) (least : Option Dims) → dims ≡ held.now.1.dims
+taken : (a : Allowed) (all : TextMap Fact) (given : List (Bor (Text × Fact))) (held : Bor (Text × Fact)) (dims : Dims) (least : Option Dims)
+    → dims ≡ held.now.1.dims
     → IsLeastSoFar a all (facts_given given ++ held.now.1 ∷ []) (Some held.now.1.dims) least
     → IsLeastSoFar a all (facts_given (given ++ held ∷ [])) (Some dims) least
 taken a all given held dims least is so_far =
@@ -37,7 +38,8 @@ loop-held-preserved g c = λ all index.
       | then-not-are_these w ↦ one_more a all (facts_given given) held.now.1 before least (option_map (λ d. d.now) c.if-not-are_these.least) so_far
           (ap (option_map (λ d. d.now)) w.least-is ∙ w.with_cell-least.ensures all index
           ∙ ap (λ d. fold lesser_dims least (filter (is_disallowed a (facts_of all.entries)) (d ∷ []))) of_held)
-      | else-not-are_these w ↦ subst (λ m. IsLeastSoFar a all (facts_given given ++ held.now.1 ∷ []) (Some held.now.1.dims) m) (sym (ap (option_map (λ d. d.now)) w.least-is))
+      | else-not-are_these w ↦ subst (λ m. IsLeastSoFar a all (facts_given given ++ held.now.1 ∷ []) (Some held.now.1.dims) m)
+          (sym (ap (option_map (λ d. d.now)) w.least-is))
           (passed_over a all (facts_given given) held.now.1 before least so_far
           (ap (are_these before) (sym dims) ∙ sym c.are_these.ensures ∙ w.if-not-are_these.false))
     ])

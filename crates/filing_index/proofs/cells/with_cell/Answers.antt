@@ -35,7 +35,7 @@ returns c = λ facts index.
     let dims = c.args.held.now.dims in
     let least = option_map (λ d. d.now) c.args.least in
     let class = c.class_in.ensures facts index ∙ ap (λ d. class_of (cell_facts d facts)) c.dims-dims.ensures in
-    c.lesser.ensures
+    c.lesser_dims.ensures
     ∙ ap (lesser_dims least) c.dims-dims.ensures
     ∙ sym (ap (λ b. fold lesser_dims least (cond b (dims ∷ []) []))
     (disallowed_by_class c.args.allowed dims facts c.class_in.result class

@@ -6,7 +6,7 @@ use Rattle.sorted_pages.specs.Sorted.{IsRising}
 use Rattle.sorted_pages.specs.Changes.{entry_of, with_changes}
 use Rattle.filing_index.specs.Index.{IndexEntry, hashed_cmp, IsIndex}
 use Rattle.filing_index.specs.IndexKinds.{hash_in}
-use Rattle.filing_facts.specs.FactChanges as move
+use Rattle.filing_facts.specs.FactChanges as fact_change
 use Rattle.filing_index.specs.ChangedIndexes.{IsIndexAfter, hashed_changes}
 use Rattle.filing_index.proofs.ChangedFacts.{index_after}
 use Rattle.filing_index.proofs.indexing.index_after.Goals as goal
@@ -18,11 +18,11 @@ after-next-requires c =
 pub returns : goal.returns
 returns c =
     IfOk-weaker c.after-next.result (λ p. p ≡ with_changes hashed_cmp c.deref.result.now c.args.index.now)
-    (IsIndexAfter (hash_in c.args.order) c.args.fact_changes.now c.args.index.now)
+    (IsIndexAfter (hash_in c.args.kind) c.args.fact_changes.now c.args.index.now)
     (λ p same changes facts are is.
-    subst (IsIndex (hash_in c.args.order) (move.with_changes changes.entries facts))
+    subst (IsIndex (hash_in c.args.kind) (fact_change.with_changes changes.entries facts))
     (sym (same ∙ ap (λ (cs : List (Edit IndexEntry)). with_changes hashed_cmp cs c.args.index.now) c.deref.ensures.value))
-    (index_after (hash_in c.args.order) changes facts c.args.index.now c.in_ok-changes.changes.items
+    (index_after (hash_in c.args.kind) changes facts c.args.index.now c.in_ok-changes.changes.items
     (subst (λ (cs : List (Edit IndexEntry)). IsPermutation cs c.in_ok-changes.changes.items)
-    (ap (hashed_changes (hash_in c.args.order)) are) c.in_ok-changes.ensures.changes) is))
+    (ap (hashed_changes (hash_in c.args.kind)) are) c.in_ok-changes.ensures.changes) is))
     c.after-next.ensures

@@ -13,9 +13,9 @@ use Rattle.filing_index.proofs.indexing.index_of.Goals as goal
 
 pub of_sorted-requires : goal.of_sorted-requires
 of_sorted-requires c =
-    sorted_hashes_rise (hash_in c.args.order) c.args.facts.now c.sort_by.new.self.items c.requires
+    sorted_hashes_rise (hash_in c.args.kind) c.args.facts.now c.sort_by.new.self.items c.requires
     (subst (λ (es : List IndexEntry). IsPermutation es c.sort_by.new.self.items) c.in_ok-entries.ensures c.sort_by.ensures.permutation)
-    (sorted_stably (hash_in c.args.order) c.args.facts.now c.sort_by.new.self.items c.requires
+    (sorted_stably (hash_in c.args.kind) c.args.facts.now c.sort_by.new.self.items c.requires
     (c.in_ok-sort_by.ensures.sorted has_lesser_hash has_lesser_hash-ranks (always_returns_same _ _ _ (λ a r f' k. search rules)))
     (subst (λ (es : List IndexEntry). IsStableBy has_lesser_hash es c.sort_by.new.self.items) c.in_ok-entries.ensures
     (c.sort_by.ensures.stable has_lesser_hash has_lesser_hash-ranks (always_returns_same _ _ _ (λ a r f' k. search rules)))))
@@ -23,10 +23,10 @@ of_sorted-requires c =
 pub returns : goal.returns
 returns c =
     IfOk-weaker c.of_sorted.result (λ p. p ≡ c.sort_by.new.self.items)
-    (λ index. (all : TextMap Fact) → all.entries ≡ c.args.facts.now → IsIndex (hash_in c.args.order) all index)
+    (λ index. (all : TextMap Fact) → all.entries ≡ c.args.facts.now → IsIndex (hash_in c.args.kind) all index)
     (λ p same all is.
-    subst (IsIndex (hash_in c.args.order) all) (sym same)
-    (index_of (hash_in c.args.order) all c.sort_by.new.self.items
+    subst (IsIndex (hash_in c.args.kind) all) (sym same)
+    (index_of (hash_in c.args.kind) all c.sort_by.new.self.items
     (subst (λ (es : List IndexEntry). IsPermutation es c.sort_by.new.self.items)
-    (c.in_ok-entries.ensures ∙ ap (map (hashed (hash_in c.args.order))) (sym is)) c.sort_by.ensures.permutation)))
+    (c.in_ok-entries.ensures ∙ ap (map (hashed (hash_in c.args.kind))) (sym is)) c.sort_by.ensures.permutation)))
     c.of_sorted.ensures

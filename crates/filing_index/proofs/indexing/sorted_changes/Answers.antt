@@ -15,7 +15,7 @@ returns-clause-changes c =
 
 pub returns-clause-rising : goal.returns-clause-rising
 returns-clause-rising c =
-    sorted_changes_rise (hash_in c.args.order) c.requires.1.0 c.requires.0 c.sort_unstable_by.new.self.items
+    sorted_changes_rise (hash_in c.args.kind) c.requires.1.0 c.requires.0 c.sort_unstable_by.new.self.items
     (subst (λ (cs : List (Edit IndexEntry)). IsPermutation cs c.sort_unstable_by.new.self.items)
-    (c.in_ok-changes.ensures ∙ ap (hashed_changes (hash_in c.args.order)) c.requires.1.1) c.sort_unstable_by.ensures.permutation)
+    (c.in_ok-changes.ensures ∙ ap (hashed_changes (hash_in c.args.kind)) c.requires.1.1) c.sort_unstable_by.ensures.permutation)
     (c.sort_unstable_by.ensures.sorted is_change_before is_change_before-ranks (always_returns_same _ _ _ (λ a r f' k. search rules)))

@@ -1,7 +1,7 @@
 use Rattle.std.proofs.Common.{◌≡◌, ◌∙◌, ◌++◌, ◌∷◌, [], List, ap, sym, subst, option_map}
 use Rattle.filing_model.specs.Sessions.Repository.{Repository}
 use Rattle.filing_model.specs.Histories.Versions.{IsChain}
-use Rattle.filing_version.specs.Filed.{repository_in}
+use Rattle.filing_version.specs.StampedReports.{repository_in}
 use Rattle.filing_office.proofs.Publishing.{chain_with, publishes}
 use Rattle.filing_office.proofs.shared.publish_and_settle.Goals as goal
 

@@ -18,7 +18,8 @@ loop-part-preserved g c =
     let since = c.args.since in
     let before : max since c.loop-part.number ≡ max since (best side (flat_map stamps (take i parts))) = c.loop-part.invariant in
     let this : max since c.greatest_since.result ≡ max since (best side (stamps part)) = c.greatest_since.ensures in
-    let next : take (i + 1) parts ≡ take i parts ++ part ∷ [] = take_more parts i part c.loop-part-test.true ∙ ap (λ z. take i parts ++ z ∷ []) (sym c.part-item.is) in
+    let next : take (i + 1) parts ≡ take i parts ++ part ∷ [] =
+    take_more parts i part c.loop-part-test.true ∙ ap (λ z. take i parts ++ z ∷ []) (sym c.part-item.is) in
     let more : best side (flat_map stamps (take (i + 1) parts)) ≡ max (best side (flat_map stamps (take i parts))) (best side (stamps part)) =
     ap (λ ps. best side (flat_map stamps ps)) next ∙ best-more side stamps (take i parts) part in
     omega (arith, before, this, more, c.max-number.ensures)

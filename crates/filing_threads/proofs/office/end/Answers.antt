@@ -4,5 +4,6 @@ use Rattle.filing_threads.proofs.office.end.Goals as goal
 
 pub returns : goal.returns
 returns g c =
-    ended_so c.begun_with.result c.in-Ok.core c.args.desks.items (reverse c.args.first.now) c.begun_with.ensures.same c.begun_with.ensures.goes
+    ended_so c.require_beginning.result c.in-Ok.core c.args.desks.items (reverse c.args.first.now) c.require_beginning.ensures.same
+    c.require_beginning.ensures.goes
     c.in-Ok.ensures.counted c.in-Ok.ensures.numbered

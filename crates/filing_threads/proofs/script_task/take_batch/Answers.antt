@@ -19,7 +19,8 @@ returns-clause-taken g c =
     record {
       mid = c.take_steps.new.named_desk.state;
       outcomes = ran.0;
-      runs = subst (λ os. Runs c.args.named_desk.now.state c.take_steps.new.named_desk.state os c.args.batch.steps.items ran.0) c.in_default.ensures.items ran.1;
+      runs = subst (λ os. Runs c.args.named_desk.now.state c.take_steps.new.named_desk.state os c.args.batch.steps.items ran.0)
+          c.in_default.ensures.items ran.1;
       text_is = c.in_ok-whole.ensures.text ∙ (λ i. string_bytes c.args.text.now ++ lines_text (replies_of (told i) (these i)));
       whole_is = c.in_ok-whole.ensures.whole ∙ (λ i. all_told (told i) (these i));
       lets_go = (

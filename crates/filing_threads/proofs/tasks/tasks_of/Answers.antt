@@ -1,7 +1,7 @@
 use Rattle.std.proofs.Common.{◌≡◌, ◌∷◌, [], ◌+◌, All, arith, subst, sym, refl, take, map, sum}
 use Rattle.std.specs.Arc.{arc_value}
 use Rattle.filing_model.specs.Sessions.Repository.{nothing}
-use Rattle.filing_threads.specs.Retaking.{known_by}
+use Rattle.filing_threads.specs.Replaying.{known_by}
 use Rattle.filing_threads.specs.Tasks.{AreTasks, IsTask}
 use Rattle.filing_threads.proofs.CountedDesks.{desk_moved}
 use Rattle.filing_threads.proofs.ScriptTasks.{all_last, seats_taken}
@@ -17,7 +17,8 @@ loop-script-preserved g c =
       desks = omega (arith, so_far.desks, c.in-Some.ensures.cases);
       reviewers = omega (arith, so_far.reviewers, c.in-Some-pop.ensures.cases);
       seen = reviewers.1;
-      tasks = subst (λ at_desks. AreTasks (IsTask many c.args.journaled table) (take (c.loop-script.script-index + 1) c.args.scripts.now) at_desks) (sym c.in_ok-push.ensures.items)
+      tasks = subst (λ at_desks. AreTasks (IsTask many c.args.journaled table) (take (c.loop-script.script-index + 1) c.args.scripts.now) at_desks)
+          (sym c.in_ok-push.ensures.items)
           (seats_taken (IsTask many c.args.journaled table) c.args.scripts.now c.loop-script.script-index c.loop-script.at_desks.items c.script-item.result _
           c.loop-script-test.true c.script-item.is so_far.tasks
           (record {
@@ -29,6 +30,8 @@ loop-script-preserved g c =
             has_seen = c.in_ok-reviewer.ensures;
           }));
       counted = λ f.
-          subst (λ at_desks. sum (map f (map (λ x. x.desk) at_desks)) + sum (map f c.pop.new.self.items) ≡ sum (map f c.args.desks.items)) (sym c.in_ok-push.ensures.items)
-          (desk_moved f c.loop-script.at_desks.items _ c.loop-script.desks.items c.pop.new.self.items c.args.desks.items c.in-Some.ensures.items (so_far.counted f));
+          subst (λ at_desks. sum (map f (map (λ x. x.desk) at_desks)) + sum (map f c.pop.new.self.items) ≡ sum (map f c.args.desks.items))
+          (sym c.in_ok-push.ensures.items)
+          (desk_moved f c.loop-script.at_desks.items _ c.loop-script.desks.items c.pop.new.self.items c.args.desks.items c.in-Some.ensures.items
+          (so_far.counted f));
     }

@@ -2,7 +2,7 @@ use Rattle.std.proofs.Common.{◌≡◌, ◌+◌, ℕ, [], ◌∷◌, All, lengt
 use Rattle.std.specs.Arc.{arc_value}
 use Rattle.filing_model.specs.Sessions.Repository.{nothing}
 use Rattle.filing_office.specs.Tallies.{Tally}
-use Rattle.filing_threads.specs.Retaking.{known_by}
+use Rattle.filing_threads.specs.Replaying.{known_by}
 use Rattle.filing_threads.specs.Tasks.{AreTasks, IsTask}
 use Rattle.filing_threads.proofs.tasks.tasks_of.Given as goal
 

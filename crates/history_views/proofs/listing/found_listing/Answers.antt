@@ -1,5 +1,5 @@
 use Rattle.std.proofs.Common.{◌≡◌, ◌∙◌, ap, sym, Some, option_map}
-use Rattle.filing_version.specs.Filed.{StampedReports, repository_in}
+use Rattle.filing_version.specs.StampedReports.{StampedReports, repository_in}
 use Rattle.history_views.specs.Listing.{listing}
 use Rattle.history_views.specs.Versions.{version_kept}
 use Rattle.history_views.proofs.listing.found_listing.Goals as goal

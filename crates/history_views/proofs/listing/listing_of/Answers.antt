@@ -1,4 +1,4 @@
-use Rattle.filing_version.specs.Filed.{repository_in}
+use Rattle.filing_version.specs.StampedReports.{repository_in}
 use Rattle.history_views.proofs.Listings.{all_listed}
 use Rattle.history_views.proofs.listing.listing_of.Goals as goal
 

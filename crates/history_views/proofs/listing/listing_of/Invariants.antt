@@ -1,5 +1,5 @@
 use Rattle.std.proofs.Common.{◌≡◌, ◌++◌, string_bytes}
-use Rattle.filing_version.specs.Filed.{repository_in}
+use Rattle.filing_version.specs.StampedReports.{repository_in}
 use Rattle.history_views.specs.Listing.{head_of}
 use Rattle.history_views.proofs.Listings.{rows_at}
 use Rattle.history_views.proofs.listing.listing_of.Given as goal

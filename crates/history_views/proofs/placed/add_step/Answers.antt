@@ -6,7 +6,8 @@ use Rattle.history_views.proofs.placed.add_step.Goals as goal
 
 pub returns-in-Load : goal.returns-in-Load
 returns-in-Load c = λ h e is has.
-    on_ok_weaker c.add_name.result (name_added c.args.places.now c.add_name.new.self h e has _ c.deref.result.now _ (is ∙ ap step_of c.in-Load.is) c.deref.ensures)
+    on_ok_weaker c.add_name.result (name_added c.args.places.now c.add_name.new.self h e has _ c.deref.result.now _
+    (is ∙ ap step_of c.in-Load.is) c.deref.ensures)
     c.add_name.ensures
 
 pub returns-in-Add : goal.returns-in-Add

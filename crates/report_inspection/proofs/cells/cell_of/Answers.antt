@@ -10,6 +10,6 @@ pub returns : goal.returns
 returns c =
     told_cell c.args.allowed (dims_in (fact_view c.args.first.now)) _ _ _ _ (facts_view c.args.run.now) c.requires
     (ap (λ f. f.dims) c.in_ok-clone.ensures.cases)
-    (c.class_of-class.ensures ∙ ap (λ xs. class_of (map arc_value xs)) c.deref.ensures.value ∙ ap class_of c.in_ok-shared.ensures)
+    (c.class_of-class.ensures ∙ ap (λ xs. class_of (map arc_value xs)) c.deref.ensures.value ∙ ap class_of c.in_ok-other_owners.ensures)
     c.in_ok-ids.ensures
     c.allows.ensures

@@ -25,4 +25,5 @@ pub returns : goal.returns
 returns c =
     cells_of_sorted c.args.allowed (facts_view c.args.facts.items) (facts_view c.in_ok-facts.facts.items) c.loop-left.cells.items c.in_ok-facts.ensures
     (walk_ends c.args.allowed _ (facts_view c.loop-left.left.now) c.loop-left.cells.items (none_left c.loop-left.left.now c.in_default.len_below)
-    (subst (λ xs. Walked c.args.allowed (facts_view xs) (facts_view c.loop-left.left.now) c.loop-left.cells.items) c.deref-left.ensures.value c.loop-left.invariant))
+    (subst (λ xs. Walked c.args.allowed (facts_view xs) (facts_view c.loop-left.left.now) c.loop-left.cells.items) c.deref-left.ensures.value
+    c.loop-left.invariant))

@@ -8,7 +8,8 @@ use Rattle.report_inspection.proofs.inspection.inspect_value.Goals.{then-is_empt
 
 pub returns-clause-told : goal.returns-clause-told
 returns-clause-told c =
-    tells (arc_value c.args.table.now) c.args.asked (data_of c.args.value.now) c.in_ok-faults.field-0 c.in_ok-faults.field-0.names c.in_ok-faults.field-0.allowed
+    tells (arc_value c.args.table.now) c.args.asked (data_of c.args.value.now) c.in_ok-faults.field-0 c.in_ok-faults.field-0.names
+    c.in_ok-faults.field-0.allowed
     c.unwrap_or.result record { facts = c.new.result; faults = c.in_ok-faults.field-0.faults } c.take_facts.new.found _
     c.in_ok-faults.ensures refl refl refl c.new.ensures.items c.in_ok-count.ensures.takes
     c.in_ok-count.ensures.count refl c.unwrap_or.ensures c.in_ok-cells.ensures loads

@@ -10,6 +10,7 @@ returns-clause-place g c =
       key.1,
       mine_are_less g.E.PageEntry.order g.met.E.PageEntry.is_total key.0 c.args.changes.now c.split_at_edge.result.0.now c.split_at_edge.result.1.now
           c.split_at_edge.ensures.parts c.requires
-          (before_first g.E.PageEntry.order g.met.E.PageEntry.is_total key.0 entries key.1.0 key.1.1 c.split_at_edge.result.0.now c.split_at_edge.ensures.front),
+          (before_first g.E.PageEntry.order g.met.E.PageEntry.is_total key.0 entries key.1.0 key.1.1
+          c.split_at_edge.result.0.now c.split_at_edge.ensures.front),
       from_first g.E.PageEntry.order g.met.E.PageEntry.is_total key.0 entries key.1.0 key.1.1 c.split_at_edge.result.1.now c.split_at_edge.ensures.back,
     )

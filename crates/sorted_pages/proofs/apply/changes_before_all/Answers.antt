@@ -16,7 +16,8 @@ pub returns-in-Some-clause-later : goal.returns-in-Some-clause-later
 returns-in-Some-clause-later g c =
     let head : c.args.items.now ≡ c.in-Some.item.now ∷ drop 1 c.args.items.now = first_is c.args.items.now c.in-Some.item.now c.in-Some.ensures.value in
     later_passes g.E.PageEntry.order g.met.E.PageEntry.is_total c.args.changes.now c.changes_before.result.0.now c.changes_before.result.1.now
-    (flat_map g.T.Level.entries c.args.items.now) (c.changes_before.ensures.place.1.0 ++ flat_map g.T.Level.entries (drop 1 c.args.items.now)) c.changes_before.ensures.place.0
+    (flat_map g.T.Level.entries c.args.items.now)
+    (c.changes_before.ensures.place.1.0 ++ flat_map g.T.Level.entries (drop 1 c.args.items.now)) c.changes_before.ensures.place.0
     (ap (flat_map g.T.Level.entries) head ∙ ap (λ es. es ++ flat_map g.T.Level.entries (drop 1 c.args.items.now)) c.changes_before.ensures.place.1.1)
     c.changes_before.ensures.parts c.requires.changes c.changes_before.ensures.place.3
 

@@ -1,7 +1,7 @@
 use Rattle.std.proofs.Common.{◌≡◌, ◌++◌, map, string_bytes}
 use Rattle.std.specs.List.{flat_map}
 use Rattle.filing_model.specs.Common.TextMap.{keys}
-use Rattle.filing_version.specs.Filed.{repository_in}
+use Rattle.filing_version.specs.StampedReports.{repository_in}
 use Rattle.version_differences.specs.Differences.{lines_at_id}
 use Rattle.version_differences.specs.LineText.{lines_text}
 use Rattle.version_differences.proofs.report_lines.push_ids.Given as goal

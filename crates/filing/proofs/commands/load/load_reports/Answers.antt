@@ -9,4 +9,5 @@ returns-clause-loaded g c = λ h engine lines.
     let d = g.D.Device in
     let script : c.as_bytes.result.now ≡ string_bytes c.in-Ok.script = search rules in
     let items : c.as_slice.result.now ≡ c.args.reports.items = search rules in
-    reports_loaded d.seen d.may_leave d.moment d.left_since _ _ _ h _ _ _ _ _ _ _ (script ∙ c.in-Ok.ensures ∙ ap load_script items) (c.run_with_journal-writer.ensures.journaled h engine lines)
+    reports_loaded d.seen d.may_leave d.moment d.left_since _ _ _ h _ _ _ _ _ _ _
+    (script ∙ c.in-Ok.ensures ∙ ap load_script items) (c.run_with_journal-writer.ensures.journaled h engine lines)

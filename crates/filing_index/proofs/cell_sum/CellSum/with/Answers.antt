@@ -7,5 +7,5 @@ pub returns-in-Empty : goal.returns-in-Empty
 returns-in-Empty c facts told =
     after_none c.args.self c.of_fact.result facts (arc_value c.args.fact.now ∷ []) c.in-Empty.is told c.of_fact.ensures
 
-pub returns-in-Told : goal.returns-in-Told
-returns-in-Told c facts told = c.with_fact.ensures facts (tally_of c.args.self c.in-Told.tally facts c.in-Told.is told)
+pub returns-in-Tally : goal.returns-in-Tally
+returns-in-Tally c facts told = c.with_fact.ensures facts (tally_of c.args.self c.in-Tally.tally facts c.in-Tally.is told)

@@ -3,8 +3,8 @@ use Rattle.filing_index.proofs.cell_sum.CellSum.with_tally.Goals as goal
 
 pub returns-in-Empty : goal.returns-in-Empty
 returns-in-Empty c facts others told tally =
-    after_none c.args.self c.shared.result facts others c.in-Empty.is told (c.shared.ensures others tally)
+    after_none c.args.self c.share_sum.result facts others c.in-Empty.is told (c.share_sum.ensures others tally)
 
-pub returns-in-Told : goal.returns-in-Told
-returns-in-Told c facts others told tally =
-    c.with_facts.ensures facts others (tally_of c.args.self c.in-Told.tally facts c.in-Told.is told) tally
+pub returns-in-Tally : goal.returns-in-Tally
+returns-in-Tally c facts others told tally =
+    c.with_facts.ensures facts others (tally_of c.args.self c.in-Tally.tally facts c.in-Tally.is told) tally

@@ -13,9 +13,9 @@ use Rattle.filing_index.proofs.facts.Facts.into_after.Goals as goal
 
 pub returns : goal.returns
 returns c = λ changes are.
-    let moved = id_changes c.args.fact_changes.now in
-    let made : c.in_ok-by_id.by_id ≡ map_with_changes moved c.self.inside.by_id =
-    subst (λ r. IfOk r (λ m. m ≡ map_with_changes moved c.self.inside.by_id)) c.in_ok-by_id.ensures.0 c.ids_into_after.ensures in
+    let edits = id_changes c.args.fact_changes.now in
+    let made : c.in_ok-by_id.by_id ≡ map_with_changes edits c.self.inside.by_id =
+    subst (λ r. IfOk r (λ m. m ≡ map_with_changes edits c.self.inside.by_id)) c.in_ok-by_id.ensures.0 c.ids_into_after.ensures in
     sym (ap (λ t. t.0) c.in_ok-by_cell.ensures.1 ∙ ap (λ t. t.0) c.in_ok-by_period.ensures.1 ∙ ap (λ t. t.0) c.in_ok-by_concept.ensures.1)
     ∙ made
     ∙ (λ i. map_with_changes (id_changes (are i)) (c.self.view_is i))
@@ -25,9 +25,9 @@ pub invariant_of-result : goal.invariant_of-result
 invariant_of-result c =
     let changes = c.requires.0 in
     let facts = c.args.self in
-    let moved = id_changes c.args.fact_changes.now in
-    let made : c.in_ok-by_id.by_id ≡ map_with_changes moved c.self.inside.by_id =
-    subst (λ r. IfOk r (λ m. m ≡ map_with_changes moved c.self.inside.by_id)) c.in_ok-by_id.ensures.0 c.ids_into_after.ensures in
+    let edits = id_changes c.args.fact_changes.now in
+    let made : c.in_ok-by_id.by_id ≡ map_with_changes edits c.self.inside.by_id =
+    subst (λ r. IfOk r (λ m. m ≡ map_with_changes edits c.self.inside.by_id)) c.in_ok-by_id.ensures.0 c.ids_into_after.ensures in
     let back : with_changes changes.entries facts ≡ c.in_ok-by_concept.by_id =
     sym (made ∙ (λ i. map_with_changes (id_changes (c.requires.1 i)) (c.self.view_is i)) ∙ map_after changes facts)
     ∙ ap (λ t. t.0) c.in_ok-by_cell.ensures.1

@@ -12,7 +12,7 @@ returns-in_ok-push c =
       | then-is_some-via-else-is_some+then-is_some-2 w ↦ sym w.if-is_some-2.ensures
     ] in
     c.in_ok-push.ensures.items
-    ∙ ap (λ moved. c.args.fact_changes.now.items ++ moved)
+    ∙ ap (λ pushed. c.args.fact_changes.now.items ++ pushed)
     (pushed c.args.change.now.0 (get c.args.self.now c.args.change.now.0) c.args.change.now.1 c.in_ok-old.old c.in_ok-new.new c.of.result
     (c.in_ok-old.ensures ∙ (λ i. option_map (λ f. (c.name.ensures i, f)) (get c.args.self.now (c.name.ensures i))))
     c.in_ok-new.ensures c.of.ensures some)

@@ -5,4 +5,4 @@ use Rattle.filing_index.proofs.ids.Ids.of_cell.Goals as goal
 
 pub returns : goal.returns
 returns c = λ facts index.
-    ap (map (λ e. e.0)) (c.under-facts.ensures facts index ∙ found_all (has_dims c.args.dims.now) facts)
+    ap (map (λ e. e.0)) (c.of_hash-facts.ensures facts index ∙ found_all (has_dims c.args.dims.now) facts)

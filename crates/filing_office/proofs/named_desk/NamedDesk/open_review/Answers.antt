@@ -12,7 +12,7 @@ returns-clause-opens g c = λ seen had.
     let last = c.in_ok-review.review in
     let t : RunState = record { tally = c.self.inside.desk; seen = c.self.inside.reviewer; names = c.insert.new.self } in
     let before = ap (λ (u : NamedDeskState). u.state) c.self.view_is ∙ opened.2 in
-    subst (λ o. ReviewOpens c.args.self.now.state t c.args.told.now name seen o) (sym c.of_review.ensures) (
+    subst (λ o. ReviewOpens c.args.self.now.state t c.args.told.now name seen o) (sym c.review_outcome.ensures) (
       record { told_so = refl; session = refl; receipt = refl },
       last,
       opened.0,

@@ -1,5 +1,5 @@
 use Rattle.std.proofs.Common.{◌+◌, ◌∙◌, ℕ, length, ap}
-use Rattle.filing_version.specs.Filed.{StampedReports, repository_in}
+use Rattle.filing_version.specs.StampedReports.{StampedReports, repository_in}
 use Rattle.filing_publish.specs.Lists.{Listed}
 use Rattle.filing_publish.proofs.Chains.{chained, counted, last_count}
 use Rattle.filing_publish.proofs.edition.Edition.number.Goals as goal

@@ -1,6 +1,6 @@
 use Rattle.std.proofs.Common.{◌∙◌, ap}
 use Rattle.filing_model.specs.Histories.Stamps.{Version}
-use Rattle.filing_version.specs.Filed.{repository_in}
+use Rattle.filing_version.specs.StampedReports.{repository_in}
 use Rattle.filing_publish.proofs.Chains.{begun}
 use Rattle.filing_publish.proofs.publisher.Publisher.open.Goals as goal
 

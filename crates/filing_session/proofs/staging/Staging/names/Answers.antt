@@ -3,7 +3,7 @@ use Rattle.std.specs.Arc.{arc_value}
 use Rattle.filing_model.specs.Oim.Reports.{Report}
 use Rattle.filing_model.specs.Sessions.Repository.{Repository, report_at}
 use Rattle.filing_model.specs.Sessions.Changes.{Change}
-use Rattle.filing_version.specs.Filed.{StampedReports, repository_in}
+use Rattle.filing_version.specs.StampedReports.{StampedReports, repository_in}
 use Rattle.filing_session.proofs.PendingChanges.{names_laid}
 use Rattle.filing_session.proofs.staging.Staging.names.Goals as goal
 

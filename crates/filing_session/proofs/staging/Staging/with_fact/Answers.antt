@@ -2,7 +2,7 @@ use Rattle.std.proofs.Common.{◌≡◌, ◌∙◌, ap, sym, option_map, unwrap_
 use Rattle.std.specs.Arc.{arc_value}
 use Rattle.filing_model.specs.Sessions.Repository.{Repository, with_fact_at}
 use Rattle.filing_model.specs.Sessions.Changes.{Change, with_change, laid_over}
-use Rattle.filing_version.specs.Filed.{repository_in}
+use Rattle.filing_version.specs.StampedReports.{repository_in}
 use Rattle.filing_session.proofs.PendingChanges.{made_of_both, put_laid, put_both, of_either}
 use Rattle.filing_session.proofs.staging.Staging.with_fact.Goals as goal
 use Rattle.filing_session.proofs.staging.Staging.with_fact.Goals.{in-None, in-Some+in_ok-share-in-Some+in_ok-with_record-in-Some}

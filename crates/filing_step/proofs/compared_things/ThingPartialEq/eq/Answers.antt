@@ -13,4 +13,4 @@ same_tests false false to back = refl
 pub returns : goal.returns
 returns c =
     let tells = thing_decides (thing_of c.args.self.now) (thing_of c.args.other.now) in
-    same_tests c.is_thing.result _ (λ h. tells.1 (c.is_thing.ensures.0 h)) (λ h. c.is_thing.ensures.1 (tells.0 h))
+    same_tests c.are_same_things.result _ (λ h. tells.1 (c.are_same_things.ensures.0 h)) (λ h. c.are_same_things.ensures.1 (tells.0 h))

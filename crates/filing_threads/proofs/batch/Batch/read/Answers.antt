@@ -9,7 +9,8 @@ pub loop-init : goal.loop-init
 loop-init c =
     let table = arc_value c.args.table.now in
     let adds : AddsLine c.args.journaled table c.in-Some.line.now c.new-batch.result c.judge.new.self =
-    subst (λ (b : Bool). Judges c.args.journaled table c.in-Some.line.now c.new-batch.result c.judge.new.self b) c.if-not-branch.false c.in_ok-judge.ensures in (
+    subst (λ (b : Bool). Judges c.args.journaled table c.in-Some.line.now c.new-batch.result c.judge.new.self b) c.if-not-branch.false
+    c.in_ok-judge.ensures in (
       first_line c.args.journaled table c.args.text.now c.in-Some.line.now c.in-Some.others.now c.new-batch.result c.judge.new.self
           c.new-batch.ensures.told c.new-batch.ensures.steps c.new-batch.ensures.none_deep c.in-Some.ensures.lines c.in-Some.ensures.shorter adds,
       adds.same_end ∙ c.new-batch.ensures.none_deep,
@@ -18,7 +19,8 @@ loop-init c =
 pub returns-then-not-branch : goal.returns-then-not-branch
 returns-then-not-branch c =
     let table = arc_value c.args.table.now in
-    let deep = subst (λ (b : Bool). Judges c.args.journaled table c.in-Some.line.now c.new-batch.result c.judge.new.self b) c.if-not-branch.true c.in_ok-judge.ensures in
+    let deep = subst (λ (b : Bool). Judges c.args.journaled table c.in-Some.line.now c.new-batch.result c.judge.new.self b) c.if-not-branch.true
+    c.in_ok-judge.ensures in
     none_before c.args.journaled table c.args.text.now c.in-Some.line.now (spoken (lines_of c.in-Some.others.now)) c.new-batch.result c.judge.new.self
     c.new-batch.ensures.told c.new-batch.ensures.steps c.in-Some.ensures.lines deep.0 deep.1
 
@@ -27,7 +29,8 @@ returns-then-not-branch-2 c =
     let table = arc_value c.args.table.now in
     let line = c.in-Some-next_line.line.now in
     let others = c.in-Some-next_line.others.now in
-    let deep = subst (λ (b : Bool). Judges c.args.journaled table line c.loop.batch c.judge-in-loop.new.self b) c.if-not-branch-2.true c.in_ok-judge-2.ensures in
+    let deep = subst (λ (b : Bool). Judges c.args.journaled table line c.loop.batch c.judge-in-loop.new.self b) c.if-not-branch-2.true
+    c.in_ok-judge-2.ensures in
     ends_before c.args.journaled table c.args.text.now c.loop.rest.now line (spoken (lines_of others)) c.loop.batch c.judge-in-loop.new.self c.loop.invariant.0
     c.in-Some-next_line.ensures.lines deep.0 deep.1
 

@@ -3,7 +3,7 @@ use Rattle.std.specs.Arc.{arc_value}
 use Rattle.filing_model.specs.Oim.Reports.{Report}
 use Rattle.filing_model.specs.Common.TextMap.{from_entries}
 use Rattle.filing_model.proofs.Common.TextMaps.{from_entries-entries}
-use Rattle.filing_version.specs.Filed.{without_facts}
+use Rattle.filing_version.specs.StampedReports.{without_facts}
 use Rattle.filing_version.proofs.indexed_report.IndexedReport.of.Goals as goal
 
 pub invariant_of-result : goal.invariant_of-result

@@ -4,7 +4,7 @@ use Rattle.filing_model.specs.Sessions.Changes.{declaring_if}
 use Rattle.filing_model.specs.declared.duplicates.Allowed.{Allowed}
 use Rattle.filing_facts.specs.FactChanges.{fact_changes_of, stamped_by, with_changes}
 use Rattle.filing_stamps.specs.Stamps.{stamp_in}
-use Rattle.filing_version.specs.Filed.{StampedReport, filed_of, changed_filed, without_facts}
+use Rattle.filing_version.specs.StampedReports.{StampedReportValue, stamped_report_of, changed_stamped_report, without_facts}
 use Rattle.filing_version.proofs.StampedReports.{changed_front}
 use Rattle.filing_version.proofs.stamped_report.StampedReport.after.Goals as goal
 use Rattle.filing_version.proofs.stamped_report.StampedReport.after.Goals.{in-Some, in-None}
@@ -20,7 +20,8 @@ returns c =
     let facts : c.in_ok-facts.facts ≡ with_changes change.facts.entries inside.facts =
     c.in_ok-facts.ensures.facts ∙ (λ i. with_changes (c.facts.ensures i).entries (sym c.self.view_is i).report.facts) in
     let stamps : stamp_in c.in_ok-facts.stamps ≡ stamped_by (fact_changes_of change.facts.entries inside.facts) number (stamp_in inside.stamps) =
-    c.in_ok-facts.ensures.stamps ∙ (λ i. stamped_by (fact_changes_of (c.facts.ensures i).entries (sym c.self.view_is i).report.facts) number (stamp_in (sym c.self.view_is i).stamps)) in
+    c.in_ok-facts.ensures.stamps ∙ (λ i. stamped_by (fact_changes_of (c.facts.ensures i).entries (sym c.self.view_is i).report.facts) number
+    (stamp_in (sym c.self.view_is i).stamps)) in
     let declared : c.match-declared.declared ≡ stamped change.declared =
     elim c.match-declared.branch [
       | in-Some w ↦ w.declared-is ∙ ap stamped (sym w.in-Some.is ∙ c.declared.ensures)
@@ -32,4 +33,4 @@ returns c =
       declared = declared i;
       stamp = stamps i;
     })
-    ∙ ap (λ (f : StampedReport). changed_filed number change (filed_of f)) c.self.view_is
+    ∙ ap (λ (f : StampedReportValue). changed_stamped_report number change (stamped_report_of f)) c.self.view_is

@@ -7,7 +7,8 @@ use Rattle.filing_version.proofs.stamped_report.StampedReport.least_among.Given 
 -- the least so far, of which the cell of the fact before is part, and the facts still to come
 abbrev pub invariant-loop-put : goal.invariant-loop-put
 invariant-loop-put l =
-    WasLookedAt (is_disallowed l.self.report.allowed (facts_of l.self.report.facts.entries)) (option_map (λ d. d.now) l.before) (option_map (λ d. d.now) l.least)
+    WasLookedAt (is_disallowed l.self.report.allowed (facts_of l.self.report.facts.entries)) (option_map (λ d. d.now) l.before)
+    (option_map (λ d. d.now) l.least)
     × (fold lesser_dims (option_map (λ d. d.now) l.least)
     (filter (is_disallowed l.self.report.allowed (facts_of l.self.report.facts.entries)) (map (λ f. f.dims) (filter_map (λ e. e.1) l.put-iterator)))
     ≡ least_among (filter_map (λ e. e.1) l.puts.entries) l.self.report)

@@ -3,7 +3,7 @@ use Rattle.std.specs.Arc.{arc_value}
 use Rattle.filing_model.specs.Sessions.Changes.{declaring_if, changed}
 use Rattle.filing_facts.specs.FactChanges.{with_changes}
 use Rattle.filing_stamps.specs.Stamps.{stamp_in}
-use Rattle.filing_version.specs.Filed.{StampedReport, filed_of, without_facts}
+use Rattle.filing_version.specs.StampedReports.{StampedReportValue, stamped_report_of, without_facts}
 use Rattle.filing_version.proofs.StampedReports.{changed_front}
 use Rattle.filing_version.proofs.stamped_report.StampedReport.with_change.Goals as goal
 
@@ -23,4 +23,4 @@ returns c =
       declared = inside.declared;
       stamp = stamps i;
     })
-    ∙ ap (λ (f : StampedReport). record (filed_of f) { report = changed change f.report }) c.self.view_is
+    ∙ ap (λ (f : StampedReportValue). record (stamped_report_of f) { report = changed change f.report }) c.self.view_is

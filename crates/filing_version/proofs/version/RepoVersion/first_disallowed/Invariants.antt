@@ -1,6 +1,6 @@
 use Rattle.std.proofs.Common.{◌≡◌}
 use Rattle.filing_model.specs.Sessions.Changes.{find_map, first_disallowed}
-use Rattle.filing_version.specs.Filed.{repository_in}
+use Rattle.filing_version.specs.StampedReports.{repository_in}
 use Rattle.filing_version.proofs.StampedReports.{disallowed_at}
 use Rattle.filing_version.proofs.version.RepoVersion.first_disallowed.Given as goal
 

@@ -1,7 +1,7 @@
 use Rattle.std.proofs.Common.{◌≡◌, subst, [], ◌∷◌, List}
 use Rattle.filing_model.specs.Common.Text.{Text}
 use Rattle.filing_model.specs.Sessions.Changes.{ReportChange}
-use Rattle.filing_version.specs.Filed.{version_in}
+use Rattle.filing_version.specs.StampedReports.{version_in}
 use Rattle.filing_version.proofs.LaidInTurn.{LaysTheOthers, lays_next, lays_all}
 use Rattle.filing_version.proofs.version.RepoVersion.into_with_change.Goals as goal
 

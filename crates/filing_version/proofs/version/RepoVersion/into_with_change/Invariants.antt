@@ -1,4 +1,4 @@
-use Rattle.filing_version.specs.Filed.{version_in}
+use Rattle.filing_version.specs.StampedReports.{version_in}
 use Rattle.filing_version.proofs.LaidInTurn.{LaysTheOthers}
 use Rattle.filing_version.proofs.version.RepoVersion.into_with_change.Given as goal
 

@@ -1,6 +1,6 @@
 use Rattle.std.proofs.Common.{◌∙◌, ap}
 use Rattle.filing_model.specs.Sessions.Changes.{changed_at}
-use Rattle.filing_version.specs.Filed.{StampedReports, version_in, repository_in}
+use Rattle.filing_version.specs.StampedReports.{StampedReports, version_in, repository_in}
 use Rattle.filing_version.proofs.TakenReports.{version_in_place, up_to_in_place}
 use Rattle.filing_version.proofs.version.RepoVersion.into_with_part.Goals as goal
 

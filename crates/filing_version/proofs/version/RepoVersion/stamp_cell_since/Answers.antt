@@ -1,25 +1,9 @@
-use Rattle.std.proofs.Common.{◌∙◌, ap, sym, subst, max, List}
-use Rattle.filing_model.specs.Common.TextMap.{get}
-use Rattle.filing_model.specs.Sessions.Things as thing
+use Rattle.std.proofs.Common.{◌∙◌}
 use Rattle.filing_facts.specs.FactChanges.{Cell}
-use Rattle.filing_stamps.specs.Stamps.{Stamp, stamp_in as part_stamp}
-use Rattle.filing_version.specs.Filed.{StampedReports, IsStampedUpTo, mapped, filed_of}
-use Rattle.filing_version.proofs.StampedReports.{stamp_there, stamp_nowhere, none_since}
 use Rattle.filing_version.proofs.version.RepoVersion.stamp_cell_since.Goals as goal
 
 pub returns-in-Some : goal.returns-in-Some
-returns-in-Some c =
-    c.of_cell_since.ensures
-    ∙ ap (max c.args.since) (ap (λ (s : List Stamp). part_stamp s (Cell c.args.dims.now)) c.stamps.ensures
-    ∙ stamp_there c.args.self.now.reports (thing.Cell c.args.report.now c.args.dims.now) c.in-Some.filed.now
-    ((λ i. get (sym c.self.view_is i).reports c.args.report.now) ∙ sym c.in-Some.ensures))
+returns-in-Some c = c.of_cell_since.ensures ∙ c.in-Some.ensures (Cell c.args.dims.now)
 
 pub returns-in-None : goal.returns-in-None
-returns-in-None c =
-    ap (max c.args.since) (stamp_nowhere c.args.self.now.reports (thing.Cell c.args.report.now c.args.dims.now)
-    ((λ i. get (sym c.self.view_is i).reports c.args.report.now) ∙ sym c.in-None.ensures))
-
-pub returns-then-self-since : goal.returns-then-self-since
-returns-then-self-since c =
-    none_since c.self.inside.number c.args.since c.args.self.now (thing.Cell c.args.report.now c.args.dims.now)
-    (subst (λ (v : StampedReports). IsStampedUpTo c.self.inside.number (mapped filed_of v.reports)) c.self.view_is c.self.invariant) c.if-self-since.true
+returns-in-None c = c.in-None.ensures (Cell c.args.dims.now)

@@ -6,8 +6,8 @@ use Rattle.filing_version.proofs.version.RepoVersion.stamp_policy.Goals as goal
 
 pub returns-in-Some : goal.returns-in-Some
 returns-in-Some c =
-    c.declared.ensures
-    ∙ stamp_there c.args.self.now.reports (thing.Policy c.args.report.now) c.in-Some.filed.now
+    c.policy_stamp.ensures
+    ∙ stamp_there c.args.self.now.reports (thing.Policy c.args.report.now) c.in-Some.stamped.now
     ((λ i. get (sym c.self.view_is i).reports c.args.report.now) ∙ sym c.in-Some.ensures)
 
 pub returns-in-None : goal.returns-in-None

@@ -6,8 +6,8 @@ use Rattle.filing_version.proofs.version.RepoVersion.stamp_report.Goals as goal
 
 pub returns-in-Some : goal.returns-in-Some
 returns-in-Some c =
-    c.loaded.ensures
-    ∙ stamp_there c.args.self.now.reports (thing.Report c.args.name.now) c.in-Some.filed.now
+    c.load_stamp.ensures
+    ∙ stamp_there c.args.self.now.reports (thing.Report c.args.name.now) c.in-Some.stamped.now
     ((λ i. get (sym c.self.view_is i).reports c.args.name.now) ∙ sym c.in-Some.ensures)
 
 pub returns-in-None : goal.returns-in-None

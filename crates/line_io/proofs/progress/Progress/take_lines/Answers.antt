@@ -9,7 +9,8 @@ loop-line-init g c = taken_none g.D.Mode.conduct g.met.D.Mode.keeps_on _ _ _ _
 
 pub loop-line-preserved : goal.loop-line-preserved
 loop-line-preserved g c =
-    taken_more g.D.Mode.conduct g.met.D.Mode.keeps_on _ _ c.loop-line.invariant c.in-Some.ensures c.in_ok-end_line.ensures.takes c.in_ok-end_line.ensures.begun c.in_ok-end_line.ensures.lines
+    taken_more g.D.Mode.conduct g.met.D.Mode.keeps_on _ _ c.loop-line.invariant c.in-Some.ensures c.in_ok-end_line.ensures.takes
+    c.in_ok-end_line.ensures.begun c.in_ok-end_line.ensures.lines
 
 pub returns-in_err-end_line-clause-takes : goal.returns-in_err-end_line-clause-takes
 returns-in_err-end_line-clause-takes g c =

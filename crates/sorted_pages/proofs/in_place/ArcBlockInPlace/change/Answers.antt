@@ -1,5 +1,5 @@
 use Rattle.std.proofs.Common.{◌≡◌, ◌∙◌, ◌<◌, ◌++◌, sym, refl, arith, length}
-use Rattle.sorted_pages.specs.Pages.{held}
+use Rattle.sorted_pages.specs.Pages.{of_block}
 use Rattle.sorted_pages.proofs.InPlace.{at_err, at_ok, changed_at_place, rises_there, set_again}
 use Rattle.sorted_pages.proofs.in_place.ArcBlockInPlace.change.Goals as goal
 
@@ -9,7 +9,7 @@ change_block-requires g c =
     let from = c.split_at_place.result.1.now in
     let parts : c.args.items.now.items ≡ before ++ from = sym c.deref.ensures.value ∙ c.split_at_place.ensures.parts in
     let in_items : length before < length c.args.items.now.items = omega (arith, c.in-Some.ensures.variant.0 refl, c.args.items.now.ok.0) in
-    rises_there g.E.PageEntry.order g.met.E.PageEntry.is_total (held g.T.Level.entries) c.args.items.now.items before from c.in-Some.block.now
+    rises_there g.E.PageEntry.order g.met.E.PageEntry.is_total (of_block g.T.Level.entries) c.args.items.now.items before from c.in-Some.block.now
     c.requires parts in_items c.in-Some.ensures.value
 
 pub returns-clause-entries : goal.returns-clause-entries
@@ -18,7 +18,7 @@ returns-clause-entries g c =
     let from = c.split_at_place.result.1.now in
     let parts : c.args.items.now.items ≡ before ++ from = sym c.deref.ensures.value ∙ c.split_at_place.ensures.parts in
     let in_items : length before < length c.args.items.now.items = omega (arith, c.in-Some.ensures.variant.0 refl, c.args.items.now.ok.0) in
-    changed_at_place g.E.PageEntry.order g.met.E.PageEntry.is_total (held g.T.Level.entries) c.args.change.now c.entry.result.now
+    changed_at_place g.E.PageEntry.order g.met.E.PageEntry.is_total (of_block g.T.Level.entries) c.args.change.now c.entry.result.now
     c.args.items.now.items before from c.in-Some.block.now c.change_block.new.block c.change_block.result c.entry.ensures parts in_items
     c.in-Some.ensures.value c.split_at_place.ensures.before c.split_at_place.ensures.after c.change_block.ensures.entries
 

@@ -1,6 +1,6 @@
 use Rattle.std.proofs.Common.{◌≡◌, ◌<◌, sym, subst, arith, length, true-eqb, false-eqb}
 use Rattle.std.specs.List.{flat_map}
-use Rattle.sorted_pages.specs.Pages.{of_section, single}
+use Rattle.sorted_pages.specs.Pages.{of_section, singleton}
 use Rattle.sorted_pages.specs.Sorted.{IsRising}
 use Rattle.sorted_pages.proofs.Shorts.{rises_long, rises_short}
 use Rattle.sorted_pages.proofs.paged.Paged.after.Goals as goal
@@ -8,7 +8,7 @@ use Rattle.sorted_pages.proofs.paged.Paged.after.Goals as goal
 pub short_after-requires-clause-entries : goal.short_after-requires-clause-entries
 short_after-requires-clause-entries g c =
     let none : length c.self.inside.sections.items ≡ 0 = omega (arith, true-eqb _ 0 c.if-is_empty.ensures, c.self.inside.sections.ok.0) in
-    subst (λ es. IsRising g.E.PageEntry.order (flat_map single es)) (sym c.deref.ensures.value)
+    subst (λ es. IsRising g.E.PageEntry.order (flat_map singleton es)) (sym c.deref.ensures.value)
     (rises_short g.E.PageEntry.order c.self.inside.entries.items c.self.inside.sections.items c.self.invariant none)
 
 pub long_after-requires-clause-entries : goal.long_after-requires-clause-entries

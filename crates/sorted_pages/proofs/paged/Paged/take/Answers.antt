@@ -46,8 +46,8 @@ how g c =
           ∙ taken g.E.PageEntry.order g.met.E.PageEntry.is_total x c.self.inside.entries.items before (drop 1 from) whole rises;
     }
 
-pub short-requires-clause-rises : goal.short-requires-clause-rises
-short-requires-clause-rises g c =
+pub of_entries-requires-clause-rises : goal.of_entries-requires-clause-rises
+of_entries-requires-clause-rises g c =
     subst (IsRising g.E.PageEntry.order) (sym (singles c.taken_at-entries.result.0.items ∙ (how g c).left))
     (rising-with_changes g.E.PageEntry.order g.met.E.PageEntry.is_total (Remove c.taken_at-entries.result.1 ∷ []) c.self.inside.entries.items (how g c).rises)
 
@@ -55,12 +55,14 @@ pub returns-clause-some : goal.returns-clause-some
 returns-clause-some g c =
     let t = how g c.before.before in
     let same : c.self.inside.entries.items ≡ c.args.self =
-    sym (singles c.self.inside.entries.items) ∙ sym (of_short g.E.PageEntry.order c.self.inside.entries.items c.self.inside.sections.items t.none) ∙ c.self.view_is in (
+    sym (singles c.self.inside.entries.items)
+    ∙ sym (of_short g.E.PageEntry.order c.self.inside.entries.items c.self.inside.sections.items t.none) ∙ c.self.view_is in (
       first_there g.E.PageEntry.order g.met.E.PageEntry.is_total (g.S.Span.side c.args.span.now) (g.met.S.Span.is_monotone c.args.span.now)
           c.taken_at-entries.result.1 c.self.inside.entries.items c.split_at_edge.result.0.now (drop 1 c.split_at_edge.result.1.now) t.whole t.rises
           c.split_at_edge.ensures.front
           (with_passes (λ e. is_eq (g.S.Span.side c.args.span.now e)) c.split_at_edge.result.1.now (drop 1 c.split_at_edge.result.1.now)
           c.taken_at-entries.result.1 t.head t.passes)
           ∙ ap (first_within (g.S.Span.side c.args.span.now)) same,
-      c.short.ensures ∙ singles c.taken_at-entries.result.0.items ∙ t.left ∙ ap (with_change g.E.PageEntry.order (Remove c.taken_at-entries.result.1)) same,
+      c.of_entries.ensures ∙ singles c.taken_at-entries.result.0.items ∙ t.left
+          ∙ ap (with_change g.E.PageEntry.order (Remove c.taken_at-entries.result.1)) same,
     )

@@ -1,5 +1,0 @@
--- The counts of the writer are shares of the ledger that its blank becomes.
-use Rattle.filing.proofs.commands.inspect.inspected.Given as goal
-
-abbrev pub ghosts-written : goal.ghosts-written
-ghosts-written g a = record { name = a.blank.name; parts = a.blank.parts }

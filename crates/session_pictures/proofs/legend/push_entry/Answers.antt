@@ -1,5 +1,0 @@
-use Rattle.std.proofs.Common.{append_assoc}
-use Rattle.session_pictures.proofs.legend.push_entry.Goals as goal
-
-pub returns : goal.returns
-returns c = simp append_assoc (simp (c.in_ok-push_str.ensures.bytes, c.in_ok-push_group.ensures, append_assoc) at c.push_meaning.ensures)
