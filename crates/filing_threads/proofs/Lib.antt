@@ -2,8 +2,8 @@
 mod ToldReplies
 mod WrittenReplies
 -- ---- scripts, batch by batch
-mod JudgedScripts
-mod JudgedBatches
+mod ClassifiedLines
+mod ClassifiedBatches
 mod UnderWay
 mod ScriptTasks
 -- ---- offices that begin with a history

@@ -21,7 +21,7 @@ use Rattle.filing_threads.specs.Telling.{replies_of}
 use Rattle.filing_threads.specs.ScriptRuns.{EndsSo}
 use Rattle.filing_threads.specs.FoundHistories.{IsScriptRunTo}
 use Rattle.filing_threads.specs.UnderWay.{IsUnderWay, TakesBatch, KeptBy}
-use Rattle.filing_threads.proofs.JudgedScripts.{judged_further, all_used, none_starved, replies_further, told_further, used_told, used_further}
+use Rattle.filing_threads.proofs.ClassifiedLines.{lines_further, all_used, none_starved, replies_further, told_further, used_told, used_further}
 use Rattle.filing_threads.proofs.ToldReplies.{lines_of_none}
 
 pub begins : (J : Type 0) (journaled : Bool) (table : Table) (script : Text) (start : RunState)
@@ -31,7 +31,7 @@ begins J journaled table script start = record {
   parts = refl;
   told = [];
   steps = [];
-  judged = (refl, refl);
+  classified = (refl, refl);
   outcomes = [];
   gone = [];
   are = refl;
@@ -123,12 +123,12 @@ module _ {J : Type 0} (journaled : Bool) (table : Table) (script rest : Text) (s
           parts = parts_further;
           told = way.told ++ batch.told.items;
           steps = way.steps ++ batch.steps.items;
-          judged = judged_further journaled table way.lines read.lines way.told batch.told.items way.steps batch.steps.items way.judged read.judged;
+          classified = lines_further journaled table way.lines read.lines way.told batch.told.items way.steps batch.steps.items way.classified read.classified;
           outcomes = way.outcomes ++ takes.outcomes;
           gone = gone.more_gone;
           are = ap (λ os. os ++ takes.outcomes) way.are ∙ append_assoc way.gone kept takes.outcomes ∙ gone.are;
           used = used_further way.told batch.told.items way.outcomes takes.outcomes way.used
-              (all_used journaled table read.lines batch.told.items batch.steps.items now takes.mid kept takes.outcomes read.judged takes.runs
+              (all_used journaled table read.lines batch.told.items batch.steps.items now takes.mid kept takes.outcomes read.classified takes.runs
               (sym takes.whole_is));
           left = end;
           runs = runs;
@@ -151,7 +151,8 @@ module _ {J : Type 0} (journaled : Bool) (table : Table) (script rest : Text) (s
             parts = parts_further;
             told = way.told ++ batch.told.items;
             steps = way.steps ++ batch.steps.items;
-            judged = judged_further journaled table way.lines read.lines way.told batch.told.items way.steps batch.steps.items way.judged read.judged;
+            classified = lines_further journaled table way.lines read.lines way.told batch.told.items way.steps batch.steps.items
+                way.classified read.classified;
             outcomes = way.outcomes ++ takes.outcomes;
             left = end;
             runs = runs;
@@ -171,7 +172,7 @@ module _ {J : Type 0} (journaled : Bool) (table : Table) (script rest : Text) (s
       parts = way.parts;
       told = way.told;
       steps = way.steps;
-      judged = way.judged;
+      classified = way.classified;
       outcomes = way.outcomes;
       left = way.left;
       runs = way.runs;

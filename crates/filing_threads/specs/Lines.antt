@@ -37,14 +37,14 @@ pub record TakesStep (journaled : Bool) (table : Table) (line : Text) (step : De
   pub taken : is_left_out journaled (StepDue step.name step.step) ≡ false
 
 -- each of these lines is replied to at once so, or takes the next of these steps
-abbrev pub AreJudged : Bool → Table → List Text → List (Option (String Global)) → List DeskStep → Type 0
-AreJudged journaled table [] told steps = (told ≡ []) × (steps ≡ [])
-AreJudged journaled table (line ∷ lines) [] steps = ⊥
-AreJudged journaled table (line ∷ lines) (Some text ∷ told) steps =
-    IsToldAtOnce table line (string_bytes text) × AreJudged journaled table lines told steps
-AreJudged journaled table (line ∷ lines) (None ∷ told) [] = ⊥
-AreJudged journaled table (line ∷ lines) (None ∷ told) (step ∷ steps) =
-    TakesStep journaled table line step × AreJudged journaled table lines told steps
+abbrev pub AreClassified : Bool → Table → List Text → List (Option (String Global)) → List DeskStep → Type 0
+AreClassified journaled table [] told steps = (told ≡ []) × (steps ≡ [])
+AreClassified journaled table (line ∷ lines) [] steps = ⊥
+AreClassified journaled table (line ∷ lines) (Some text ∷ told) steps =
+    IsToldAtOnce table line (string_bytes text) × AreClassified journaled table lines told steps
+AreClassified journaled table (line ∷ lines) (None ∷ told) [] = ⊥
+AreClassified journaled table (line ∷ lines) (None ∷ told) (step ∷ steps) =
+    TakesStep journaled table line step × AreClassified journaled table lines told steps
 
 -- ---- lines that nest too deep for a journal
 

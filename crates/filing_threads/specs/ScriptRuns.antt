@@ -11,7 +11,7 @@ use Rattle.filing_office.specs.declared.work.DeskStep.{DeskStep}
 use Rattle.filing_threads.specs.declared.replies.Ending.{Ending}
 use Rattle.filing_threads.specs.declared.replies.Ending.TheVariants.{Whole, StepStarved, LineStarved, TooDeep}
 use Rattle.filing_threads.specs.declared.replies.Replies.{Replies}
-use Rattle.filing_threads.specs.Lines.{AreJudged, BeginsDeep}
+use Rattle.filing_threads.specs.Lines.{AreClassified, BeginsDeep}
 use Rattle.filing_threads.specs.Telling.{replies_of, all_told}
 
 -- how a run ended: each line of the script was classified and has its reply;
@@ -34,7 +34,7 @@ pub record IsScriptRun (J : Type 0) (journaled : Bool) (table : Table) (script :
   pub parts : spoken (lines_of script) ≡ lines ++ later
   pub told : List (Option (String Global))
   pub steps : List DeskStep
-  pub judged : AreJudged journaled table lines told steps
+  pub classified : AreClassified journaled table lines told steps
   pub outcomes : List (Outcome J)
   pub left : RunState
   pub runs : Runs start left [] steps outcomes

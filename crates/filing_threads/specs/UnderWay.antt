@@ -10,7 +10,7 @@ use Rattle.filing_office.specs.Runs.{RunState, Runs, Learns}
 use Rattle.filing_office.specs.declared.outcome.Outcome.{Outcome}
 use Rattle.filing_office.specs.declared.work.DeskStep.{DeskStep}
 use Rattle.filing_office.proofs.LearntBetween.{IsAhead}
-use Rattle.filing_threads.specs.Lines.{AreJudged}
+use Rattle.filing_threads.specs.Lines.{AreClassified}
 use Rattle.filing_threads.specs.Telling.{replies_of, all_told, AllUsed}
 
 -- outcomes are let go once their receipts are learnt; where memory was wanted for that, all are kept
@@ -39,7 +39,7 @@ pub record IsUnderWay {J : Type 0} (journaled : Bool) (table : Table) (script re
   pub parts : spoken (lines_of script) ≡ lines ++ spoken (lines_of rest)
   pub told : List (Option (String Global))
   pub steps : List DeskStep
-  pub judged : AreJudged journaled table lines told steps
+  pub classified : AreClassified journaled table lines told steps
   pub outcomes : List (Outcome J)
   pub gone : List (Outcome J)
   pub are : outcomes ≡ gone ++ kept

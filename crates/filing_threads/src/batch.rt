@@ -3,7 +3,7 @@
 ghost use Rattle.std.specs.Prelude.{◌≡◌, [], false, not, None, IfOk, MatchOption, OnOk};
 ghost use Rattle.std.specs.Arc.{arc_value};
 ghost use Rattle.line_io.specs.Lines.{lines_of, spoken};
-ghost use Rattle.filing_threads.specs.Batches.{AddsJudged, AreBatch, Judges};
+ghost use Rattle.filing_threads.specs.Batches.{AddsOutcome, AreBatch, Classifies};
 ghost use Rattle.filing_step.specs.Steps.{step_of};
 ghost use Rattle.history_format.specs.Nesting.{begins_shallow};
 ghost use Rattle.filing_threads.specs.Lines.{is_left_out};
@@ -76,10 +76,10 @@ impl Batch {
     }
 
     /// Adds what one more line comes to. Among threads an export is a bad line.
-    fn push(&mut self, alloc: Global, judged: LineOutcome) -> Result<(), AllocError>
-        ensures { OnOk result (AddsJudged judged self.old self.new) }
+    fn push(&mut self, alloc: Global, outcome: LineOutcome) -> Result<(), AllocError>
+        ensures { OnOk result (AddsOutcome outcome self.old self.new) }
     {
-        match judged {
+        match outcome {
             LineOutcome::ReplyNow(text) => Ok(self.told.push(Some(text))?),
             LineOutcome::Export(name) => {
                 drop(name);
@@ -95,7 +95,7 @@ impl Batch {
 
     /// Classifies one more line and adds it, unless it nests too deep for a journal that is kept.
     /// Returns whether it is added.
-    fn judge(
+    fn classify(
         &mut self,
         alloc: Global,
         line: &[u8],
@@ -103,15 +103,15 @@ impl Batch {
         journaled: bool,
         room: &mut Scratch,
     ) -> Result<bool, AllocError>
-        ensures { IfOk result (Judges journaled (arc_value table.now) line.now self.old self.new) }
+        ensures { IfOk result (Classifies journaled (arc_value table.now) line.now self.old self.new) }
     {
-        let judged = classify_line_in(alloc, line, table, room)?;
-        if is_left_out(alloc, journaled, &judged)? {
-            drop(judged);
+        let outcome = classify_line_in(alloc, line, table, room)?;
+        if is_left_out(alloc, journaled, &outcome)? {
+            drop(outcome);
             self.ends_deep = true;
             return Ok(false);
         }
-        self.push(alloc, judged)?;
+        self.push(alloc, outcome)?;
         Ok(true)
     }
 
@@ -134,7 +134,7 @@ impl Batch {
         };
         let mut batch = Batch::new(alloc);
         let mut room = Scratch::new(alloc);
-        if !batch.judge(alloc, line, table, journaled, &mut room)? {
+        if !batch.classify(alloc, line, table, journaled, &mut room)? {
             return Ok(Some((batch, text)));
         }
         let mut rest = others;
@@ -147,7 +147,7 @@ impl Batch {
             if bytes > MOST_BYTES {
                 break;
             }
-            if !batch.judge(alloc, line, table, journaled, &mut room)? {
+            if !batch.classify(alloc, line, table, journaled, &mut room)? {
                 return Ok(Some((batch, rest)));
             }
             rest = others;

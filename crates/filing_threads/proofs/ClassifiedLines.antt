@@ -11,25 +11,25 @@ use Rattle.filing_office.specs.declared.work.DeskStep.{DeskStep}
 use Rattle.filing_office.proofs.LearntBetween.{NoneStarved}
 use Rattle.script_format.specs.LineOutcomes.{IsLineOutcome}
 use Rattle.script_format.specs.declared.line_outcome.LineOutcome.{LineOutcome}
-use Rattle.script_format.specs.declared.line_outcome.LineOutcome.TheVariants as judged
-use Rattle.filing_threads.specs.Lines.{AreJudged, is_left_out}
+use Rattle.script_format.specs.declared.line_outcome.LineOutcome.TheVariants as outcome
+use Rattle.filing_threads.specs.Lines.{AreClassified, is_left_out}
 use Rattle.filing_threads.specs.declared.batch.Batch.{Batch}
-use Rattle.filing_threads.specs.Batches.{AddsJudged, AddsLine}
+use Rattle.filing_threads.specs.Batches.{AddsOutcome, AddsLine}
 use Rattle.filing_threads.specs.Telling.{replies_of, all_told, outcome_text, AllUsed}
 
 -- lines behind lines
-pub judged_further : (journaled : Bool) (table : Table) (lines more : List Text) (told others : List (Option (String Global))) (steps further : List DeskStep)
-    → AreJudged journaled table lines told steps → AreJudged journaled table more others further
-    → AreJudged journaled table (lines ++ more) (told ++ others) (steps ++ further)
-judged_further journaled table [] more told others steps further first second =
-    subst (λ t. AreJudged journaled table more (t ++ others) (steps ++ further)) (sym first.0)
-    (subst (λ s. AreJudged journaled table more others (s ++ further)) (sym first.1) second)
-judged_further journaled table (line ∷ lines) more [] others steps further first second = absurd first
-judged_further journaled table (line ∷ lines) more (Some text ∷ told) others steps further first second =
-    (first.0, judged_further journaled table lines more told others steps further first.1 second)
-judged_further journaled table (line ∷ lines) more (None ∷ told) others [] further first second = absurd first
-judged_further journaled table (line ∷ lines) more (None ∷ told) others (step ∷ steps) further first second =
-    (first.0, judged_further journaled table lines more told others steps further first.1 second)
+pub lines_further : (journaled : Bool) (table : Table) (lines more : List Text) (told others : List (Option (String Global))) (steps further : List DeskStep)
+    → AreClassified journaled table lines told steps → AreClassified journaled table more others further
+    → AreClassified journaled table (lines ++ more) (told ++ others) (steps ++ further)
+lines_further journaled table [] more told others steps further first second =
+    subst (λ t. AreClassified journaled table more (t ++ others) (steps ++ further)) (sym first.0)
+    (subst (λ s. AreClassified journaled table more others (s ++ further)) (sym first.1) second)
+lines_further journaled table (line ∷ lines) more [] others steps further first second = absurd first
+lines_further journaled table (line ∷ lines) more (Some text ∷ told) others steps further first second =
+    (first.0, lines_further journaled table lines more told others steps further first.1 second)
+lines_further journaled table (line ∷ lines) more (None ∷ told) others [] further first second = absurd first
+lines_further journaled table (line ∷ lines) more (None ∷ told) others (step ∷ steps) further first second =
+    (first.0, lines_further journaled table lines more told others steps further first.1 second)
 
 pub none_starved : {J : Type 0} (told : List (Option (String Global))) (os : List (Outcome J)) → AllUsed told os → NoneStarved os
 none_starved [] [] used = tt
@@ -49,20 +49,20 @@ told_answered NoMemory rest is = absurd (true≢false (sym is))
 -- where all lines of a run are told, no outcome is left
 pub all_used : {J : Type 0} (journaled : Bool) (table : Table) (lines : List Text) (told : List (Option (String Global))) (steps : List DeskStep)
     (s t : RunState) (before os : List (Outcome J))
-    → AreJudged journaled table lines told steps → Runs s t before steps os → all_told told os ≡ true → AllUsed told os
-all_used journaled table [] told steps s t before os judged runs all =
-    subst (λ told. AllUsed told os) (sym judged.0) (subst (λ steps. Runs s t before steps os) judged.1 runs).0
-all_used journaled table (line ∷ lines) [] steps s t before os judged runs all = absurd judged
-all_used journaled table (line ∷ lines) (Some text ∷ told) steps s t before os judged runs all =
-    all_used journaled table lines told steps s t before os judged.1 runs all
-all_used journaled table (line ∷ lines) (None ∷ told) [] s t before os judged runs all = absurd judged
-all_used journaled table (line ∷ lines) (None ∷ told) (step ∷ steps) s t before [] judged runs all = absurd runs
-all_used {J} journaled table (line ∷ lines) (None ∷ told) (step ∷ steps) s t before (o ∷ os) judged runs all =
+    → AreClassified journaled table lines told steps → Runs s t before steps os → all_told told os ≡ true → AllUsed told os
+all_used journaled table [] told steps s t before os classified runs all =
+    subst (λ told. AllUsed told os) (sym classified.0) (subst (λ steps. Runs s t before steps os) classified.1 runs).0
+all_used journaled table (line ∷ lines) [] steps s t before os classified runs all = absurd classified
+all_used journaled table (line ∷ lines) (Some text ∷ told) steps s t before os classified runs all =
+    all_used journaled table lines told steps s t before os classified.1 runs all
+all_used journaled table (line ∷ lines) (None ∷ told) [] s t before os classified runs all = absurd classified
+all_used journaled table (line ∷ lines) (None ∷ told) (step ∷ steps) s t before [] classified runs all = absurd runs
+all_used {J} journaled table (line ∷ lines) (None ∷ told) (step ∷ steps) s t before (o ∷ os) classified runs all =
     let (mid, goes, rest) = runs in
     let (answered, more) = told_answered o (all_told told os) all in
     let further : Runs mid t (before ++ o ∷ []) steps os =
     subst (λ b. cond b ((os ≡ []) × (t ≡ mid)) (Runs mid t (before ++ o ∷ []) steps os)) answered rest in
-    (answered, all_used journaled table lines told steps mid t (before ++ o ∷ []) os judged.1 further more)
+    (answered, all_used journaled table lines told steps mid t (before ++ o ∷ []) os classified.1 further more)
 
 -- replies behind replies
 text_of_answered : {J : Type 0} (o : Outcome J) → is_no_memory o ≡ false → (text : Text) × (outcome_text o ≡ Some text)
@@ -109,29 +109,29 @@ used_further (None ∷ told) others (o ∷ os) ps used more = (used.0, used_furt
 -- a line that was classified so, and is not left out, is one more line
 pub adds_line : (journaled : Bool) (table : Table) (line : Text) (j : LineOutcome) (old new : Batch) → IsLineOutcome table line j
     → is_left_out journaled j ≡ false
-    → AddsJudged j old new → AddsLine journaled table line old new
-adds_line journaled table line (judged.ReplyNow text) old new is taken adds = record {
+    → AddsOutcome j old new → AddsLine journaled table line old new
+adds_line journaled table line (outcome.ReplyNow text) old new is taken adds = record {
   told = Some text ∷ [];
   steps = [];
   told_are = adds.0.0;
   steps_are = adds.0.1 ∙ sym (append-nil old.steps.items);
-  judged = ((judged.ReplyNow text, is, refl), (refl, refl));
+  classified = ((outcome.ReplyNow text, is, refl), (refl, refl));
   same_end = adds.1;
 }
-adds_line journaled table line (judged.Export name) old new is taken adds =
+adds_line journaled table line (outcome.Export name) old new is taken adds =
     let (text, bad, told, steps) = adds.0 in record {
       told = Some text ∷ [];
       steps = [];
       told_are = told;
       steps_are = steps ∙ sym (append-nil old.steps.items);
-      judged = ((judged.Export name, is, ap Some (sym bad)), (refl, refl));
+      classified = ((outcome.Export name, is, ap Some (sym bad)), (refl, refl));
       same_end = adds.1;
     }
-adds_line journaled table line (judged.StepDue name step) old new is taken adds = record {
+adds_line journaled table line (outcome.StepDue name step) old new is taken adds = record {
   told = None ∷ [];
   steps = record { name = name; step = step } ∷ [];
   told_are = adds.0.0;
   steps_are = adds.0.1;
-  judged = (record { outcome = is; taken = taken }, (refl, refl));
+  classified = (record { outcome = is; taken = taken }, (refl, refl));
   same_end = adds.1;
 }

@@ -5,18 +5,18 @@ use Rattle.filing_model.specs.Common.Text.{Text}
 use Rattle.filing_model.specs.Oim.Facts.{Table}
 use Rattle.filing_office.specs.declared.work.DeskStep.{DeskStep}
 use Rattle.line_io.specs.Lines.{lines_of, spoken}
-use Rattle.filing_threads.specs.Lines.{AreJudged, BeginsDeep, IsDeepLine}
+use Rattle.filing_threads.specs.Lines.{AreClassified, BeginsDeep, IsDeepLine}
 use Rattle.filing_threads.specs.declared.batch.Batch.{Batch}
 use Rattle.filing_threads.specs.Batches.{AddsLine, AreBatch}
-use Rattle.filing_threads.proofs.JudgedScripts.{judged_further}
+use Rattle.filing_threads.proofs.ClassifiedLines.{lines_further}
 
 -- one line comes to one reply at once, or to one step
 one_told : (journaled : Bool) (table : Table) (line : Text) (told : List (Option (String Global))) (steps : List DeskStep)
-    → AreJudged journaled table (line ∷ []) told steps → length told ≡ 1
-one_told journaled table line [] steps judged = absurd judged
-one_told journaled table line (Some text ∷ told) steps judged = omega (arith, ap length judged.1.0)
-one_told journaled table line (None ∷ told) [] judged = absurd judged
-one_told journaled table line (None ∷ told) (step ∷ steps) judged = omega (arith, ap length judged.1.0)
+    → AreClassified journaled table (line ∷ []) told steps → length told ≡ 1
+one_told journaled table line [] steps classified = absurd classified
+one_told journaled table line (Some text ∷ told) steps classified = omega (arith, ap length classified.1.0)
+one_told journaled table line (None ∷ told) [] classified = absurd classified
+one_told journaled table line (None ∷ told) (step ∷ steps) classified = omega (arith, ap length classified.1.0)
 
 -- lines are to come behind one that was added
 goes_on : (journaled : Bool) (table : Table) (text rest : Text) (old new : Batch) → old.ends_deep ≡ false → new.ends_deep ≡ old.ends_deep
@@ -32,10 +32,11 @@ first_line journaled table text line others old new none_told no_steps none_deep
     let told : new.told.items ≡ adds.told = adds.told_are ∙ ap (λ xs. xs ++ adds.told) none_told in record {
       lines = line ∷ [];
       parts = is;
-      judged =
-          subst (λ told. AreJudged journaled table (line ∷ []) told new.steps.items) (sym told)
-          (subst (λ steps. AreJudged journaled table (line ∷ []) adds.told steps) (sym (adds.steps_are ∙ ap (λ xs. xs ++ adds.steps) no_steps)) adds.judged);
-      fewer = omega (arith, less, ap length told, one_told journaled table line adds.told adds.steps adds.judged);
+      classified =
+          subst (λ told. AreClassified journaled table (line ∷ []) told new.steps.items) (sym told)
+          (subst (λ steps. AreClassified journaled table (line ∷ []) adds.told steps) (sym (adds.steps_are ∙ ap (λ xs. xs ++ adds.steps) no_steps))
+          adds.classified);
+      fewer = omega (arith, less, ap length told, one_told journaled table line adds.told adds.steps adds.classified);
       ends = goes_on journaled table text others old new none_deep adds.same_end less;
     }
 
@@ -47,10 +48,10 @@ pub next_line : (journaled : Bool) (table : Table) (text rest line others : Text
 next_line journaled table text rest line others old new are none_deep is less adds = record {
   lines = are.lines ++ line ∷ [];
   parts = are.parts ∙ ap (λ ls. are.lines ++ ls) is ∙ sym (append_assoc are.lines (line ∷ []) (spoken (lines_of others)));
-  judged =
-      subst (λ told. AreJudged journaled table (are.lines ++ line ∷ []) told new.steps.items) (sym adds.told_are)
-      (subst (λ steps. AreJudged journaled table (are.lines ++ line ∷ []) (old.told.items ++ adds.told) steps) (sym adds.steps_are)
-      (judged_further journaled table are.lines (line ∷ []) old.told.items adds.told old.steps.items adds.steps are.judged adds.judged));
+  classified =
+      subst (λ told. AreClassified journaled table (are.lines ++ line ∷ []) told new.steps.items) (sym adds.told_are)
+      (subst (λ steps. AreClassified journaled table (are.lines ++ line ∷ []) (old.told.items ++ adds.told) steps) (sym adds.steps_are)
+      (lines_further journaled table are.lines (line ∷ []) old.told.items adds.told old.steps.items adds.steps are.classified adds.classified));
   fewer = omega (
     arith,
     are.fewer,
@@ -58,7 +59,7 @@ next_line journaled table text rest line others old new are none_deep is less ad
     ap length adds.told_are,
     length-append old.told.items adds.told,
     one_told journaled table line adds.told
-        adds.steps adds.judged,
+        adds.steps adds.classified,
   );
   ends = goes_on journaled table text others old new none_deep adds.same_end (omega (arith, are.fewer, less));
 }
@@ -75,7 +76,7 @@ none_before journaled table text line others old new none_told no_steps is deep 
     subst (λ (b : Batch). AreBatch journaled table text text b) (sym same) (record {
       lines = [];
       parts = refl;
-      judged = (none_told, no_steps);
+      classified = (none_told, no_steps);
       fewer = omega (arith, ap length none_told);
       ends = begins_deep journaled table text line others is deep;
     })
@@ -86,7 +87,7 @@ ends_before journaled table text rest line others old new are is deep same =
     subst (λ (b : Batch). AreBatch journaled table text rest b) (sym same) (record {
       lines = are.lines;
       parts = are.parts;
-      judged = are.judged;
+      classified = are.classified;
       fewer = are.fewer;
       ends = begins_deep journaled table rest line others is deep;
     })
