@@ -5,7 +5,7 @@
 //! office. `crowd` lets desks take the steps of `rounds` in threads, and compares what `entered` says they were answered with the
 //! history; at a `meeting` they wait for one another. `places` makes something of each value at its place.
 
-ghost use Rattle.std.specs.Prelude.{◌<◌, ◌≤◌};
+ghost use Rattle.filing_office.specs.Sizes.{FitsOffice};
 
 mod acts;
 mod crowd;
@@ -71,7 +71,7 @@ fn run_crowd<R: Threads + Wait + Sync + Print + AllocGlobal>(
     desks: usize,
     way: Way,
 ) -> Result<()>
-    requires { (0 < desks) × (desks ≤ 16) }
+    requires { FitsOffice desks }
 {
     take_steps::<Brand, Brand, _>(rt, desks, Blanks::of(desks), way)
 }

@@ -1,6 +1,7 @@
 //! The stored scripts, each run in a thread.
 
-ghost use Rattle.std.specs.Prelude.{◌≤◌, ◌<◌, length};
+ghost use Rattle.std.specs.Prelude.{length};
+ghost use Rattle.filing_office.specs.Sizes.{FitsOffice};
 
 use crate::lines::{ends_in, is_end, read_data, read_numeric, read_text};
 use anyhow::Result;
@@ -24,8 +25,7 @@ fn written_in_threads<R: AllocGlobal + Threads + Wait + Sync>(
     table: &Arc<NumericTable>,
     scripts: &[Vec<u8>],
 ) -> Result<Vec<u8>>
-    requires some { 0 < length scripts.now }
-    requires few { length scripts.now ≤ 16 }
+    requires fit { FitsOffice (length scripts.now) }
 {
     let mut sink = MemoryOut::new(rt.alloc(), ROOM, PIECE)?;
     run_threads(rt, rt.alloc(), scripts, &mut sink, table)?;

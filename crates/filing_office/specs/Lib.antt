@@ -4,3 +4,4 @@ pub mod Tallies
 pub mod Runs
 pub mod Rans
 pub mod Ends
+pub mod Sizes

@@ -1,6 +1,7 @@
 //! What holds of an office before its first step.
 
-ghost use Rattle.std.specs.Prelude.{◌≡◌, ◌<◌, ◌≤◌, [], IfOk};
+ghost use Rattle.std.specs.Prelude.{◌≡◌, [], IfOk};
+ghost use Rattle.filing_office.specs.Sizes.{FitsOffice};
 
 use crate::blanks::Blanks;
 use crate::fault::FinishFault;
@@ -21,8 +22,8 @@ pub fn opened_and_finished<L: Ledger + Naming, M: Ledger, R: Wait>(
     blanks: Blanks,
 ) -> Result<Core, OfficeFault>
     requires book { blanks.unopened_log.seen.book ≡ L.book }
-    requires some_desks { (0 < desks) × (desks ≤ 16) }
-    requires some_reviewers { (0 < reviewers) × (reviewers ≤ 16) }
+    requires desks_fit { FitsOffice desks }
+    requires reviewers_fit { FitsOffice reviewers }
     requires steps { (blanks.steps.name ≡ L.name) × (blanks.steps.parts ≡ L.parts) × (blanks.steps.parts ≡ desks) }
     requires receipts { (blanks.receipts.name ≡ M.name) × (blanks.receipts.parts ≡ M.parts)
         × (blanks.receipts.parts ≡ desks) }

@@ -51,7 +51,7 @@ pub use filing_core::{Core, CoreFault, HashKeys};
 pub use filing_publish::{Naming, OfficeFault, Receipt, Review, Reviewer, UnopenedLog};
 pub use law::opened_and_finished;
 pub use named_desk::NamedDesk;
-pub use office::Office;
+pub use office::{MOST_DESKS, Office};
 pub use outcome::Outcome;
 pub use run::run_desks;
 pub use shared::{Shared, apply_in};

@@ -1,8 +1,9 @@
 //! `Office`: a repository that many threads use.
 
-ghost use Rattle.std.specs.Prelude.{◌≡◌, ◌≢◌, ◌^◌, ◌<◌, ◌≤◌, [], ◌∷◌, length, vec_len, All, sum, map, IfOk, OnOk, MatchResult};
+ghost use Rattle.std.specs.Prelude.{◌≡◌, ◌≢◌, [], ◌∷◌, length, vec_len, All, sum, map, IfOk, OnOk, MatchResult};
 ghost use Rattle.filing_model.specs.Sessions.Repository.{nothing};
 ghost use Rattle.filing_model.specs.Histories.History.{repository};
+ghost use Rattle.filing_office.specs.Sizes.{FitsOffice};
 ghost use Rattle.filing_office.specs.Tallies.{nothing_taken};
 
 use crate::blanks::Blanks;
@@ -16,6 +17,9 @@ use filing_publish::{Naming, OfficeFault, Reviewer};
 use std::alloc::{AllocError, Global};
 use std::sync::ledger::{Ledger, Share};
 use std::sync::{Mutex, Wait};
+
+/// The desks of an office at most, and its reviewers. Each has one or more.
+pub const MOST_DESKS: usize = 16;
 
 /// A repository that many threads use: desks take steps under its lock, and reviewers read what is published under none.
 /// It is not `Drop`: end it by `finish` or `give_up`.
@@ -39,8 +43,8 @@ impl<L: Ledger + Naming, M: Ledger> Office<L, M> {
         blanks: Blanks,
     ) -> Result<(Office<L, M>, Vec<Desk<L, M>>, Vec<Reviewer<L>>), OfficeFault>
         requires book { blanks.unopened_log.seen.book ≡ L.book }
-        requires some_desks { (0 < desks) × (desks ≤ 16) }
-        requires some_reviewers { (0 < reviewers) × (reviewers ≤ 16) }
+        requires desks_fit { FitsOffice desks }
+        requires reviewers_fit { FitsOffice reviewers }
         requires steps { (blanks.steps.name ≡ L.name) × (blanks.steps.parts ≡ L.parts) × (blanks.steps.parts ≡ desks) }
         requires receipts { (blanks.receipts.name ≡ M.name) × (blanks.receipts.parts ≡ M.parts)
             × (blanks.receipts.parts ≡ desks) }

@@ -1,8 +1,9 @@
 //! `run_threads`: scripts, each in a thread of its own, on a history that was found or on none.
 
-ghost use Rattle.std.specs.Prelude.{◌<◌, ◌≤◌, length, reverse, option_map};
+ghost use Rattle.std.specs.Prelude.{length, reverse, option_map};
 ghost use Rattle.std.specs.Arc.{arc_value};
 ghost use Rattle.filing_model.specs.Histories.Lawful.{IsLawful};
+ghost use Rattle.filing_office.specs.Sizes.{FitsOffice};
 ghost use Rattle.filing_threads.specs.FoundHistories.{ThreadsWrite, ThreadsWriteOn};
 
 use crate::fault::ThreadsFault;
@@ -44,8 +45,7 @@ pub fn run_threads_on_history<W: Sink, R: Threads + Wait + Sync, V: Watch>(
     table: &Arc<NumericTable>,
     watch: &V,
 ) -> ThreadsOnHistory
-    requires some { 0 < length scripts.now }
-    requires few { length scripts.now ≤ 16 }
+    requires fit { FitsOffice (length scripts.now) }
     requires lawful { IsLawful (reverse first.now) }
     ensures { ThreadsWriteOn Brand (arc_value table.now) scripts.now (reverse first.now)
         (option_map (λ c. c.history) result.core) result.ended (W.state output.old) (W.state output.new) }
@@ -66,7 +66,7 @@ pub fn run_threads_on_history<W: Sink, R: Threads + Wait + Sync, V: Watch>(
     }
 }
 
-/// Runs scripts, from 1 to 16, each in a thread of its own with a desk and a reviewer of one office,
+/// Runs scripts, each in a thread of its own with a desk and a reviewer of one office,
 /// and writes the replies of one script after the other.
 ///
 /// A script is answered as `run_script` answers one, but its reviews take no lock, names are its own,
@@ -82,8 +82,7 @@ pub fn run_threads<W: Sink, R: Threads + Wait + Sync>(
     output: &mut W,
     table: &Arc<NumericTable>,
 ) -> Result<(), ThreadsFault>
-    requires some { 0 < length scripts.now }
-    requires few { length scripts.now ≤ 16 }
+    requires fit { FitsOffice (length scripts.now) }
     ensures { ThreadsWrite Brand (arc_value table.now) scripts.now result (W.state output.old) (W.state output.new) }
 {
     let keys = HashKeys::Fixed;

@@ -1,6 +1,7 @@
 //! Desks that take steps in threads of their own, and whether the finished history has just these; and a reviewer who learns what they were given.
 
-ghost use Rattle.std.specs.Prelude.{◌≡◌, ◌<◌, ◌≤◌, ◌^◌};
+ghost use Rattle.std.specs.Prelude.{◌≡◌};
+ghost use Rattle.filing_office.specs.Sizes.{FitsOffice};
 
 use crate::offices::acts::line_step;
 use crate::offices::ends::{all_came, give_up};
@@ -232,7 +233,7 @@ pub(crate) fn take_steps<
     M: Ledger + Send + Sync,
     R: Threads + Wait + Sync + Print + AllocGlobal,
 >(rt: &R, desks: usize, blanks: Blanks, way: Way) -> Result<()>
-    requires some { (0 < desks) × (desks ≤ 16) }
+    requires fit { FitsOffice desks }
     requires book { blanks.unopened_log.seen.book ≡ L.book }
     requires steps { (blanks.steps.name ≡ L.name) × (blanks.steps.parts ≡ L.parts) × (blanks.steps.parts ≡ desks) }
     requires receipts { (blanks.receipts.name ≡ M.name) × (blanks.receipts.parts ≡ M.parts)
