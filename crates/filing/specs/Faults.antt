@@ -13,7 +13,8 @@ use Rattle.journal_file.specs.declared.fault.FileFault.TheVariants as file
 use Rattle.filing_args.specs.declared.fault.WordsFault.{WordsFault}
 use Rattle.filing_args.specs.declared.fault.WordsFault.TheVariants as words
 use Rattle.filing.specs.declared.fault.Fault.{Fault}
-use Rattle.filing.specs.declared.fault.Fault.TheVariants.{Words, TooManyScripts, Read, Write, TableLine, TableNotText, HistoryLine, JournalInUse, JournalLine, TooDeep, NoMemory}
+use Rattle.filing.specs.declared.fault.Fault.TheVariants.{Words, TooManyScripts, Read, Write, TableLine, TableNotText}
+use Rattle.filing.specs.declared.fault.Fault.TheVariants.{HistoryLine, JournalInUse, JournalLine, TooDeep, NoMemory}
 use Rattle.filing.specs.declared.files.misplaced.Misplaced.{Misplaced}
 use Rattle.filing.specs.declared.files.misplaced.Misplaced.TheVariants as misplaced
 

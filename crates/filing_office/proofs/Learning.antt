@@ -23,7 +23,8 @@ use Rattle.filing_step.specs.Steps.{call_in}
 use Rattle.filing_publish.specs.Lists.{EndsWith, IsLonger}
 use Rattle.filing_publish.proofs.Chains.{added}
 use Rattle.filing_office.specs.declared.outcome.Outcome.{Outcome}
-use Rattle.filing_office.specs.Runs.{RunState, NamedDeskState, HasLearnt, IsLearnt, IsWithin, IsReviewedFrom, Learns, Opens, OpensUnder, ReviewOpens, receipt_in, reply_of_review}
+use Rattle.filing_office.specs.Runs.{RunState, NamedDeskState, HasLearnt, IsLearnt, IsWithin, IsReviewedFrom, Learns}
+use Rattle.filing_office.specs.Runs.{Opens, OpensUnder, ReviewOpens, receipt_in, reply_of_review}
 
 pub prefix_length : {X : Type 0} (xs ys : List X) → IsPrefix xs ys → length xs ≤ length ys
 prefix_length xs ys p = omega (arith, ap length p.1, length-append xs p.0)

@@ -1,6 +1,7 @@
 -- A desk may take its steps some at a time, and let outcomes go once its reviewer has learnt their receipts.
 -- Its steps then become what they become where nothing is let go.
-use Rattle.std.proofs.Common.{◌≡◌, ◌∙◌, ap, sym, subst, refl, arith, ℕ, ◌+◌, ◌≤◌, cond, Bool, true, false, List, [], ◌∷◌, ◌++◌, length, append_assoc, append-nil, Option, Some, None, string_bytes}
+use Rattle.std.proofs.Common.{◌≡◌, ◌∙◌, ap, sym, subst, refl, arith, ℕ, ◌+◌, ◌≤◌, cond, Bool, true, false, List, [], ◌∷◌}
+use Rattle.std.proofs.Common.{◌++◌, length, append_assoc, append-nil, Option, Some, None, string_bytes}
 use Rattle.std.specs.Prelude.{All, Ok, Err}
 use Rattle.std.proofs.lemmas.List.Elements.{All-append}
 use mathlib.Core.List.{IsPrefix}
@@ -19,7 +20,8 @@ use Rattle.filing_office.specs.declared.session_place.SessionPlace.TheVariants a
 use Rattle.filing_office.specs.declared.work.DeskStep.{DeskStep}
 use Rattle.filing_office.specs.declared.answer.Answer.{Answer}
 use Rattle.filing_office.specs.Tallies.{IsCounted}
-use Rattle.filing_office.specs.Runs.{RunState, IsTaken, IsWithin, Loads, ReviewOpens, OfficeOpens, Opens, OpensUnder, GoesOnAt, StepsUnder, Goes, Runs, Learns, names_after, is_no_memory}
+use Rattle.filing_office.specs.Runs.{RunState, IsTaken, IsWithin, Loads, ReviewOpens, OfficeOpens, Opens, OpensUnder}
+use Rattle.filing_office.specs.Runs.{GoesOnAt, StepsUnder, Goes, Runs, Learns, names_after, is_no_memory}
 use Rattle.filing_office.proofs.Learning.{all_within_more, last_number, prefix_length}
 
 -- a reviewer has seen at least what it had, and then what else it has learnt
@@ -71,7 +73,8 @@ module _ {J : Type 0} (left now mid : RunState) (gone kept : List (Outcome J)) (
   same_ahead : mid ≡ now → IsAhead left mid gone
   same_ahead is = subst (λ s. IsAhead left s gone) (sym is) ahead
 
-  renamed_ahead : (names names' : TextMap SessionPlace) → names ≡ names' → mid ≡ record now { names = names } → IsAhead (record left { names = names' }) mid gone
+  renamed_ahead : (names names' : TextMap SessionPlace) → names ≡ names' → mid ≡ record now { names = names }
+      → IsAhead (record left { names = names' }) mid gone
   renamed_ahead names names' same is = record {
     tally = ap (λ (s : RunState). s.tally) is ∙ ahead.tally;
     names = ap (λ (s : RunState). s.names) is ∙ same;
@@ -256,7 +259,8 @@ abbrev pub NoneStarved : {J : Type 0} → List (Outcome J) → Type 0
 NoneStarved [] = Unit {0}
 NoneStarved (o ∷ os) = (is_no_memory o ≡ false) × NoneStarved os
 
-pub runs_further : {J : Type 0} (s mid t : RunState) (told : List (Outcome J)) (xs : List DeskStep) (os : List (Outcome J)) (ys : List DeskStep) (ps : List (Outcome J))
+pub runs_further : {J : Type 0} (s mid t : RunState) (told : List (Outcome J)) (xs : List DeskStep) (os : List (Outcome J))
+    (ys : List DeskStep) (ps : List (Outcome J))
     → NoneStarved os → Runs s mid told xs os → Runs mid t (told ++ os) ys ps → Runs s t told (xs ++ ys) (os ++ ps)
 runs_further s mid t told [] [] ys ps none first second =
     subst (λ u. Runs u t told ys ps) first.1 (subst (λ os. Runs mid t os ys ps) (append-nil told) second)

@@ -1,5 +1,6 @@
 -- What a desk that takes a list of steps in a thread of its own leaves. The project's own.
-use Rattle.std.specs.Prelude.{◌≡◌, ℕ, ◌+◌, ◌≤◌, List, [], ◌∷◌, ◌++◌, length, cond, Bool, true, false, Option, Some, None, IfSome, Result, Ok, Err, take, string_bytes}
+use Rattle.std.specs.Prelude.{◌≡◌, ℕ, ◌+◌, ◌≤◌, List, [], ◌∷◌, ◌++◌, length, cond, Bool, true, false, Option}
+use Rattle.std.specs.Prelude.{Some, None, IfSome, Result, Ok, Err, take, string_bytes}
 use Rattle.std.specs.List.{All}
 use mathlib.Core.List.{IsPrefix}
 use Rattle.filing_model.specs.Common.Text.{Text}

@@ -1,5 +1,6 @@
 -- The lines of a batch, classified.
-use Rattle.std.proofs.Common.{◌≡◌, ◌∙◌, ◌+◌, ◌<◌, ◌≤◌, ap, sym, subst, arith, refl, Bool, true, false, MatchBool, List, [], ◌∷◌, ◌++◌, append_assoc, length, length-append, Option, Some, None, String}
+use Rattle.std.proofs.Common.{◌≡◌, ◌∙◌, ◌+◌, ◌<◌, ◌≤◌, ap, sym, subst, arith, refl, Bool, true, false, MatchBool, List, []}
+use Rattle.std.proofs.Common.{◌∷◌, ◌++◌, append_assoc, length, length-append, Option, Some, None, String}
 use Rattle.std.specs.declared.alloc.Global.{Global}
 use Rattle.filing_model.specs.Common.Text.{Text}
 use Rattle.filing_model.specs.Oim.Facts.{Table}

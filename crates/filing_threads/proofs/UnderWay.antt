@@ -1,6 +1,7 @@
 -- A script, batch by batch.
 use Rattle.std.proofs.lemmas.List.{take_rest}
-use Rattle.std.proofs.Common.{ℕ, ◌+◌, ◌-◌, arith, length, length-append, take, drop, ◌≡◌, ◌∙◌, ap, sym, subst, refl, Bool, true, false, List, [], ◌∷◌, ◌++◌, append_assoc, append-nil, Result, Ok, Err, Option, string_bytes}
+use Rattle.std.proofs.Common.{ℕ, ◌+◌, ◌-◌, arith, length, length-append, take, drop, ◌≡◌, ◌∙◌, ap, sym, subst, refl, Bool, true, false}
+use Rattle.std.proofs.Common.{List, [], ◌∷◌, ◌++◌, append_assoc, append-nil, Result, Ok, Err, Option, string_bytes}
 use Rattle.std.specs.declared.alloc.AllocError.{AllocError}
 use Rattle.std.specs.Prelude.{OnOk, OnErr}
 use Rattle.filing_model.specs.Common.Text.{Text}

@@ -1,5 +1,6 @@
 -- What is told of the sessions of a history. All of it is the project's own.
-use Rattle.std.specs.Prelude.{◌≡◌, ◌⊎◌, ℕ, ◌+◌, ◌==◌, ◌&&◌, ◌++◌, cond, Bool, true, false, List, [], ◌∷◌, Option, Some, None, option_map, option_and_then, Result, Err, codes, decimal}
+use Rattle.std.specs.Prelude.{◌≡◌, ◌⊎◌, ℕ, ◌+◌, ◌==◌, ◌&&◌, ◌++◌, cond, Bool, true, false, List, [], ◌∷◌, Option, Some}
+use Rattle.std.specs.Prelude.{None, option_map, option_and_then, Result, Err, codes, decimal}
 use Rattle.std.specs.List.{filter_map, range_with_len}
 use Rattle.filing_model.specs.Common.Text.{Text}
 use Rattle.filing_model.specs.Sessions.Replies as reply

@@ -1,5 +1,6 @@
 -- Warnings: what loads but is probably a mistake. The project's own.
-use Rattle.std.specs.Prelude.{◌≡◌, Bool, IsTrue, true, false, ◌||◌, if◌then◌else◌, List, [], ◌∷◌, ◌++◌, map, Option, None, Some, option_map, string_bytes, codes}
+use Rattle.std.specs.Prelude.{◌≡◌, Bool, IsTrue, true, false, ◌||◌, if◌then◌else◌, List, [], ◌∷◌, ◌++◌, map}
+use Rattle.std.specs.Prelude.{Option, None, Some, option_map, string_bytes, codes}
 use Rattle.std.specs.List.{list_any, AllByRecursion}
 use Rattle.std.specs.List.Sorted.{IsStrictlySortedBy}
 use Rattle.std.specs.Option.{option_map_or}

@@ -1,5 +1,6 @@
 -- A difference that is laid over the one repository makes the other, in each report that both have.
-use Rattle.std.proofs.Common.{◌≡◌, ◌∙◌, ◌⊎◌, inl, inr, ap, sym, refl, Bool, true, false, cond, ◌&&◌, ◌||◌, List, [], ◌∷◌, ◌++◌, Option, Some, None, is_some, option_map, option_and_then, true≢false}
+use Rattle.std.proofs.Common.{◌≡◌, ◌∙◌, ◌⊎◌, inl, inr, ap, sym, refl, Bool, true, false, cond, ◌&&◌, ◌||◌, List, [], ◌∷◌}
+use Rattle.std.proofs.Common.{◌++◌, Option, Some, None, is_some, option_map, option_and_then, true≢false}
 use Rattle.std.specs.Prelude.{⊤}
 use Rattle.std.specs.List.{flat_map, list_any, AllByRecursion}
 use Rattle.std.specs.Option.{option_map_or}
@@ -19,7 +20,8 @@ use Rattle.filing_laws.specs.Histories.SameReplies.{allowed_eq, fact_eq}
 use Rattle.filing_laws.proofs.Histories.SameReplies.{reply_same}
 use Rattle.filing_laws.proofs.Lists.WithOneFact.{names_at, fact_at-with_fact_at, names_at-with_fact_at}
 use Rattle.filing_laws.proofs.Lists.WithOneValue.{value_at, value_at-with_fact_at, names_at-declaring_at, value_at-declaring_at, fact_at-declaring_at}
-use Rattle.version_differences.specs.Differences.{marked, Line, NewReport, NoReport, Declared, Added, Removed, Changed, fact_lines, declared_lines, report_lines, lines_at, keys_of_either, difference}
+use Rattle.version_differences.specs.Differences.{marked, Line, NewReport, NoReport, Declared, Added, Removed, Changed, fact_lines}
+use Rattle.version_differences.specs.Differences.{declared_lines, report_lines, lines_at, keys_of_either, difference}
 use Rattle.version_differences.specs.Laid.{with_line, with_lines, IsMadeTo, IsToldOf, EachDifferenceMakesTheOther}
 use Rattle.version_differences.proofs.KeysAlike.{in_neither}
 use Rattle.version_differences.proofs.ToldLines.{each_line_is_told_of_both}

@@ -7,4 +7,5 @@ pub returns-in-Some : goal.returns-in-Some
 returns-in-Some c =
     let call = c.in-Some.call in
     reply_so reply_of c.call.result _ _ c.call.ensures
-    (sym (reply_of_review_call c.args.review.now (step_of c.args.step) (call_of call) (ap (λ o. option_map call_of o) (sym c.in-Some.is) ∙ c.into_call.ensures)))
+    (sym (reply_of_review_call c.args.review.now (step_of c.args.step) (call_of call)
+    (ap (λ o. option_map call_of o) (sym c.in-Some.is) ∙ c.into_call.ensures)))

@@ -8,7 +8,8 @@ use Rattle.filing_threads.specs.Lines.{BeginsDeep}
 use Rattle.filing_threads.specs.UnderWay.{IsUnderWay, TakesBatch}
 use Rattle.filing_threads.proofs.UnderWay.{begins, goes_on, stops, ends_whole, ends_starved, ends_deep}
 use Rattle.filing_threads.proofs.script_task.take_lines.Goals as goal
-use Rattle.filing_threads.proofs.script_task.take_lines.Goals.{in_default, in-Ok+in_default-read, in-Ok+in-Some+in_ok-take_batch+then-not-branch, in-Ok+in-Some+in_ok-take_batch+else-not-branch+then-ends_deep}
+use Rattle.filing_threads.proofs.script_task.take_lines.Goals.{in_default, in-Ok+in_default-read, in-Ok+in-Some+in_ok-take_batch+then-not-branch}
+use Rattle.filing_threads.proofs.script_task.take_lines.Goals.{in-Ok+in-Some+in_ok-take_batch+else-not-branch+then-ends_deep}
 
 pub loop-read-init : goal.loop-read-init
 loop-read-init g c =
