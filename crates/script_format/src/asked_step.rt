@@ -76,7 +76,7 @@ fn cell_asked(alloc: Global, report: &str, dims: &Value) -> Result<Result<Step, 
     match dimensions(alloc, dims) {
         Ok(dims) => Ok(Ok(Step::Cell {
             report: String::from_str(alloc, report)?,
-            dims: dims.shared(alloc)?,
+            dims: dims.into_shared(alloc)?,
         })),
         Err(fault) => Ok(Err(bad_dims_reply(alloc, fault)?)),
     }
@@ -96,7 +96,7 @@ fn add_asked(
         Ok(fact) => Ok(Ok(Step::Add {
             report: String::from_str(alloc, report)?,
             id: String::from_str(alloc, id)?,
-            fact: fact.shared(alloc)?,
+            fact: fact.into_shared(alloc)?,
         })),
         Err(fault) => Ok(Err(bad_fact_reply(alloc, fault)?)),
     }
@@ -160,7 +160,7 @@ fn cell_from(alloc: Global, report: String, dims: Value) -> Result<Result<Step, 
     match dimensions_from(alloc, dims) {
         Ok(dims) => Ok(Ok(Step::Cell {
             report,
-            dims: dims.shared(alloc)?,
+            dims: dims.into_shared(alloc)?,
         })),
         Err(fault) => Ok(Err(bad_dims_reply(alloc, fault)?)),
     }
@@ -181,7 +181,7 @@ fn add_from(
         Ok(fact) => Ok(Ok(Step::Add {
             report,
             id,
-            fact: fact.shared(alloc)?,
+            fact: fact.into_shared(alloc)?,
         })),
         Err(fault) => Ok(Err(bad_fact_reply(alloc, fault)?)),
     }
