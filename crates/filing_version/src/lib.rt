@@ -27,7 +27,7 @@ mod same_facts;
 mod stamped_report;
 mod version;
 
-pub use change::{Change, ReadyDeclare, ReadyPut};
+pub use change::{Change, ReadyChange};
 pub use fact_entries::FactEntries;
 pub use filing_facts::{KeyCache, PeriodFilterRef};
 pub use filing_index::Ids;

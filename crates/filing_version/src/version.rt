@@ -1,5 +1,5 @@
 //! `RepoVersion`: one unchanging state of the repository.
-ghost use Rattle.std.specs.Prelude.{◌≡◌, ◌≤◌, ◌+◌, ◌<◌, ◌^◌, [], ◌∷◌, max, None, Some, Ok, true, Option, option_map};
+ghost use Rattle.std.specs.Prelude.{◌≡◌, ◌≤◌, ◌+◌, ◌<◌, ◌^◌, [], ◌∷◌, max, None, Some, Ok, true, Option, is_some, option_map};
 ghost use Rattle.std.specs.Prelude.{option_and_then, string_bytes, unwrap_or, IfOk, IfSome};
 ghost use Rattle.std.specs.Arc.{arc_value};
 ghost use Rattle.std.specs.Option.{option_map_or};
@@ -412,6 +412,13 @@ impl RepoVersion {
             None => Ok(None),
             Some(stamped) => Ok(Some(stamped.report(alloc)?)),
         }
+    }
+
+    /// Whether there is a report of this name.
+    pub fn has(&self, name: &str) -> bool
+        ensures { result ≡ is_some (report_at (repository_in self.now) name.now) }
+    {
+        self.reports.get(name).is_some()
     }
 
     /// The allowed duplicates that a report declares, or none where it is not there.
