@@ -67,7 +67,7 @@ fn show_office<R: Print + AllocGlobal>(rt: &R, core: &Core, review: &Review) -> 
 }
 
 /// A history that closes a session which was never opened.
-fn forged(alloc: Global) -> Result<Vec<Entry>> {
+fn forged_history(alloc: Global) -> Result<Vec<Entry>> {
     let mut entries = Vec::new(alloc);
     entries.push(Entry {
         session: Some(1),
@@ -79,7 +79,7 @@ fn forged(alloc: Global) -> Result<Vec<Entry>> {
 
 fn show_history<R: Print + AllocGlobal>(rt: &R) -> Result<()> {
     let verdict = judge_core(rt.alloc(), &amended_core(rt.alloc())?)?;
-    let lawful = is_lawful(rt.alloc(), &forged(rt.alloc())?)?;
+    let lawful = is_lawful(rt.alloc(), &forged_history(rt.alloc())?)?;
     println!(rt; "history: {verdict:?}, and a forged one is lawful: {lawful}")?;
     Ok(())
 }

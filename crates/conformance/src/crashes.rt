@@ -7,7 +7,7 @@
 use crate::devices::{Done, Ended, Trial, Work, do_work};
 use crate::journals::{Keeping, engine_of};
 use crate::lines::{ends_in, is_end, read_data, read_numeric};
-use crate::scripts::stored;
+use crate::scripts::stored_script;
 use anyhow::{Result, anyhow};
 use journal::{MemoryFile, OpenFault, open, read_lines};
 use line_io::ScriptFault;
@@ -204,7 +204,7 @@ fn overwritten(
 }
 
 /// Opens a file of these bytes. None where it is refused.
-fn reopened(alloc: Global, bytes: &[u8]) -> Result<Option<Opened>, AllocError> {
+fn reopen(alloc: Global, bytes: &[u8]) -> Result<Option<Opened>, AllocError> {
     let mut file = MemoryFile::new(alloc, bytes.to_vec(alloc)?);
     match open(&mut file, bytes.to_vec(alloc)?) {
         Ok(lines) => Ok(Some(Opened { file, lines })),
@@ -291,7 +291,7 @@ impl Crashes<'_> {
     /// Opens a file that a crash may leave. It may be refused where no entry was there for sure.
     fn look(&mut self, bytes: &[u8]) -> Result<()> {
         self.tally.files = self.tally.files.saturating_add(1);
-        let is_so = match reopened(self.alloc, bytes)? {
+        let is_so = match reopen(self.alloc, bytes)? {
             Some(opened) => {
                 let is_sound = self.is_sound(bytes, &opened);
                 drop(opened);
@@ -351,7 +351,7 @@ impl Crashes<'_> {
 
     /// Has the opening of a file crash too.
     fn crash_opening(&mut self, bytes: &[u8]) -> Result<()> {
-        let Some(Opened { file, lines }) = reopened(self.alloc, bytes)? else {
+        let Some(Opened { file, lines }) = reopen(self.alloc, bytes)? else {
             return Ok(());
         };
         drop(lines);
@@ -416,7 +416,7 @@ pub(crate) fn try_crashes<R: Files + Print + AllocGlobal>(rt: &R) -> Result<()> 
     let table = &read_numeric(rt, "numeric")?;
     let going_on = read_data(rt, GOING_ON, "jsonl")?;
     for name in STOPPED {
-        let sheet = stored(rt, name)?;
+        let sheet = stored_script(rt, name)?;
         for (waiting, every_reply) in WAITING {
             let course = Course {
                 table,

@@ -23,7 +23,7 @@ fn is_load_or_commit(step: &Step) -> bool
 }
 
 /// The session and the step of a line.
-pub(crate) fn asked(
+pub(crate) fn session_and_step(
     alloc: Global,
     table: &Arc<NumericTable>,
     line: &[u8],
@@ -82,7 +82,7 @@ fn take(
     line: &[u8],
     is_let_go: bool,
 ) -> Result<()> {
-    match asked(alloc, table, line)? {
+    match session_and_step(alloc, table, line)? {
         Some((session, step)) if is_load_or_commit(&step) => {
             take_parts(alloc, core, session, step, is_let_go)
         }

@@ -204,7 +204,7 @@ pub(crate) fn compare_listed<R: Files + Print + AllocGlobal>(rt: &R, name: &str)
 }
 
 /// The script NAME.jsonl, with its replies and its history in files of their own.
-pub(crate) fn stored<R: Files + AllocGlobal>(rt: &R, name: &str) -> Result<Sheet> {
+pub(crate) fn stored_script<R: Files + AllocGlobal>(rt: &R, name: &str) -> Result<Sheet> {
     let mut sheet = Sheet::new(rt.alloc(), name.as_bytes())?;
     sheet.scripts.push(read_data(rt, name, "jsonl")?)?;
     sheet.replies = read_data(rt, name, "replies")?;
@@ -221,7 +221,7 @@ pub(crate) fn compare_stored<R: Files + Print + AllocGlobal>(rt: &R) -> Result<(
     let table = &read_numeric(rt, "numeric")?;
     let mut sheets = Vec::new(rt.alloc());
     for name in names.lines() {
-        sheets.push(stored(rt, name)?)?;
+        sheets.push(stored_script(rt, name)?)?;
     }
     let piece = 65536;
     compare_sheets(rt, &Scripts { table, piece }, &sheets)?.tell(rt, "stored scripts")

@@ -93,7 +93,7 @@ fn first_lines(text: &[u8], count: usize) -> &[u8] {
 }
 
 /// The trial in which the call of this number, from 0, goes wrong.
-fn trial(wrong: Wrong, number: usize) -> Trial {
+fn trial_where(wrong: Wrong, number: usize) -> Trial {
     let mut trial = Trial::sound(1);
     let call = (number as u64).saturating_add(1);
     match wrong {
@@ -126,7 +126,11 @@ fn comes_to(
 }
 
 /// The fault of a work whose call of this number, from 0, goes wrong, and what is written then.
-fn wanted<'a>(course: Course<'a>, wrong: Wrong, number: usize) -> (Option<ScriptFault>, &'a [u8]) {
+fn end_where<'a>(
+    course: Course<'a>,
+    wrong: Wrong,
+    number: usize,
+) -> (Option<ScriptFault>, &'a [u8]) {
     let read = course.read.get(..number).unwrap_or(&[]);
     let told = first_lines(course.replies, ends_in(read));
     match wrong {
@@ -154,11 +158,17 @@ fn try_each(
     let mut differing = 0u64;
     for number in 0..calls.saturating_add(1) {
         let wanted = if number < calls {
-            wanted(course, wrong, number)
+            end_where(course, wrong, number)
         } else {
             (None, course.written)
         };
-        let is_so = comes_to(alloc, given, course.work, trial(wrong, number), wanted)?;
+        let is_so = comes_to(
+            alloc,
+            given,
+            course.work,
+            trial_where(wrong, number),
+            wanted,
+        )?;
         differing = differing.saturating_add(u64::from(!is_so));
     }
     Ok((calls.saturating_add(1), differing))

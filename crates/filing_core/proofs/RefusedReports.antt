@@ -1,5 +1,5 @@
 -- A load is refused for a name that is taken, or for the least disallowed cell of its report.
-use Rattle.std.proofs.Common.{◌≡◌, ◌∙◌, ◌+◌, ap, sym, refl, cond, true, false, true≢false, Bool, [], Some, None, Option, option_map, is_some}
+use Rattle.std.proofs.Common.{◌≡◌, ◌∙◌, ◌+◌, ap, sym, refl, cond, true, false, true≢false, Bool, [], Some, None, Option, is_some}
 use Rattle.std.specs.Option.{option_map_or}
 use Rattle.filing_model.specs.Common.Text.{Text}
 use Rattle.filing_model.specs.Common.TextMap.{get}
@@ -19,7 +19,7 @@ use Rattle.filing_laws.specs.Updating.NetChange.{refusal_at}
 use Rattle.filing_model.specs.Histories.Lawful.{load_reply}
 use Rattle.filing_model.specs.Histories.Versions.{counts}
 
-pub absent : (o : Option Report) → is_some (option_map (λ r. r.allowed) o) ≡ false → o ≡ None
+pub absent : (o : Option Report) → is_some o ≡ false → o ≡ None
 absent None none = refl
 absent (Some r) there = absurd (true≢false there)
 

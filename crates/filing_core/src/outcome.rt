@@ -74,7 +74,7 @@ pub(crate) fn load_outcome(
     ensures { IfOk result (λ o. Makes o (load_reply (repository_in current.now) name.now report)
         (version_with name.now report (version_in current.now))) }
 {
-    if current.allowed(name).is_some() {
+    if current.has(name) {
         return Ok(reply_alone(Reply::NameTaken));
     }
     let next = current.with_indexed_report(alloc, String::from_str(alloc, name)?, report)?;

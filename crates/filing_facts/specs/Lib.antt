@@ -1,7 +1,6 @@
 -- ---- facts as indexes hold them, and the hashes by which look-ups find them
 pub mod Hashes
 pub mod ConceptPeriods
-pub mod PeriodFilterRef
 -- ---- changes of facts
 pub mod FactChanges
 pub mod Records

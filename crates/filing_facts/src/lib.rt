@@ -4,7 +4,6 @@
 //! - `concept_period`: a concept with a period, which many facts share.
 //! - `hashes`: the hashes by which look-ups find facts.
 //! - `fact_change`: a fact before a change and after it.
-//! - `period_filter_ref`: the period filter of a query, borrowed.
 //!
 //! It knows nothing of indexes, stamps or versions.
 #![tactic(auto)]
@@ -13,10 +12,8 @@ mod concept_period;
 mod fact_change;
 mod hashes;
 mod indexed_fact;
-mod period_filter_ref;
 
 pub use concept_period::KeyCache;
 pub use fact_change::FactChange;
 pub use hashes::{hash_of_concept, hash_of_dims, hash_of_period};
 pub use indexed_fact::IndexedFact;
-pub use period_filter_ref::PeriodFilterRef;

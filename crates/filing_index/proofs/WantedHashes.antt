@@ -1,6 +1,6 @@
 -- The facts that are looked for have the hash by which they are.
 use Rattle.filing_index.specs.Found.{HaveHash}
-use Rattle.filing_facts.specs.PeriodFilterRef.{period_filter_of}
+use Rattle.oim_fact.specs.PeriodFilterRef.{period_filter_of}
 use Rattle.filing_index.specs.Wanted.{is_wanted, hash_of, hashed_by}
 use Rattle.filing_index.specs.declared.wanted.Wanted.{Wanted}
 use Rattle.filing_index.specs.declared.wanted.Wanted.TheVariants.{Cell, Query}

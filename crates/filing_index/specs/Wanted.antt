@@ -4,7 +4,7 @@ use Rattle.filing_model.specs.Oim.Facts.{Fact}
 use Rattle.filing_model.specs.Oim.Duplicates.{has_dims}
 use Rattle.filing_model.specs.Sessions.Queries.{answers_query}
 use Rattle.filing_facts.specs.Hashes.{hash_of_dims, hash_of_query, cell_hash, query_hash}
-use Rattle.filing_facts.specs.PeriodFilterRef.{period_filter_of}
+use Rattle.oim_fact.specs.PeriodFilterRef.{period_filter_of}
 use Rattle.filing_index.specs.declared.wanted.Wanted.{Wanted}
 use Rattle.filing_index.specs.declared.wanted.Wanted.TheVariants as wanted
 

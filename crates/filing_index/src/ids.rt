@@ -4,15 +4,14 @@ ghost use Rattle.std.specs.Iterator.{YieldsFirstRef, item_count};
 ghost use Rattle.filing_model.specs.Oim.Facts.{Fact as PlainFact};
 ghost use Rattle.filing_model.specs.Common.TextMap.{TextMap};
 ghost use Rattle.filing_model.specs.Sessions.Queries.{cell_ids, ids_for};
+ghost use Rattle.oim_fact.specs.PeriodFilterRef.{period_filter_of};
 ghost use Rattle.filing_facts.specs.Hashes.{cell_hash, hash_of_dims, query_hash};
 ghost use Rattle.filing_index.specs.Index.{IsIndex};
-ghost use Rattle.filing_facts.specs.PeriodFilterRef.{period_filter_of};
 
 use crate::found::Found;
 use crate::index_entry::IndexEntry;
 use crate::wanted::Wanted;
-use filing_facts::PeriodFilterRef;
-use oim_fact::DimSet;
+use oim_fact::{DimSet, PeriodFilterRef};
 use sorted_pages::Paged;
 use std::marker::Model;
 

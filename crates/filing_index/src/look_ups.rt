@@ -3,16 +3,16 @@ ghost use Rattle.std.specs.Prelude.{◌≡◌, [], ◌∷◌, option_map};
 ghost use Rattle.std.specs.List.{filter, fold};
 ghost use Rattle.filing_model.specs.Oim.Duplicates.{class_of, facts_of, is_disallowed, lesser_dims, least_disallowed};
 ghost use Rattle.filing_model.specs.Sessions.Queries.{cell_facts, cell_ids, ids_for};
+ghost use Rattle.oim_fact.specs.PeriodFilterRef.{period_filter_of};
 ghost use Rattle.filing_index.specs.Cells.{WasLookedAt};
-ghost use Rattle.filing_facts.specs.PeriodFilterRef.{period_filter_of};
 
 use crate::cells::{are_these, class_in, least_disallowed, with_cell};
 use crate::facts::Facts;
 use crate::ids::Ids;
 use crate::index_kind::IndexKind;
 use crate::wanted::index_kind_for;
-use filing_facts::{IndexedFact, PeriodFilterRef, hash_of_dims};
-use oim_fact::{Allowed, Class, DimSet};
+use filing_facts::{IndexedFact, hash_of_dims};
+use oim_fact::{Allowed, Class, DimSet, PeriodFilterRef};
 
 impl Facts {
     /// The class of the facts with these dimensions, and their identifiers in byte order.

@@ -1,15 +1,15 @@
 //! What of a fact is looked for.
 ghost use Rattle.std.specs.Prelude.{◌≡◌};
 ghost use Rattle.filing_model.specs.Oim.Facts.{Fact as PlainFact};
+ghost use Rattle.oim_fact.specs.PeriodFilterRef.{period_filter_of};
 ghost use Rattle.filing_facts.specs.Hashes.{query_hash};
 ghost use Rattle.filing_index.specs.IndexKinds.{hash_in};
-ghost use Rattle.filing_facts.specs.PeriodFilterRef.{period_filter_of};
 ghost use Rattle.filing_index.specs.Wanted.{is_wanted, hash_of};
 
 use crate::index_kind::IndexKind;
-use filing_facts::{IndexedFact, PeriodFilterRef, hash_of_concept, hash_of_dims, hash_of_period};
+use filing_facts::{IndexedFact, hash_of_concept, hash_of_dims, hash_of_period};
 use filing_model::is_same_text;
-use oim_fact::DimSet;
+use oim_fact::{DimSet, PeriodFilterRef};
 
 /// The kind of index in which the facts that pass a period filter stand together.
 pub(crate) fn index_kind_for(period: PeriodFilterRef<'_>) -> IndexKind

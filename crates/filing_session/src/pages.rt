@@ -5,14 +5,15 @@ ghost use Rattle.filing_model.specs.Sessions.Changes.{Change};
 ghost use Rattle.filing_model.specs.Sessions.Queries.{page_ids, first_cut};
 ghost use Rattle.filing_model.specs.Sessions.Repository.{report_at};
 ghost use Rattle.oim_fact.specs.Texts.{text_view};
-ghost use Rattle.filing_facts.specs.PeriodFilterRef as borrowed;
+ghost use Rattle.oim_fact.specs.PeriodFilterRef as borrowed;
 ghost use Rattle.filing_step.specs.PeriodFilter.{period_filter_of};
 ghost use Rattle.filing_session.specs.Effects.{effect_in};
 
 use crate::ready::Ready;
 use crate::staging::Staging;
 use filing_step::{Limit, PageQuery, PeriodFilter, Reply, Thing};
-use filing_version::{Ids, PeriodFilterRef};
+use filing_version::Ids;
+use oim_fact::PeriodFilterRef;
 use std::alloc::{AllocError, Global};
 
 /// A period filter, without a text of its own. It takes no memory.

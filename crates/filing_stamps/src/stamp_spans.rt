@@ -44,7 +44,7 @@ fn is_upto(upto: Option<&str>, id: &str) -> bool
 
 impl<'a> IdRange<'a> {
     /// `Less` where the identifier of a stamp stands before the range, `Greater` where it stands past it.
-    fn side(&self, stamp: &Stamp) -> Ordering
+    fn compare_id(&self, stamp: &Stamp) -> Ordering
         ensures { result ≡ ids_side (id_range_of self.now) stamp.now.id }
     {
         match self {
@@ -101,23 +101,23 @@ impl<'a> Among<'a> {
     }
 
     /// How a stamp of this kind stands to the range.
-    fn side_in_kind(&self, stamp: &Stamp) -> Ordering
+    fn compare_in_kind(&self, stamp: &Stamp) -> Ordering
         ensures { result ≡ ordering_then (group_cmp stamp.now.group self.now.group)
             (ids_side self.now.ids stamp.now.id) }
     {
         match stamp.group().order(&self.group) {
-            Ordering::Equal => self.ids.side(stamp),
+            Ordering::Equal => self.ids.compare_id(stamp),
             order => order,
         }
     }
 
     /// How a stamp with this code stands to the range.
-    fn side_alike(&self, stamp: &Stamp) -> Ordering
+    fn compare_in_code(&self, stamp: &Stamp) -> Ordering
         ensures { result ≡ ordering_then (nat_cmp stamp.now.rank self.now.rank)
             (ordering_then (group_cmp stamp.now.group self.now.group) (ids_side self.now.ids stamp.now.id)) }
     {
         match stamp.rank().cmp(&self.kind.rank()) {
-            Ordering::Equal => self.side_in_kind(stamp),
+            Ordering::Equal => self.compare_in_kind(stamp),
             order => order,
         }
     }
@@ -133,7 +133,7 @@ impl<'a> Span<Stamp> for Among<'a> {
 
     fn side(&self, stamp: &Stamp) -> Ordering {
         match stamp.code().cmp(&self.code) {
-            Ordering::Equal => self.side_alike(stamp),
+            Ordering::Equal => self.compare_in_code(stamp),
             order => order,
         }
     }

@@ -3,8 +3,8 @@ ghost use Rattle.std.specs.Prelude.{◌≡◌, ◌++◌, ◌≤◌, max, IfOk, o
 ghost use Rattle.std.specs.List.{AllByRecursion};
 ghost use Rattle.sorted_pages.specs.Pages.{greatest};
 ghost use Rattle.sorted_pages.specs.Ranges.{within};
+ghost use Rattle.oim_fact.specs.PeriodFilterRef.{period_filter_of};
 ghost use Rattle.filing_facts.specs.FactChanges.{Part, Id, Cell, Range, stamped_by};
-ghost use Rattle.filing_facts.specs.PeriodFilterRef.{period_filter_of};
 ghost use Rattle.filing_stamps.specs.Layers.{AreWith};
 ghost use Rattle.filing_stamps.specs.Stamps.{among_side, stamp_in};
 
@@ -15,8 +15,8 @@ use crate::last_stamps::last_stamps;
 use crate::layer::Layer;
 use crate::stamp::{Group, Stamp, StampKind};
 use crate::stamp_spans::{Among, IdRange};
-use filing_facts::{FactChange, PeriodFilterRef};
-use oim_fact::DimSet;
+use filing_facts::FactChange;
+use oim_fact::{DimSet, PeriodFilterRef};
 use std::alloc::{AllocError, Global};
 use std::marker::Model;
 use text_map::SoughtName;

@@ -32,27 +32,13 @@ impl Model for Change {
     ghost view = { λ c. c.reports };
 }
 
-/// A put that needs no more memory. Contracts see the change as it is to be.
+/// A put or a declaration that needs no more memory. Contracts see the change as it is to be.
 #[derive(Drop)]
-pub struct ReadyPut {
+pub struct ReadyChange {
     change: Change,
 }
 
-impl Model for ReadyPut {
-    ghost use Rattle.filing_model.specs.Sessions.Changes.{Change as PlainChange};
-
-    ghost Value = { PlainChange };
-
-    ghost view = { λ r. r.change };
-}
-
-/// A declaration that needs no more memory. Contracts see the change as it is to be.
-#[derive(Drop)]
-pub struct ReadyDeclare {
-    change: Change,
-}
-
-impl Model for ReadyDeclare {
+impl Model for ReadyChange {
     ghost use Rattle.filing_model.specs.Sessions.Changes.{Change as PlainChange};
 
     ghost Value = { PlainChange };
@@ -121,16 +107,16 @@ impl Change {
         report: &str,
         id: String,
         fact: Option<Arc<Fact>>,
-    ) -> Result<ReadyPut, AllocError>
+    ) -> Result<ReadyChange, AllocError>
         ensures { IfOk result (λ next. next
             ≡ with_change self.now report.now (string_bytes id) (option_map arc_value fact)) }
     {
         let change = self.with_fact(report, id, fact)?;
-        Ok(ReadyPut { change })
+        Ok(ReadyChange { change })
     }
 
-    /// Makes a put that is ready. It takes no memory.
-    pub fn take(&mut self, ready: ReadyPut)
+    /// Makes a put or a declaration that is ready. It takes no memory.
+    pub fn take(&mut self, ready: ReadyChange)
         ensures { self.new ≡ ready }
     {
         drop(mem::replace(self, ready.change));
@@ -164,18 +150,11 @@ impl Change {
     }
 
     /// Allocates all that `declare` needs. The change stays as it is.
-    pub fn ready_declare(&self, report: &str, allowed: Allowed) -> Result<ReadyDeclare, AllocError>
+    pub fn ready_declare(&self, report: &str, allowed: Allowed) -> Result<ReadyChange, AllocError>
         ensures { IfOk result (λ next. next ≡ with_declared self.now report.now allowed) }
     {
         let change = self.with_declared(report, allowed)?;
-        Ok(ReadyDeclare { change })
-    }
-
-    /// Makes a declaration that is ready. It takes no memory.
-    pub fn take_declare(&mut self, ready: ReadyDeclare)
-        ensures { self.new ≡ ready }
-    {
-        drop(mem::replace(self, ready.change));
+        Ok(ReadyChange { change })
     }
 
     /// Declares a value, in the place of the one that the change declared before.
@@ -184,7 +163,7 @@ impl Change {
         ensures err { OnErr result (self.new ≡ self.old) }
     {
         let ready = self.ready_declare(report, allowed)?;
-        self.take_declare(ready);
+        self.take(ready);
         Ok(())
     }
 

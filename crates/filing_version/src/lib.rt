@@ -27,9 +27,9 @@ mod same_facts;
 mod stamped_report;
 mod version;
 
-pub use change::{Change, ReadyDeclare, ReadyPut};
+pub use change::{Change, ReadyChange};
 pub use fact_entries::FactEntries;
-pub use filing_facts::{KeyCache, PeriodFilterRef};
+pub use filing_facts::KeyCache;
 pub use filing_index::Ids;
 pub use got::Got;
 pub use indexed_report::IndexedReport;

@@ -1,5 +1,5 @@
 //! `RepoVersion`: one unchanging state of the repository.
-ghost use Rattle.std.specs.Prelude.{◌≡◌, ◌≤◌, ◌+◌, ◌<◌, ◌^◌, [], ◌∷◌, max, None, Some, Ok, true, Option, option_map};
+ghost use Rattle.std.specs.Prelude.{◌≡◌, ◌≤◌, ◌+◌, ◌<◌, ◌^◌, [], ◌∷◌, max, None, Some, Ok, true, Option, is_some, option_map};
 ghost use Rattle.std.specs.Prelude.{option_and_then, string_bytes, unwrap_or, IfOk, IfSome};
 ghost use Rattle.std.specs.Arc.{arc_value};
 ghost use Rattle.std.specs.Option.{option_map_or};
@@ -14,7 +14,7 @@ ghost use Rattle.filing_model.specs.Sessions.Queries.{cell_facts, cell_ids, ids_
 ghost use Rattle.filing_model.specs.Sessions.Sessions.{repository_obeys, refusal_of};
 ghost use Rattle.filing_laws.specs.Updating.NetChange.{refusal_at};
 ghost use Rattle.filing_facts.specs.FactChanges.{Part};
-ghost use Rattle.filing_facts.specs.PeriodFilterRef.{period_filter_of};
+ghost use Rattle.oim_fact.specs.PeriodFilterRef.{period_filter_of};
 ghost use Rattle.filing_stamps.specs.Stamps.{stamp_in as part_stamp};
 ghost use Rattle.filing_version.specs.Found.{got_of};
 ghost use Rattle.filing_version.specs.StampedReports.{StampedReportValue, KeepsItsStamps, version_in, repository_in};
@@ -27,10 +27,9 @@ use crate::fact_entries::FactEntries;
 use crate::got::Got;
 use crate::indexed_report::IndexedReport;
 use crate::stamped_report::StampedReport;
-use filing_facts::PeriodFilterRef;
 use filing_index::{Facts, Ids};
 use filing_stamps::Stamps;
-use oim_fact::{Allowed, Class, DimSet, Fact, Names};
+use oim_fact::{Allowed, Class, DimSet, Fact, Names, PeriodFilterRef};
 use oim_report::Report;
 use std::alloc::{AllocError, Global};
 use std::marker::Model;
@@ -412,6 +411,13 @@ impl RepoVersion {
             None => Ok(None),
             Some(stamped) => Ok(Some(stamped.report(alloc)?)),
         }
+    }
+
+    /// Whether there is a report of this name.
+    pub fn has(&self, name: &str) -> bool
+        ensures { result ≡ is_some (report_at (repository_in self.now) name.now) }
+    {
+        self.reports.get(name).is_some()
     }
 
     /// The allowed duplicates that a report declares, or none where it is not there.

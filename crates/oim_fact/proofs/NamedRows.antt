@@ -18,7 +18,7 @@ use Rattle.filing_model.proofs.Common.MapsOfLists.{sorted_from_rises}
 use Rattle.filing_model.proofs.Common.Texts.{has_repeats-IsPermutation}
 use Rattle.filing_model.proofs.Common.TextMaps.{get-from_entries}
 use Rattle.oim_fact.proofs.SearchedEntries.{searched}
-use Rattle.oim_fact.specs.Texts.{row_of, rows_view, names_in, NoneFalls, has_neighbours}
+use Rattle.oim_fact.specs.Texts.{row_of, rows_view, names_in, NoneFalls, has_equal_neighbours}
 use Rattle.oim_fact.specs.Names.{names_of, text_in, column}
 use Rattle.oim_fact.specs.declared.names.Column.{Column}
 use Rattle.oim_fact.specs.declared.names.Column.TheVariants.{Prefix, Uri}
@@ -47,9 +47,9 @@ named_by : (c : Column) (rows : List (Text × Text)) → names_in (map (λ r. (t
 named_by c [] = refl
 named_by c (row ∷ rows) = ap (λ ts. text_in c row ∷ ts) (named_by c rows)
 
-repeated : (c : Column) (rows : List (Text × Text)) → NoneFalls (column c rows) → has_repeats (column c rows) ≡ has_neighbours (column c rows)
+repeated : (c : Column) (rows : List (Text × Text)) → NoneFalls (column c rows) → has_repeats (column c rows) ≡ has_equal_neighbours (column c rows)
 repeated c rows h =
-    subst (λ ts. has_repeats ts ≡ has_neighbours ts) (named_by c rows)
+    subst (λ ts. has_repeats ts ≡ has_equal_neighbours ts) (named_by c rows)
     (repeated_are_neighbours (map (λ r. (text_in c r, r)) rows) (subst NoneFalls (sym (named_by c rows)) h))
 
 pub same_repeats : (c : Column) (rows sorted : List Held) → IsPermutation rows sorted
@@ -61,7 +61,7 @@ same_repeats c rows sorted moved =
 -- the test on what was sorted is that on what it was sorted from
 pub repeats_from_sorted : (c : Column) (rows sorted : List Held) → IsPermutation rows sorted
     → NoneFalls (column c (rows_view sorted))
-    → has_neighbours (column c (rows_view sorted)) ≡ has_repeats (column c (rows_view rows))
+    → has_equal_neighbours (column c (rows_view sorted)) ≡ has_repeats (column c (rows_view rows))
 repeats_from_sorted c rows sorted moved h = sym (repeated c (rows_view sorted) h) ∙ sym (same_repeats c rows sorted moved)
 
 -- ---- the names

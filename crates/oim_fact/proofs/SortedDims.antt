@@ -13,14 +13,14 @@ use Rattle.filing_model.specs.declared.faults.DimFault.{DimFault}
 use Rattle.filing_model.specs.declared.faults.DimFault.TheVariants.{NameTwice, NullCore, NoConcept, TooLong}
 use Rattle.filing_model.proofs.Oim.DimensionSets.{dims_of-IsPermutation, judged}
 use Rattle.filing_model.proofs.Common.MapsOfLists.{sorted_from_rises, from_entries-sorted}
-use Rattle.oim_fact.specs.Texts.{text_view, names_in, NoneFalls, has_neighbours}
+use Rattle.oim_fact.specs.Texts.{text_view, names_in, NoneFalls, has_equal_neighbours}
 use Rattle.oim_fact.specs.Dims.{dims_view, unless}
 use Rattle.oim_fact.proofs.SortedTexts.{Rises-names, repeated_are_neighbours, NoneFalls-sorted}
 use Rattle.oim_fact.proofs.ComparedDims.{Held, held_cmp}
 
 -- the set by its tests, where the list itself is the set
 pub dims_of_by_tests : (ds : Dims) → NoneFalls (names_in ds)
-    → dims_of ds ≡ cond (has_neighbours (names_in ds)) (Err NameTwice)
+    → dims_of ds ≡ cond (has_equal_neighbours (names_in ds)) (Err NameTwice)
     (cond (list_any is_null_core ds) (Err NullCore)
     (cond (not (list_any is_concept ds)) (Err NoConcept) (cond (list_any is_long_dim ds) (Err TooLong) (Ok ds))))
 dims_of_by_tests ds h =

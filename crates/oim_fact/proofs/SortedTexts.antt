@@ -8,7 +8,7 @@ use Rattle.std.specs.FinMap.Entries.{is_sorted}
 use Rattle.filing_model.specs.Common.Text.{Text, text_cmp, text_eq, has_repeats}
 use Rattle.filing_model.proofs.Common.MapsOfLists.{Rises, sorted_from_rises, no_repeats_from_sorted, below_from_less}
 use Rattle.filing_model.proofs.Common.Tests.{both_hold, first_holds, less_from_not_greater}
-use Rattle.oim_fact.specs.Texts.{names_in, NoneFalls, has_neighbours}
+use Rattle.oim_fact.specs.Texts.{names_in, NoneFalls, has_equal_neighbours}
 
 module _ {X : Type 0} where
   -- a name that is not the next one's is below all names that follow
@@ -18,20 +18,20 @@ module _ {X : Type 0} where
       let l : text_cmp d.0 e.0 ≡ Less = less_from_not_greater _ (ap is_lt (sym (nat_list_cmp_total.antisymm e.0 d.0)) ∙ r) apart in
       both_hold _ _ (both_hold _ _ (subst (λ o. T (is_lt o)) (sym l) tt) (below_from_less d.0 e.0 es l (first_holds _ _ h))) h
 
-  neighbours : (es : List (Text × X)) → Rises es → has_repeats (names_in es) ≡ has_neighbours (names_in es)
+  neighbours : (es : List (Text × X)) → Rises es → has_repeats (names_in es) ≡ has_equal_neighbours (names_in es)
   neighbours [] r = refl
   neighbours (d ∷ []) r = refl
   neighbours (d ∷ e ∷ es) r =
       let rest = neighbours (e ∷ es) r.1 in
       elim (text_eq d.0 e.0) as (λ b. text_eq d.0 e.0 ≡ b
       → (b || list_any (text_eq d.0) (names_in es)) || has_repeats (names_in (e ∷ es))
-      ≡ b || has_neighbours (names_in (e ∷ es))) [
+      ≡ b || has_equal_neighbours (names_in (e ∷ es))) [
         | true ↦ λ _. refl
         | false ↦ λ apart.
             elim (has_repeats (names_in (e ∷ es)))
             as (λ b. has_repeats (names_in (e ∷ es)) ≡ b
             → list_any (text_eq d.0) (names_in es) || has_repeats (names_in (e ∷ es))
-            ≡ has_neighbours (names_in (e ∷ es))) [
+            ≡ has_equal_neighbours (names_in (e ∷ es))) [
               | true ↦ λ again. ap (λ b. list_any (text_eq d.0) (names_in es) || b) again ∙ or_right _ true refl ∙ sym again ∙ rest
               | false ↦ λ once.
                   sym (ap (λ b. (b || list_any (text_eq d.0) (names_in es)) || has_repeats (names_in (e ∷ es))) apart)
@@ -46,7 +46,7 @@ module _ {X : Type 0} where
   Rises-names (d ∷ e ∷ es) h = (h.0, Rises-names (e ∷ es) h.1)
 
   -- of names that do not fall, those that stand twice are neighbours
-  pub repeated_are_neighbours : (es : List (Text × X)) → NoneFalls (names_in es) → has_repeats (names_in es) ≡ has_neighbours (names_in es)
+  pub repeated_are_neighbours : (es : List (Text × X)) → NoneFalls (names_in es) → has_repeats (names_in es) ≡ has_equal_neighbours (names_in es)
   repeated_are_neighbours es h = neighbours es (Rises-names es h)
 
 module _ {P : Type 0} (text : P → Text) where

@@ -4,5 +4,6 @@ pub mod Dims
 pub mod Tables
 pub mod Names
 pub mod Facts
+pub mod PeriodFilterRef
 pub mod SharedFacts
 pub mod Tallies

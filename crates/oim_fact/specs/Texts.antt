@@ -30,6 +30,6 @@ begins_with t [] = false
 begins_with t (u ∷ us) = text_eq t u
 
 -- some text stands twice, one after the other
-abbrev pub has_neighbours : List Text → Bool
-has_neighbours [] = false
-has_neighbours (t ∷ ts) = begins_with t ts || has_neighbours ts
+abbrev pub has_equal_neighbours : List Text → Bool
+has_equal_neighbours [] = false
+has_equal_neighbours (t ∷ ts) = begins_with t ts || has_equal_neighbours ts

@@ -2,7 +2,7 @@
 
 ghost use Rattle.std.specs.Prelude.{◌≡◌, Option, option_map, is_some, IfOk};
 ghost use Rattle.std.specs.List.{list_any};
-ghost use Rattle.oim_fact.specs.Texts.{text_view, names_in, NoneFalls, begins_with, has_neighbours};
+ghost use Rattle.oim_fact.specs.Texts.{text_view, names_in, NoneFalls, begins_with, has_equal_neighbours};
 ghost use Rattle.oim_fact.specs.Dims.{dims_view, pairs_in, unless};
 ghost use Rattle.filing_model.specs.Oim.Dimensions.{AreDims, core_value, concept_of, period_of, unit_of, dims_of, is_core, is_null_core, is_concept, is_long_dim};
 
@@ -42,7 +42,7 @@ impl Model for DimSet {
 impl Clone for DimSet {
     ghost is_clone = { λ old new. new ≡ old };
 
-    /// Copies the texts, unless they are shared (`DimSet::shared`).
+    /// Copies the texts, unless they are shared (`DimSet::into_shared`).
     fn clone(&self) -> Result<DimSet, AllocError> {
         let pairs = match &self.pairs {
             Pairs::Own(pairs) => Pairs::Own(clone_pairs(pairs)?),
@@ -76,7 +76,7 @@ impl Pairs {
     }
 
     /// The pairs, from now on shared.
-    fn shared(self, alloc: Global) -> Result<Pairs, AllocError>
+    fn into_shared(self, alloc: Global) -> Result<Pairs, AllocError>
         ensures { IfOk result (λ pairs. pairs_in pairs ≡ pairs_in self) }
     {
         match self {
@@ -109,8 +109,8 @@ fn begins_with(pairs: &[(String, Option<String>)], name: &str) -> bool
 }
 
 /// Whether some dimension has the name of the one before it.
-fn has_neighbours(pairs: &[(String, Option<String>)]) -> bool
-    ensures { result ≡ has_neighbours (names_in (dims_view pairs.now)) }
+fn has_equal_neighbours(pairs: &[(String, Option<String>)]) -> bool
+    ensures { result ≡ has_equal_neighbours (names_in (dims_view pairs.now)) }
 {
     let mut left = pairs;
     while let [first, rest @ ..] = left {
@@ -172,7 +172,7 @@ fn first_fault(pairs: &[(String, Option<String>)]) -> Option<DimFault>
     requires { NoneFalls (names_in (dims_view pairs.now)) }
     ensures { unless result (dims_view pairs.now) ≡ dims_of (dims_view pairs.now) }
 {
-    if has_neighbours(pairs) {
+    if has_equal_neighbours(pairs) {
         return Some(DimFault::NameTwice);
     }
     if has_null_core(pairs) {
@@ -203,11 +203,11 @@ impl DimSet {
     }
 
     /// The set, whose clones share its texts from now on.
-    pub fn shared(self, alloc: Global) -> Result<DimSet, AllocError>
+    pub fn into_shared(self, alloc: Global) -> Result<DimSet, AllocError>
         ensures { IfOk result (λ dims. dims ≡ self) }
     {
         Ok(DimSet {
-            pairs: self.pairs.shared(alloc)?,
+            pairs: self.pairs.into_shared(alloc)?,
         })
     }
 

@@ -51,7 +51,7 @@ impl Clone for RawFact {
 
 impl RawFact {
     /// The fact, whose clones share its dimensions from now on.
-    pub fn shared(self, alloc: Global) -> Result<RawFact, AllocError>
+    pub fn into_shared(self, alloc: Global) -> Result<RawFact, AllocError>
         ensures { IfOk result (λ raw. raw ≡ self) }
     {
         let RawFact {
@@ -61,7 +61,7 @@ impl RawFact {
             links,
         } = self;
         Ok(RawFact {
-            dims: dims.shared(alloc)?,
+            dims: dims.into_shared(alloc)?,
             value,
             decimals,
             links,

@@ -16,7 +16,7 @@ use oim_value::{Accuracy, Decimal, NumberFault};
 pub fn fit(names: &Names, raw: RawFact) -> Result<Fact, FactFault>
     ensures { result ≡ fit_of names.now raw }
 {
-    let Some((uri, local)) = names.expanded(raw.dims.concept()) else {
+    let Some((uri, local)) = names.expand(raw.dims.concept()) else {
         return Err(FactFault::UnboundPrefix);
     };
     let is_numeric = names.is_numeric(uri, local);

@@ -10,6 +10,7 @@
 //! - `tally`: the class of a cell in one pass.
 //! - `fact_tally`: some facts by the first of them and a tally.
 //! - `classes`: the class of a list or of an iterator.
+//! - `period_filter_ref`: the period filter of a query, borrowed.
 //! - `texts`: texts that may be missing.
 //!
 //! It knows nothing of JSON, of reports as a whole, or of versions.
@@ -23,6 +24,7 @@ mod fact_tally;
 mod fitting;
 mod names;
 mod pairs;
+mod period_filter_ref;
 mod table;
 mod tally;
 mod texts;
@@ -35,5 +37,6 @@ pub use filing_model::{Allowed, Class, DimFault, FactFault, NamesFault, Pair, al
 pub use fitting::fit;
 pub use names::Names;
 pub use pairs::compare;
+pub use period_filter_ref::PeriodFilterRef;
 pub use table::NumericTable;
 pub use texts::{are_same_texts, clone_text, own_text};

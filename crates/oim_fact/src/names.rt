@@ -5,7 +5,7 @@ ghost use Rattle.filing_model.specs.Oim.Facts.{uri_of, expanded, is_numeric};
 ghost use Rattle.std.specs.Arc.{arc_value};
 ghost use Rattle.filing_model.specs.Common.Text.{has_repeats};
 ghost use Rattle.filing_model.specs.Common.TextMap.{get};
-ghost use Rattle.oim_fact.specs.Texts.{row_of, rows_view, NoneFalls, begins_with, has_neighbours};
+ghost use Rattle.oim_fact.specs.Texts.{row_of, rows_view, NoneFalls, begins_with, has_equal_neighbours};
 ghost use Rattle.oim_fact.specs.Names.{names_of, text_in, column};
 
 use crate::table::NumericTable;
@@ -81,8 +81,8 @@ impl Column {
     }
 
     /// Whether some row has the text of the one before it.
-    fn has_neighbours(self, rows: &[(String, String)]) -> bool
-        ensures { result ≡ has_neighbours (column self (rows_view rows.now)) }
+    fn has_equal_neighbours(self, rows: &[(String, String)]) -> bool
+        ensures { result ≡ has_equal_neighbours (column self (rows_view rows.now)) }
     {
         let mut left = rows;
         while let [first, rest @ ..] = left {
@@ -101,7 +101,7 @@ impl Column {
         ensures repeats { result ≡ has_repeats (column self (rows_view rows.old.items)) }
     {
         rows.sort_unstable_by(|a, b| self.text(a).cmp(self.text(b)));
-        self.has_neighbours(rows)
+        self.has_equal_neighbours(rows)
     }
 }
 
@@ -138,7 +138,7 @@ impl Names {
     }
 
     /// The URI to which a name's prefix is bound, and its local name: what stands before and after the first colon, where neither is empty.
-    pub(crate) fn expanded<'a>(&'a self, name: &'a str) -> Option<(&'a str, &'a str)>
+    pub(crate) fn expand<'a>(&'a self, name: &'a str) -> Option<(&'a str, &'a str)>
         ensures { option_map (λ p. (p.0.now, p.1.now)) result ≡ expanded self.now.prefixes name.now }
     {
         let (prefix, local) = name.split_once(':')?;
@@ -155,7 +155,7 @@ impl Names {
     pub(crate) fn binds(&self, name: &str) -> bool
         ensures { result ≡ is_some (uri_of self.now.prefixes name.now) }
     {
-        self.expanded(name).is_some()
+        self.expand(name).is_some()
     }
 
     /// Whether the concept with this local name at this URI is numeric.

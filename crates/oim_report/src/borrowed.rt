@@ -22,29 +22,29 @@ use std::alloc::{AllocError, Global};
 use std::collections::BTreeMap;
 
 /// The float that is nearest to a numeral, where it is finite.
-fn nearest(negative: bool, numeral: &Numeral<'_>) -> Option<Number>
+fn nearest_float(negative: bool, numeral: &Numeral<'_>) -> Option<Number>
     ensures { option_map number_view result ≡ float_of negative numeral.now }
 {
     Number::from_f64(numeral.to_float::<f64>(negative))
 }
 
 /// The number of a numeral without a sign.
-fn unsigned(numeral: &Numeral<'_>) -> Option<Number>
+fn unsigned_number(numeral: &Numeral<'_>) -> Option<Number>
     ensures { option_map number_view result ≡ number_from false numeral.now }
 {
     match numeral.to_u64() {
         Some(number) => Some(Number::from(number)),
-        None => nearest(false, numeral),
+        None => nearest_float(false, numeral),
     }
 }
 
 /// The number of a numeral after a minus. `-0` is a float.
-fn negative(numeral: &Numeral<'_>) -> Option<Number>
+fn negative_number(numeral: &Numeral<'_>) -> Option<Number>
     ensures { option_map number_view result ≡ number_from true numeral.now }
 {
     match numeral.to_i64(true) {
         Some(number) if number < 0 => Some(Number::from(number)),
-        _ => nearest(true, numeral),
+        _ => nearest_float(true, numeral),
     }
 }
 
@@ -62,9 +62,9 @@ pub fn number(text: &str) -> Option<Number>
 {
     let bytes = text.as_bytes();
     if has_minus(bytes) {
-        negative(&Numeral::scan(&bytes[1..]))
+        negative_number(&Numeral::scan(&bytes[1..]))
     } else {
-        unsigned(&Numeral::scan(bytes))
+        unsigned_number(&Numeral::scan(bytes))
     }
 }
 
@@ -134,8 +134,8 @@ pub fn text_value<'a>(
 }
 
 /// An owned copy of a value, where each number in it is in range.
-#[cycle(copied)]
-pub fn copied(alloc: Global, value: &json::Value<'_>) -> Result<Option<Value>, AllocError>
+#[cycle(copies)]
+pub fn copy_of(alloc: Global, value: &json::Value<'_>) -> Result<Option<Value>, AllocError>
     ensures { IfOk result (λ o. option_map view o ≡ of_json (value_view value.now)) }
 {
     match value {
@@ -146,11 +146,11 @@ pub fn copied(alloc: Global, value: &json::Value<'_>) -> Result<Option<Value>, A
             None => Ok(None),
         },
         json::Value::String(text) => Ok(Some(Value::String(String::from_str(alloc, text)?))),
-        json::Value::Array(items) => match copied_items(alloc, items)? {
+        json::Value::Array(items) => match copy_of_items(alloc, items)? {
             Some(items) => Ok(Some(Value::Array(items))),
             None => Ok(None),
         },
-        json::Value::Object(members) => match copied_members(alloc, members)? {
+        json::Value::Object(members) => match copy_of_members(alloc, members)? {
             Some(members) => Ok(Some(Value::Object(members))),
             None => Ok(None),
         },
@@ -158,8 +158,8 @@ pub fn copied(alloc: Global, value: &json::Value<'_>) -> Result<Option<Value>, A
 }
 
 /// Owned copies of these items, where each number in them is in range.
-#[cycle(copied)]
-fn copied_items(
+#[cycle(copies)]
+fn copy_of_items(
     alloc: Global,
     items: &Vec<json::Value<'_>>,
 ) -> Result<Option<Vec<Value>>, AllocError>
@@ -168,7 +168,7 @@ fn copied_items(
 {
     let mut copies = Vec::with_capacity(alloc, items.len())?;
     for item in items {
-        match copied(alloc, item)? {
+        match copy_of(alloc, item)? {
             Some(copy) => copies.push(copy)?,
             None => return Ok(None),
         }
@@ -177,8 +177,8 @@ fn copied_items(
 }
 
 /// Owned copies of these members, where each number in them is in range. Of a name the last stays.
-#[cycle(copied)]
-fn copied_members(
+#[cycle(copies)]
+fn copy_of_members(
     alloc: Global,
     members: &Vec<(&str, json::Value<'_>)>,
 ) -> Result<Option<Map<String, Value>>, AllocError>
@@ -188,7 +188,7 @@ fn copied_members(
     let mut copies = Map::new(alloc);
     for member in members {
         let name = String::from_str(alloc, member.0)?;
-        match copied(alloc, &member.1)? {
+        match copy_of(alloc, &member.1)? {
             Some(copy) => drop(copies.insert(name, copy)?),
             None => return Ok(None),
         }
@@ -197,11 +197,11 @@ fn copied_members(
 }
 
 /// An owned copy of a value, which is given back.
-pub(crate) fn owned(alloc: Global, value: json::Value<'_>) -> Result<Value, AllocError>
+pub(crate) fn into_owned(alloc: Global, value: json::Value<'_>) -> Result<Value, AllocError>
     requires { IsInRange value }
     ensures { IfOk result (λ v. view v ≡ data_of value.entry) }
 {
-    let copy = copied(alloc, &value);
+    let copy = copy_of(alloc, &value);
     drop(value);
     match copy? {
         Some(copy) => Ok(copy),
@@ -219,7 +219,7 @@ pub fn owned_at(
     ensures { IfOk result (λ o. option_map view o ≡ get name.now (data_of value.now)) }
 {
     match value.get(name) {
-        Some(member) => copied(alloc, member),
+        Some(member) => copy_of(alloc, member),
         None => Ok(None),
     }
 }

@@ -22,7 +22,7 @@ ghost use Rattle.oim_report.specs.Parts.{fact_view, facts_view};
 ghost use Rattle.oim_report.specs.Readable.{AreFitted};
 ghost use Rattle.oim_report.specs.Readings.{fitted_of, same};
 
-use crate::borrowed::{in_order, member_of, owned, read_members_of};
+use crate::borrowed::{in_order, into_owned, member_of, read_members_of};
 use crate::fact::raw_fact_from;
 use crate::fault::ReportFault;
 use crate::values::members_of;
@@ -44,7 +44,7 @@ fn bad_fact(id: String, trouble: Trouble) -> ReportFault
 }
 
 /// A fact by the names of its report, which has its dimension set.
-fn fitted(names: &Names, raw: RawFact) -> Result<Fact, Trouble>
+fn fact_by_names(names: &Names, raw: RawFact) -> Result<Fact, Trouble>
     ensures fact { Gives fact_trouble same result (fitted_of names.now raw) }
     ensures fitted { IfOk result (λ f. AreDims f.dims) }
 {
@@ -73,7 +73,7 @@ fn entry(
         Ok(raw) => raw,
         Err(trouble) => return Err(bad_fact(id, trouble)),
     };
-    match fitted(names, raw) {
+    match fact_by_names(names, raw) {
         Ok(fact) => Ok((id, Arc::new(alloc, fact)?)),
         Err(trouble) => Err(bad_fact(id, trouble)),
     }
@@ -155,7 +155,7 @@ fn entry_in_text(
     ensures dims { IfOk result (λ e. AreDims (arc_value e.1).dims) }
     ensures fitted { IfOk result (λ e. IsFitted names.now (arc_value e.1)) }
 {
-    let value = owned(alloc, value)?;
+    let value = into_owned(alloc, value)?;
     entry(alloc, names, String::from_str(alloc, id)?, value)
 }
 

@@ -39,7 +39,7 @@ mod report_text;
 mod table;
 mod values;
 
-pub use borrowed::{copied, number, owned_at, text_value};
+pub use borrowed::{copy_of, number, owned_at, text_value};
 pub use declared_value::with_allowed;
 pub use entries::Entries;
 pub use fact::{dimensions, dimensions_from, raw_fact, raw_fact_from};

@@ -96,7 +96,7 @@ fn declaration(
 }
 
 /// The report of what it says of itself and of its facts.
-fn assembled(declared: Declared, facts: Vec<(String, Arc<Fact>)>) -> Report
+fn assemble(declared: Declared, facts: Vec<(String, Arc<Fact>)>) -> Report
     requires info { IsInfo declared.info declared.names.prefixes declared.allowed }
     requires rise { T (is_sorted text_cmp (facts_view facts.items)) }
     requires fitted { AreFitted declared.names (facts_view facts.items) }
@@ -129,7 +129,7 @@ fn with_facts_read(
     ensures readable { IfOk result IsReadable }
 {
     match facts {
-        Ok(facts) => Ok(assembled(declared, facts)),
+        Ok(facts) => Ok(assemble(declared, facts)),
         Err(fault) => {
             drop(declared);
             Err(fault)

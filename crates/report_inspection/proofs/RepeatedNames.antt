@@ -1,5 +1,6 @@
 -- Names that were sorted to see whether one stands twice.
-use Rattle.std.proofs.Common.{◌≡◌, ◌∙◌, ap, sym, subst, refl, Bool, true, false, ◌||◌, ◌&&◌, true≢false, List, [], ◌∷◌, map, length, take, drop, get_or, ◌-◌, ◌≤◌, Bor, IsPermutation, is_lt}
+use Rattle.std.proofs.Common.{◌≡◌, ◌∙◌, ap, sym, subst, refl, Bool, true, false, ◌||◌, ◌&&◌, true≢false, is_lt, IsPermutation, Bor}
+use Rattle.std.proofs.Common.{List, [], ◌∷◌, map, length, take, drop, get_or, ◌-◌, ◌≤◌}
 use Rattle.std.proofs.lemmas.Bool.{or_parts}
 use Rattle.std.specs.List.{list_any}
 use Rattle.std.specs.List.Sorted.{IsSortedBy}
@@ -8,7 +9,7 @@ use Rattle.std.proofs.lemmas.List.Sorted.{IsPermutation-map, ranks_by}
 use Rattle.std.specs.Cmp.Lexicographic.{nat_list_cmp_total}
 use Rattle.filing_model.specs.Common.Text.{Text, text_cmp, text_eq, has_repeats}
 use Rattle.filing_model.proofs.Common.Texts.{has_repeats-IsPermutation, text_same}
-use Rattle.oim_fact.specs.Texts.{NoneFalls, has_neighbours, names_in}
+use Rattle.oim_fact.specs.Texts.{NoneFalls, has_equal_neighbours, names_in}
 use Rattle.oim_fact.proofs.SortedTexts.{NoneFalls-sorted, repeated_are_neighbours}
 use Rattle.std.specs.BTreeSet.{Updates}
 use Rattle.std.specs.declared.alloc.Global.{Global}
@@ -55,13 +56,13 @@ same_names (n ∷ ns) = ap (λ ts. n.now ∷ ts) (same_names ns)
 none_falls : (ns : List (Bor Text)) → IsSortedBy is_before ns → NoneFalls (texts ns)
 none_falls ns h = NoneFalls-sorted (λ n. n.now) is_before (λ x y later. later) ns h
 
-neighbours_repeat : (ns : List (Bor Text)) → NoneFalls (texts ns) → has_repeats (texts ns) ≡ has_neighbours (texts ns)
+neighbours_repeat : (ns : List (Bor Text)) → NoneFalls (texts ns) → has_repeats (texts ns) ≡ has_equal_neighbours (texts ns)
 neighbours_repeat ns h =
-    subst (λ ts. has_repeats ts ≡ has_neighbours ts) (same_names ns) (repeated_are_neighbours (alone ns) (subst NoneFalls (sym (same_names ns)) h))
+    subst (λ ts. has_repeats ts ≡ has_equal_neighbours ts) (same_names ns) (repeated_are_neighbours (alone ns) (subst NoneFalls (sym (same_names ns)) h))
 
 -- neighbours among sorted names tell whether one of the names stood twice
 pub repeats_by_neighbours : (ns sorted : List (Bor Text)) → IsPermutation ns sorted → IsSortedBy is_before sorted
-    → has_neighbours (texts sorted) ≡ has_repeats (texts ns)
+    → has_equal_neighbours (texts sorted) ≡ has_repeats (texts ns)
 repeats_by_neighbours ns sorted p h =
     sym (neighbours_repeat sorted (none_falls sorted h)) ∙ sym (has_repeats-IsPermutation _ _ (IsPermutation-map (λ n. n.now) ns sorted p))
 

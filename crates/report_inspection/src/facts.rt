@@ -22,7 +22,7 @@ ghost use Rattle.report_inspection.specs.Warnings.{kept_facts, kept_in};
 use crate::fault::{Fault, push_told};
 use filing_model::Trouble;
 use oim_fact::{Fact, Names, fit};
-use oim_report::{ReportFault, copied, raw_fact_from};
+use oim_report::{ReportFault, copy_of, raw_fact_from};
 use script_reasons::{faults_of_fact, faults_of_facts};
 use serde_json::Value;
 use std::alloc::{AllocError, Global};
@@ -55,7 +55,7 @@ fn owned_copy(alloc: Global, value: &json::Value<'_>) -> Result<Value, AllocErro
     requires { IsInRange value.now }
     ensures { IfOk result (λ v. view v ≡ data_of value.now) }
 {
-    match copied(alloc, value)? {
+    match copy_of(alloc, value)? {
         Some(value) => Ok(value),
         None => unreachable!(),
     }

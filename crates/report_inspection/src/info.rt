@@ -18,7 +18,7 @@ use crate::fault::{Fault, push_told};
 use filing_model::Allowed;
 use oim_fact::{Names, NumericTable};
 use oim_report::{
-    ReportFault, allowed_of_info, copied, has_document_type, names_of_info, owned_at, whole_text,
+    ReportFault, allowed_of_info, copy_of, has_document_type, names_of_info, owned_at, whole_text,
 };
 use script_reasons::{
     Told, names_of, tell_features_fault, tell_info_faults, tell_not_whole, tell_type_fault,
@@ -130,7 +130,7 @@ fn report_of_info(
     info: Option<Value>,
 ) -> Result<Value, AllocError> {
     if !matches!(value, json::Value::Object(_)) {
-        return match copied(alloc, value)? {
+        return match copy_of(alloc, value)? {
             Some(value) => Ok(value),
             None => Ok(Value::Null),
         };

@@ -2,7 +2,7 @@
 
 ghost use Rattle.std.specs.Prelude.{◌≡◌, IfOk, OnOk, map};
 ghost use Rattle.filing_model.specs.Common.Text.{has_repeats};
-ghost use Rattle.oim_fact.specs.Texts.{begins_with, has_neighbours};
+ghost use Rattle.oim_fact.specs.Texts.{begins_with, has_equal_neighbours};
 ghost use Rattle.json.specs.Strict.{keys};
 ghost use Rattle.json.specs.Value.{value_view, items_view, members_view};
 ghost use Rattle.report_inspection.specs.MemberNames.{Adds, is_among, is_repeated, is_repeated_in, is_repeated_in_items, is_repeated_in_values};
@@ -68,8 +68,8 @@ fn begin_with(names: &[&str], name: &str) -> bool
 }
 
 /// Whether one of these names is the one before it.
-fn have_neighbours(names: &[&str]) -> bool
-    ensures { result ≡ has_neighbours (map (λ n. n.now) names.now) }
+fn have_equal_neighbours(names: &[&str]) -> bool
+    ensures { result ≡ has_equal_neighbours (map (λ n. n.now) names.now) }
 {
     let mut left = names;
     while let [first, rest @ ..] = left {
@@ -90,7 +90,7 @@ fn have_repeats<'a>(
 {
     let mut names = names_of(alloc, members)?;
     names.sort_unstable_by(|one, other| one.cmp(other));
-    Ok(have_neighbours(&names))
+    Ok(have_equal_neighbours(&names))
 }
 
 /// Adds each name that stands more than once among these members, by a set of names.

@@ -1,19 +1,12 @@
 -- What a line of the code means.
 use Rattle.std.specs.Prelude.{Bool, true, false, option_map}
 use Rattle.serde_json.specs.Data.{Data}
-use Rattle.filing_model.specs.Sessions.Calls as call
+use Rattle.oim_fact.specs.PeriodFilterRef.{period_filter_of}
 use Rattle.script_format.specs.ScriptLines as model
-use Rattle.script_format.specs.declared.line.Period.{Period}
-use Rattle.script_format.specs.declared.line.Period.TheVariants as period
 use Rattle.script_format.specs.declared.line.Asking.{Asking}
 use Rattle.script_format.specs.declared.line.Asking.TheVariants as asking
 use Rattle.script_format.specs.declared.line.Line.{Line}
 use Rattle.script_format.specs.declared.line.Line.TheVariants.{Load, Open, Ask, Commit, Close, Export}
-
-abbrev pub period_view : Period → call.PeriodFilter
-period_view period.Any = call.Any
-period_view period.Without = call.Without
-period_view (period.Text text) = call.Exactly text.now
 
 -- with what its parts that are objects stand for
 abbrev pub asking_view : {P : Type 0} → (P → Data) → Asking P → model.Asking
@@ -21,7 +14,7 @@ asking_view part (asking.Get report id) = model.Get report.now id.now
 asking_view part (asking.Cell report dims) = model.Cell report.now (part dims.now)
 asking_view part (asking.Page report concept period after limit) = model.Page report.now (record {
   concept = concept.now;
-  period = period_view period;
+  period = period_filter_of period;
   after = option_map (λ t. t.now) after;
 }) limit
 asking_view part (asking.Add report id fact) = model.Add report.now id.now (part fact.now)

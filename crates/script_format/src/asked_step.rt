@@ -2,6 +2,7 @@
 
 ghost use Rattle.std.specs.Prelude.{◌≡◌, ◌+◌, ◌<◌, ◌^◌, Ok, Some, is_some, option_map, IfOk, IfSome, string_bytes};
 ghost use Rattle.serde_json.specs.View.{view};
+ghost use Rattle.oim_fact.specs.PeriodFilterRef as borrowed;
 ghost use Rattle.oim_fact.specs.Texts.{text_view};
 ghost use Rattle.filing_model.specs.Sessions.Calls as call;
 ghost use Rattle.filing_model.specs.Histories.History.{Ask};
@@ -9,16 +10,16 @@ ghost use Rattle.filing_step.specs.PeriodFilter.{period_filter_of};
 ghost use Rattle.filing_step.specs.Steps.{step_of};
 ghost use Rattle.script_format.specs.ScriptLines as model;
 ghost use Rattle.script_format.specs.ReplyText.{told_fault};
-ghost use Rattle.script_format.specs.LineView.{asking_view, is_plain, period_view};
+ghost use Rattle.script_format.specs.LineView.{asking_view, is_plain};
 ghost use Rattle.script_format.specs.Script.{bad_dims_text, call_read};
 ghost use Rattle.script_format.specs.AskedStep.{AreAsked, IsAsked, asking_in};
 
 use crate::json_array::JsonArray;
-use crate::line::{Asking, Period, asking_at, taken_at};
+use crate::line::{Asking, asking_at, taken_at};
 use crate::texts::{bad_fact_reply, bad_line_reply};
 use filing_model::Trouble;
 use filing_step::{Limit, PeriodFilter, Step};
-use oim_fact::own_text;
+use oim_fact::{PeriodFilterRef, own_text};
 use oim_report::{dimensions, dimensions_from, raw_fact, raw_fact_from};
 use serde_json::Value;
 use std::alloc::{AllocError, Global};
@@ -34,13 +35,13 @@ fn bad_dims_reply(alloc: Global, fault: Trouble) -> Result<String, AllocError>
 }
 
 /// The period that is asked for, with a text of its own.
-pub fn own_period(alloc: Global, period: &Period<'_>) -> Result<PeriodFilter, AllocError>
-    ensures { IfOk result (λ asked. period_filter_of asked ≡ period_view period.now) }
+pub fn own_period(alloc: Global, period: &PeriodFilterRef<'_>) -> Result<PeriodFilter, AllocError>
+    ensures { IfOk result (λ asked. period_filter_of asked ≡ borrowed.period_filter_of period.now) }
 {
     match period {
-        Period::Any => Ok(PeriodFilter::Any),
-        Period::Without => Ok(PeriodFilter::Without),
-        Period::Text(text) => Ok(PeriodFilter::Text(String::from_str(alloc, text)?)),
+        PeriodFilterRef::Any => Ok(PeriodFilter::Any),
+        PeriodFilterRef::Without => Ok(PeriodFilter::Without),
+        PeriodFilterRef::Text(text) => Ok(PeriodFilter::Text(String::from_str(alloc, text)?)),
     }
 }
 
@@ -49,13 +50,13 @@ fn page_step(
     alloc: Global,
     report: &str,
     concept: &str,
-    period: &Period<'_>,
+    period: &PeriodFilterRef<'_>,
     after: Option<&str>,
     limit: Limit,
 ) -> Result<Step, AllocError>
     ensures { IfOk result (λ s. step_of s ≡ Ask (call.Page report.now (record {
       concept = concept.now;
-      period = period_view period.now;
+      period = borrowed.period_filter_of period.now;
       after = option_map (λ t. t.now) after.entry;
     }) limit)) }
 {
@@ -76,7 +77,7 @@ fn cell_asked(alloc: Global, report: &str, dims: &Value) -> Result<Result<Step, 
     match dimensions(alloc, dims) {
         Ok(dims) => Ok(Ok(Step::Cell {
             report: String::from_str(alloc, report)?,
-            dims: dims.shared(alloc)?,
+            dims: dims.into_shared(alloc)?,
         })),
         Err(fault) => Ok(Err(bad_dims_reply(alloc, fault)?)),
     }
@@ -96,7 +97,7 @@ fn add_asked(
         Ok(fact) => Ok(Ok(Step::Add {
             report: String::from_str(alloc, report)?,
             id: String::from_str(alloc, id)?,
-            fact: fact.shared(alloc)?,
+            fact: fact.into_shared(alloc)?,
         })),
         Err(fault) => Ok(Err(bad_fact_reply(alloc, fault)?)),
     }
@@ -160,7 +161,7 @@ fn cell_from(alloc: Global, report: String, dims: Value) -> Result<Result<Step, 
     match dimensions_from(alloc, dims) {
         Ok(dims) => Ok(Ok(Step::Cell {
             report,
-            dims: dims.shared(alloc)?,
+            dims: dims.into_shared(alloc)?,
         })),
         Err(fault) => Ok(Err(bad_dims_reply(alloc, fault)?)),
     }
@@ -181,7 +182,7 @@ fn add_from(
         Ok(fact) => Ok(Ok(Step::Add {
             report,
             id,
-            fact: fact.shared(alloc)?,
+            fact: fact.into_shared(alloc)?,
         })),
         Err(fault) => Ok(Err(bad_fact_reply(alloc, fault)?)),
     }

@@ -3,13 +3,13 @@
 ghost use Rattle.std.specs.Prelude.{◌≡◌, option_map, option_and_then};
 ghost use Rattle.serde_json.specs.Data.{Data};
 ghost use Rattle.serde_json.specs.View.{view};
+ghost use Rattle.oim_fact.specs.PeriodFilterRef.{period_filter_of};
 ghost use Rattle.filing_model.specs.Reading.ReadReport.{allowed_of_word};
 ghost use Rattle.script_format.specs.ScriptLines as model;
-ghost use Rattle.script_format.specs.LineView.{period_view};
 
-use crate::line::Period;
 use filing_model::Allowed;
 use filing_step::Limit;
+use oim_fact::PeriodFilterRef;
 use oim_report::allowed_of_word;
 use serde_json::Value;
 
@@ -31,8 +31,8 @@ pub trait JsonArray {
         ensures { option_map (option_map (λ t. t.now)) result ≡ model.nullable_at place (seen self.now) };
 
     /// The period that is asked for at a place.
-    fn asked_at(&self, place: usize) -> Option<Period<'_>>
-        ensures { option_map period_view result ≡ model.asked_at place (seen self.now) };
+    fn asked_at(&self, place: usize) -> Option<PeriodFilterRef<'_>>
+        ensures { option_map period_filter_of result ≡ model.asked_at place (seen self.now) };
 
     /// The limit at a place.
     fn limit_at(&self, place: usize) -> Option<Limit>
@@ -70,11 +70,11 @@ impl JsonArray for Value {
         }
     }
 
-    fn asked_at(&self, place: usize) -> Option<Period<'_>> {
+    fn asked_at(&self, place: usize) -> Option<PeriodFilterRef<'_>> {
         match self.get(place)? {
-            Value::Bool(true) => Some(Period::Any),
-            Value::Null => Some(Period::Without),
-            Value::String(period) => Some(Period::Text(period)),
+            Value::Bool(true) => Some(PeriodFilterRef::Any),
+            Value::Null => Some(PeriodFilterRef::Without),
+            Value::String(period) => Some(PeriodFilterRef::Text(period)),
             _ => None,
         }
     }

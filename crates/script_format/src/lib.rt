@@ -25,7 +25,7 @@ mod verb;
 
 pub use asked_step::{own_period, step_asked, step_from};
 pub use json_array::{JsonArray, allowed_at};
-pub use line::{Asking, Line, Period, kind_of_word, line_of, taken_at};
+pub use line::{Asking, Line, kind_of_word, line_of, taken_at};
 pub use line_outcome::{LineOutcome, classify_line, classify_line_in};
 pub use line_value::json_value_in;
 pub use load::Loaded;

@@ -10,18 +10,8 @@ use crate::json_array::{JsonArray, allowed_at};
 use crate::verb::Verb;
 use filing_model::{Allowed, Kind, is_same_text};
 use filing_step::Limit;
+use oim_fact::PeriodFilterRef;
 use serde_json::Value;
-
-/// The period that a page asks for, as `PeriodFilter`, without a text of its own.
-#[derive(Clone, Copy)]
-pub enum Period<'a> {
-    /// Any period, or none.
-    Any,
-    /// No period.
-    Without,
-    /// This period.
-    Text(&'a str),
-}
 
 /// What a line asks of a session, with its parts in the JSON value that was read. The dimensions of a cell and the fact of an addition are not read yet.
 #[derive_where(Clone, Copy)]
@@ -37,7 +27,7 @@ pub enum Asking<'a, P = Value> {
     Page {
         report: &'a str,
         concept: &'a str,
-        period: Period<'a>,
+        period: PeriodFilterRef<'a>,
         after: Option<&'a str>,
         limit: Limit,
     },

@@ -2,14 +2,14 @@
 
 ghost use Rattle.std.specs.Prelude.{◌≡◌, option_map};
 ghost use Rattle.json.specs.Value.{value_view};
+ghost use Rattle.oim_fact.specs.PeriodFilterRef.{period_filter_of};
 ghost use Rattle.oim_report.specs.Borrowed.{IsInRange, data_of};
 ghost use Rattle.script_format.specs.ReadParts as parts;
-ghost use Rattle.script_format.specs.LineView.{period_view};
 
 use crate::json_array::JsonArray;
-use crate::line::Period;
 use filing_step::Limit;
 use json::Value;
+use oim_fact::PeriodFilterRef;
 use oim_report::number;
 
 /// A value in which each number is in range.
@@ -35,13 +35,13 @@ fn nullable_in<'a>(value: &'a Value<'_>, place: usize) -> Option<Option<&'a str>
     }
 }
 
-fn asked_in<'a>(value: &'a Value<'_>, place: usize) -> Option<Period<'a>>
-    ensures { option_map period_view result ≡ parts.asked_at place (value_view value.now) }
+fn asked_in<'a>(value: &'a Value<'_>, place: usize) -> Option<PeriodFilterRef<'a>>
+    ensures { option_map period_filter_of result ≡ parts.asked_at place (value_view value.now) }
 {
     match value.at(place)? {
-        Value::Bool(true) => Some(Period::Any),
-        Value::Null => Some(Period::Without),
-        Value::String(text) => Some(Period::Text(*text)),
+        Value::Bool(true) => Some(PeriodFilterRef::Any),
+        Value::Null => Some(PeriodFilterRef::Without),
+        Value::String(text) => Some(PeriodFilterRef::Text(*text)),
         _ => None,
     }
 }
@@ -107,7 +107,7 @@ impl<'a> JsonArray for TextArray<'a> {
         nullable_in(&self.value, place)
     }
 
-    fn asked_at(&self, place: usize) -> Option<Period<'_>> {
+    fn asked_at(&self, place: usize) -> Option<PeriodFilterRef<'_>> {
         asked_in(&self.value, place)
     }
 

@@ -35,7 +35,7 @@ fn is_in_either(from: &RepoVersion, to: &RepoVersion, name: &str) -> bool
     ensures { result ≡ (is_some (report_at (repository_in from.now) name.now)
         || is_some (report_at (repository_in to.now) name.now)) }
 {
-    from.allowed(name).is_some() || to.allowed(name).is_some()
+    from.has(name) || to.has(name)
 }
 
 /// The lines of one report, or none where neither version has it.

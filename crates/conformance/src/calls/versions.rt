@@ -55,7 +55,7 @@ fn push_sizes(alloc: Global, out: &mut String, version: &RepoVersion) -> Result<
 }
 
 /// What a session answers to a step that is a call.
-fn answered(session: &mut Session, step: Step) -> Result<Reply> {
+fn reply_to(session: &mut Session, step: Step) -> Result<Reply> {
     match step {
         Step::Get { report, id } => Ok(session.get(report, id)?),
         Step::Cell { report, dims } => Ok(session.cell(report, dims)?),
@@ -121,7 +121,7 @@ fn push_session(
 ) -> Result<()> {
     for step in steps {
         let step = line_step(alloc, &step.to_string(alloc)?)?;
-        push_reply(alloc, out, answered(session, step)?)?;
+        push_reply(alloc, out, reply_to(session, step)?)?;
     }
     push_state(alloc, out, session)?;
     let version = session.base().with_change(alloc, session.change())?;

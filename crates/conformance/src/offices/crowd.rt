@@ -48,7 +48,7 @@ fn take_all<L: Ledger + Naming, M: Ledger, R: Wait + AllocGlobal>(
 }
 
 /// What comes back of a work whose steps are taken one after the other.
-fn worked<L: Ledger + Naming, M: Ledger, R: Wait + AllocGlobal>(
+fn take_in_order<L: Ledger + Naming, M: Ledger, R: Wait + AllocGlobal>(
     rt: &R,
     office: &Office<L, M>,
     work: Work<L, M>,
@@ -121,7 +121,7 @@ fn run_rounds<
     let works = made_of_each(rt.alloc(), desks, with_steps)?;
     match way {
         Way::Steps => {
-            let run = |work: Work<L, M>| -> Ran<L, M> { worked(rt, office, work) };
+            let run = |work: Work<L, M>| -> Ran<L, M> { take_in_order(rt, office, work) };
             Ok(thread::map_vec(rt, works, &run)?)
         }
         Way::Lists | Way::Once => run_lists(rt, office, works),
@@ -151,7 +151,7 @@ fn told_of_all<L: Ledger + Naming, M: Ledger>(
     for (one, place) in ran.iter().zip(0usize..) {
         readers.learn_all(&one.2)?;
         if place == 0 {
-            drop(readers.opened(alloc, 0)?);
+            drop(readers.open_review(alloc, 0)?);
         }
         all.push(Told::of(alloc, way, place, &one.2)?)?;
     }
@@ -202,7 +202,7 @@ fn compare_end<J: Naming, R: Print + AllocGlobal>(
     println!(rt;
         "{entries} entries, {number} versions, a receipt of each from 2 on: {is_each}, {seen} learnt"
     )?;
-    let read = readers.asked(rt.alloc(), 0, line_step(rt.alloc(), way.first_read())?)?;
+    let read = readers.ask(rt.alloc(), 0, line_step(rt.alloc(), way.first_read())?)?;
     println!(rt; "a reviewer reads {read}")?;
     Ok(())
 }

@@ -19,7 +19,7 @@ pub(crate) struct Readers<J: Naming> {
 }
 
 /// What a review is answered to a step that reads.
-fn answered(alloc: Global, review: &Review, step: Step) -> Result<Reply> {
+fn reply_to(alloc: Global, review: &Review, step: Step) -> Result<Reply> {
     match step {
         Step::Get { report, id } => Ok(review.get(alloc, report, id)?),
         Step::Cell { report, dims } => Ok(review.cell(alloc, report, dims)?),
@@ -104,7 +104,7 @@ impl<J: Naming> Readers<J> {
     }
 
     /// A reviewer opens a review. The number that it has seen then.
-    pub(crate) fn opened(&mut self, alloc: Global, one: usize) -> Result<String> {
+    pub(crate) fn open_review(&mut self, alloc: Global, one: usize) -> Result<String> {
         match self.reviewers.get_mut(one) {
             Some(reviewer) => self.reviews.push(reviewer.open()?)?,
             None => return Err(anyhow!("there is no such reviewer")),
@@ -113,9 +113,9 @@ impl<J: Naming> Readers<J> {
     }
 
     /// What a review is answered.
-    pub(crate) fn asked(&self, alloc: Global, one: usize, step: Step) -> Result<String> {
+    pub(crate) fn ask(&self, alloc: Global, one: usize, step: Step) -> Result<String> {
         match self.reviews.get(one) {
-            Some(review) => told(alloc, answered(alloc, review, step)?),
+            Some(review) => told(alloc, reply_to(alloc, review, step)?),
             None => {
                 drop(step);
                 Err(anyhow!("there is no such review"))
@@ -127,8 +127,8 @@ impl<J: Naming> Readers<J> {
     pub(crate) fn act(&mut self, alloc: Global, act: &Value) -> Result<String> {
         let one = number_at(act, 1);
         match text_at(act, 0) {
-            "ask" => self.asked(alloc, one, step_at(alloc, act)?),
-            "review" => self.opened(alloc, one),
+            "ask" => self.ask(alloc, one, step_at(alloc, act)?),
+            "review" => self.open_review(alloc, one),
             "learn" => {
                 self.learn(one, number_at(act, 2))?;
                 self.seen(alloc, one)

@@ -29,7 +29,7 @@ pub(crate) fn show_bytes(rt: &HostRuntime, word: &str, bytes: &[u8]) -> Result<(
 }
 
 /// The byte that stands at the start of an escape without its backslash, and what is after it.
-fn escaped(piece: &str) -> Option<(u8, &str)> {
+fn split_escape(piece: &str) -> Option<(u8, &str)> {
     if let Some(rest) = piece.strip_prefix("n") {
         return Some((b'\n', rest));
     }
@@ -49,7 +49,7 @@ pub(crate) fn bytes_of(alloc: Global, text: &str) -> Result<Vec<u8>> {
         bytes.extend_from_slice(first.as_bytes())?;
     }
     for piece in pieces {
-        let Some((byte, rest)) = escaped(piece) else {
+        let Some((byte, rest)) = split_escape(piece) else {
             return Err(anyhow!("no escape: {piece}"));
         };
         bytes.push(byte)?;

@@ -1,7 +1,7 @@
 //! Lists in pages beside plain ones.
 
 use crate::pages::item::Item;
-use crate::pages::lists::{Kind, List, spaced};
+use crate::pages::lists::{Kind, List, spaced_items};
 use crate::pages::plain::PlainPages;
 use anyhow::{Result, anyhow};
 use sorted_pages::Edit;
@@ -76,8 +76,8 @@ pub(crate) fn compare_rounds<R: Print + AllocGlobal>(rt: &R, kind: Kind) -> Resu
         Kind::Alone => "a list",
         Kind::Report => "a report",
     };
-    let items = spaced(rt.alloc(), 0, GAP, FIRST)?;
-    let mut plain = PlainPages::filled(rt.alloc(), &items)?;
+    let items = spaced_items(rt.alloc(), 0, GAP, FIRST)?;
+    let mut plain = PlainPages::of_items(rt.alloc(), &items)?;
     let mut list = List::built(rt.alloc(), kind, items)?;
     let taken = take_rounds(rt.alloc(), &mut list, &mut plain);
     drop(list);

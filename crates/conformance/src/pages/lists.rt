@@ -25,7 +25,7 @@ pub(crate) enum List {
 }
 
 /// Items with so many keys from one number on, each by so much above the one before.
-pub(crate) fn spaced(
+pub(crate) fn spaced_items(
     alloc: Global,
     first: u64,
     step: u64,

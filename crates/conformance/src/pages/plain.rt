@@ -51,7 +51,7 @@ fn push_pieces(alloc: Global, page: &[Item], pages: &mut Vec<Vec<Item>>) -> Resu
 
 impl PlainPages {
     /// The pages of a list that is built.
-    pub(crate) fn filled(alloc: Global, items: &[Item]) -> Result<PlainPages, AllocError> {
+    pub(crate) fn of_items(alloc: Global, items: &[Item]) -> Result<PlainPages, AllocError> {
         let mut pages = Vec::new(alloc);
         for page in items.chunks(MOST) {
             pages.push(page.to_vec(alloc)?)?;

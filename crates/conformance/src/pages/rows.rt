@@ -7,7 +7,7 @@
 
 use crate::lines::is_end;
 use crate::pages::item::Item;
-use crate::pages::lists::{Kind, List, spaced};
+use crate::pages::lists::{Kind, List, spaced_items};
 use crate::question::{number_at, parts, text_at};
 use crate::sheet::{Answers, Sheet};
 use anyhow::Result;
@@ -41,7 +41,7 @@ fn told(alloc: Global, kind: Kind, list: &mut List, line: &Value) -> Result<Stri
     let (one, two, three) = (number_at(line, 1), number_at(line, 2), number_at(line, 3));
     match text_at(line, 0) {
         "spaced" => {
-            let items = spaced(alloc, one as u64, two as u64, three as u64)?;
+            let items = spaced_items(alloc, one as u64, two as u64, three as u64)?;
             drop(mem::replace(list, List::built(alloc, kind, items)?));
         }
         "change" => {

@@ -1,4 +1,4 @@
-use Rattle.std.proofs.Common.{◌≡◌, ◌∙◌, ap, sym, Some, None, cond, option_map, option_and_then, is_some}
+use Rattle.std.proofs.Common.{◌≡◌, ◌∙◌, ap, sym, Some, None, cond, option_map, option_and_then}
 use Rattle.filing_model.specs.Oim.Reports.{Report}
 use Rattle.filing_model.specs.Sessions.Repository.{report_at}
 use Rattle.filing_model.specs.Sessions.Replies.{Loaded}
@@ -20,8 +20,7 @@ returns-in-None c =
     let report = c.args.report in
     let made : version_in c.in_ok-next.next ≡ version_with name report v =
     c.in_ok-next.ensures ∙ (λ i. version_with (c.in_ok-from_str.ensures.ok i) report v) in
-    let none : report_at before name ≡ None = absent (report_at before name)
-    (ap is_some (sym c.allowed.ensures) ∙ sym c.is_some.ensures ∙ c.if-is_some.false) in
+    let none : report_at before name ≡ None = absent (report_at before name) (sym c.has.ensures ∙ c.if-has.false) in
     let there : report_at (repository_in c.in_ok-next.next) name ≡ Some report =
     ap (λ (w : Version). report_at w.repository name) made ∙ loaded_there before name report in
     let least = sym (c.in-None.ensures ∙ ap (option_and_then (λ (r : Report). least_disallowed r.allowed r.facts.entries)) there) in
@@ -46,8 +45,7 @@ returns-in_ok-reply-in-Some c =
     let next = repository_in c.in_ok-next.next in
     let made : version_in c.in_ok-next.next ≡ version_with name report v =
     c.in_ok-next.ensures ∙ (λ i. version_with (c.in_ok-from_str.ensures.ok i) report v) in
-    let none : report_at before name ≡ None = absent (report_at before name)
-    (ap is_some (sym c.allowed.ensures) ∙ sym c.is_some.ensures ∙ c.if-is_some.false) in
+    let none : report_at before name ≡ None = absent (report_at before name) (sym c.has.ensures ∙ c.if-has.false) in
     let there : report_at next name ≡ Some report = ap (λ (w : Version). report_at w.repository name) made ∙ loaded_there before name report in
     let least = sym (c.in-Some.ensures ∙ ap (option_and_then (λ (r : Report). least_disallowed r.allowed r.facts.entries)) there) in
     let told = refused before next name report dims none there least in

@@ -3,7 +3,7 @@ use Rattle.serde_json.specs.View.{view}
 use Rattle.oim_report.proofs.FactList.{entry_refused}
 use Rattle.oim_report.proofs.facts.entry.Goals as goal
 
-pub returns-in-Err-fitted-clause-entry : goal.returns-in-Err-fitted-clause-entry
-returns-in-Err-fitted-clause-entry c =
+pub returns-in-Err-fact_by_names-clause-entry : goal.returns-in-Err-fact_by_names-clause-entry
+returns-in-Err-fact_by_names-clause-entry c =
     entry_refused c.args.names.now (string_bytes c.args.id) (view c.args.value) _ _ _ c.in-Ok.ensures.fact
-    c.in-Err-fitted.ensures.fact c.bad_fact-in-Err-fitted.ensures
+    c.in-Err-fact_by_names.ensures.fact c.bad_fact-in-Err-fact_by_names.ensures

@@ -1,7 +1,7 @@
 use Rattle.std.proofs.Common.{◌∙◌, ap, map}
 use Rattle.std.specs.Option.{option_map}
 use Rattle.filing_model.specs.Sessions.Queries.{answers_query}
-use Rattle.filing_facts.specs.PeriodFilterRef.{period_filter_of}
+use Rattle.oim_fact.specs.PeriodFilterRef.{period_filter_of}
 use Rattle.filing_index.proofs.FoundEntries.{found_ids}
 use Rattle.filing_index.proofs.ids.Ids.of_query.Goals as goal
 

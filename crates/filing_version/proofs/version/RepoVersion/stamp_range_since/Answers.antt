@@ -1,6 +1,6 @@
 use Rattle.std.proofs.Common.{◌∙◌, option_map}
 use Rattle.filing_facts.specs.FactChanges.{Range}
-use Rattle.filing_facts.specs.PeriodFilterRef.{period_filter_of}
+use Rattle.oim_fact.specs.PeriodFilterRef.{period_filter_of}
 use Rattle.filing_version.proofs.version.RepoVersion.stamp_range_since.Goals as goal
 
 pub returns-in-Some : goal.returns-in-Some

@@ -2,7 +2,7 @@ use Rattle.std.proofs.Common.{sym, subst}
 use Rattle.filing_model.proofs.Common.MapsOfLists.{from_entries-sorted}
 use Rattle.oim_report.specs.Parts.{IsInfo, facts_view}
 use Rattle.oim_report.specs.Readable.{AreFitted, IsReadable}
-use Rattle.oim_report.proofs.reading.assembled.Goals as goal
+use Rattle.oim_report.proofs.reading.assemble.Goals as goal
 
 pub returns-clause-readable : goal.returns-clause-readable
 returns-clause-readable c =

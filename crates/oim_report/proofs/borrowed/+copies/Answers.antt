@@ -7,10 +7,10 @@ use Rattle.serde_json.specs.Read.{of_json, of_items, of_members}
 use Rattle.serde_json.specs.View.{view, members_view}
 use Rattle.serde_json.proofs.Views.{members_view-insert_entry}
 use Rattle.oim_report.proofs.CopiedValues.{all_copied, before, item_copied, member_copied}
-use Rattle.oim_report.proofs.borrowed.+copied.Goals as goal
+use Rattle.oim_report.proofs.borrowed.+copies.Goals as goal
 
-pub copied_items-loop-item-preserved : goal.copied_items-loop-item-preserved
-copied_items-loop-item-preserved t c =
+pub copy_of_items-loop-item-preserved : goal.copy_of_items-loop-item-preserved
+copy_of_items-loop-item-preserved t c =
     let l = c.loop-item in
     let i = l.item-index in
     let xs = c.deref-item-items.result.now in
@@ -24,8 +24,8 @@ copied_items-loop-item-preserved t c =
     ∙ ap (λ ys. option_map (before l.copies.items) (of_items (read.items_view ys))) of_all
     ∙ item_copied (value_view x) (read.items_view (drop (i + 1) c.args.items.now.items)) _ _ c.in-Some.copy is c.in_ok-push-in-Some.ensures.items
 
-pub copied_items-returns : goal.copied_items-returns
-copied_items-returns t c =
+pub copy_of_items-returns : goal.copy_of_items-returns
+copy_of_items-returns t c =
     let l = c.loop-item in
     let none_left : drop l.item-index c.args.items.now.items ≡ [] =
     subst (λ ys. drop l.item-index ys ≡ []) c.deref-item-items.ensures.value (drop_all l.item-index c.deref-item-items.result.now (omega arith)) in
@@ -33,8 +33,8 @@ copied_items-returns t c =
     ∙ ap (λ ys. option_map (before l.copies.items) (of_items (read.items_view ys))) none_left
     ∙ ap (λ ds. Some ds) (all_copied l.copies.items))
 
-pub copied_members-loop-member-preserved : goal.copied_members-loop-member-preserved
-copied_members-loop-member-preserved t c =
+pub copy_of_members-loop-member-preserved : goal.copy_of_members-loop-member-preserved
+copy_of_members-loop-member-preserved t c =
     let l = c.loop-member in
     let i = l.member-index in
     let xs = c.deref-member-items.result.now in

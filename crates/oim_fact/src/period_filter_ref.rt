@@ -1,7 +1,7 @@
 //! The period filter of a query, borrowed.
 ghost use Rattle.std.specs.Prelude.{◌≡◌, option_map};
 ghost use Rattle.filing_model.specs.Sessions.Queries.{is_asked};
-ghost use Rattle.filing_facts.specs.PeriodFilterRef.{period_filter_of};
+ghost use Rattle.oim_fact.specs.PeriodFilterRef.{period_filter_of};
 
 use filing_model::is_same_text;
 
