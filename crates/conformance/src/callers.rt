@@ -1,7 +1,7 @@
 //! Runs the worked callers of `embedding`, and prints what each was answered.
 
 use anyhow::{Result, anyhow};
-use embedding::core_by_hand::{add_and_commit, answered, load, open};
+use embedding::core_by_hand::{add_and_commit, entries_of, load, open};
 use embedding::journal_in_memory::put_and_crash;
 use embedding::judged_history::{is_lawful, judge_core};
 use embedding::lone_session::{run_alone, version_of};
@@ -36,7 +36,7 @@ fn print_reply<R: Print + AllocGlobal>(rt: &R, who: &str, reply: &Reply) -> Resu
 
 fn show_core<R: Print + AllocGlobal>(rt: &R) -> Result<()> {
     let core = amended_core(rt.alloc())?;
-    for entry in answered(&core) {
+    for entry in entries_of(&core) {
         print_reply(rt, "core", &entry.reply)?;
     }
     Ok(())
@@ -60,7 +60,7 @@ fn show_session<R: Print + AllocGlobal>(rt: &R) -> Result<()> {
 
 /// What is left of an office: its core, and a review that goes on after its end.
 fn show_office<R: Print + AllocGlobal>(rt: &R, core: &Core, review: &Review) -> Result<()> {
-    println!(rt; "office: {} entries", answered(core).len())?;
+    println!(rt; "office: {} entries", entries_of(core).len())?;
     let alloc = rt.alloc();
     let found = review.get(alloc, text(alloc, "second")?, text(alloc, "f1")?)?;
     print_reply(rt, "review", &found)

@@ -33,7 +33,7 @@ pub fn open(core: &mut Core, alloc: Global) -> Result<u64, CoreFault>
     ensures { IfOk result (λ number. status_of number core.new.history ≡ Live Amend) }
 {
     core.step(alloc, None, Step::Open(Kind::Amend))?;
-    Ok(core.engine().opened())
+    Ok(core.engine().opened_count())
 }
 
 /// Takes an addition of a session, and commits it. The reply to the commit is the one that keeps the history lawful after all that was answered before.
@@ -52,7 +52,7 @@ pub fn add_and_commit(
 
 /// All that was answered, oldest first. In whatever order the steps of sessions came: each that committed was answered as if it
 /// had run alone at its commit, and each other as if it had at its opening.
-pub fn answered(core: &Core) -> &[Entry]
+pub fn entries_of(core: &Core) -> &[Entry]
     ensures { IsSerial core.now.history }
 {
     core.history()

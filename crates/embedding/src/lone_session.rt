@@ -36,7 +36,7 @@ pub fn version_of(
 }
 
 /// Makes two calls of a session: the second sees what the first has staged.
-fn ask(session: &mut Session, first: Call, second: Call) -> Result<Replies, AllocError>
+fn call_twice(session: &mut Session, first: Call, second: Call) -> Result<Replies, AllocError>
     ensures { IfOk result (λ replies. replies_to (call_of first ∷ call_of second ∷ []) session.old.state
         ≡ reply_of replies.first ∷ reply_of replies.second ∷ []) }
 {
@@ -60,6 +60,6 @@ pub fn run_alone(
         ≡ reply_of replies.first ∷ reply_of replies.second ∷ []) }
 {
     let mut session = Session::open(alloc, Kind::Amend, version)?;
-    let replies = ask(&mut session, first, second)?;
+    let replies = call_twice(&mut session, first, second)?;
     Ok(replies)
 }

@@ -91,7 +91,7 @@ fn explain_verdict(
     if status == 0 {
         let _ = eprintln!(rt;
             "filing: {} entries are lawful, and make version {}",
-            engine.taken(),
+            engine.step_count(),
             engine.current().number()
         );
     } else {

@@ -45,7 +45,7 @@ fn number_fault(
             Ok(Some(told))
         }
         (Step::Open(_), session) => {
-            let due = engine.opened().saturating_add(1);
+            let due = engine.opened_count().saturating_add(1);
             if session == Some(due) {
                 return Ok(None);
             }

@@ -88,7 +88,7 @@ impl<T: TakesSteps + Drop> ScriptMachine<T> {
         }
         let answer = self.take(alloc, None, Step::Open(kind))?;
         let name = String::from_str(alloc, session)?;
-        let number = self.taker.as_engine().opened();
+        let number = self.taker.as_engine().opened_count();
         self.names.insert(name, number)?;
         Ok(answer)
     }
