@@ -34,7 +34,7 @@ pub(crate) enum Form {
 }
 
 /// The argument as `clap` takes it.
-pub(crate) fn made<'a>(alloc: Global, argument: Argument) -> Arg<'a>
+pub(crate) fn clap_arg<'a>(alloc: Global, argument: Argument) -> Arg<'a>
     ensures rule { rule_of result ≡ rule_for argument }
     ensures local { result.global ≡ false }
 {

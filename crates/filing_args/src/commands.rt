@@ -8,7 +8,8 @@ ghost use Rattle.filing_args.specs.Words.{taking, run, load, check, show, diff, 
 
 use crate::arguments::{
     ALLOWING, AT, Argument, EARLIER, EVERY_REPLY, EXPLAIN, FIRST, FROM, HISTORY, JOURNAL, JUDGED,
-    KEEPING, LATER, LOADED, NUMERIC, PLAIN, REPORT, REPORTS, SCRIPTS, STRICT, SVG, VIEWED, made,
+    KEEPING, LATER, LOADED, NUMERIC, PLAIN, REPORT, REPORTS, SCRIPTS, STRICT, SVG, VIEWED,
+    clap_arg,
 };
 use crate::help::{
     BEGINNING, DIFFERENCES, INSPECTIONS, LINES, LOADS, REFUSALS, SESSIONS, THREADS, VERDICTS,
@@ -32,7 +33,7 @@ fn command_of<'a>(
 {
     let mut command = Command::new(alloc, name).about(about).after_long_help(help);
     for argument in arguments {
-        command = command.arg(made(alloc, *argument))?;
+        command = command.arg(clap_arg(alloc, *argument))?;
     }
     Ok(command)
 }

@@ -31,7 +31,7 @@ fn is_given(command: &ArgMatches<'_>, id: &str) -> bool
 }
 
 /// The value of an argument without which `clap` takes no words.
-fn needed<'a>(command: &ArgMatches<'a>, id: &str) -> Result<&'a str, WordsFault>
+fn needed_value<'a>(command: &ArgMatches<'a>, id: &str) -> Result<&'a str, WordsFault>
     ensures { IfOk result (λ word. Some word.now ≡ first_of id.now (rows_of (found_of command.now))) }
 {
     match value_of(command, id) {
@@ -41,7 +41,7 @@ fn needed<'a>(command: &ArgMatches<'a>, id: &str) -> Result<&'a str, WordsFault>
 }
 
 /// The values of an argument without which `clap` takes no words.
-fn all_needed<'a>(
+fn all_needed_values<'a>(
     alloc: Global,
     command: &ArgMatches<'a>,
     id: &str,
@@ -85,8 +85,8 @@ fn load_words<'a>(alloc: Global, load: &ArgMatches<'a>) -> Result<LoadWords<'a>,
 {
     Ok(LoadWords {
         numeric: tables_given(alloc, load)?,
-        journal: needed(load, "keeping")?,
-        reports: all_needed(alloc, load, "loaded")?,
+        journal: needed_value(load, "keeping")?,
+        reports: all_needed_values(alloc, load, "loaded")?,
     })
 }
 
@@ -96,7 +96,7 @@ fn check_words<'a>(alloc: Global, check: &ArgMatches<'a>) -> Result<CheckWords<'
 {
     Ok(CheckWords {
         numeric: tables_given(alloc, check)?,
-        history: needed(check, "judged")?,
+        history: needed_value(check, "judged")?,
         explain: is_given(check, "explain"),
     })
 }
@@ -108,7 +108,7 @@ fn show_words<'a>(alloc: Global, show: &ArgMatches<'a>) -> Result<ShowWords<'a>,
     Ok(ShowWords {
         numeric: tables_given(alloc, show)?,
         version: value_of(show, "at"),
-        history: needed(show, "viewed")?,
+        history: needed_value(show, "viewed")?,
         report: value_of(show, "report"),
     })
 }
@@ -119,9 +119,9 @@ fn diff_words<'a>(alloc: Global, diff: &ArgMatches<'a>) -> Result<DiffWords<'a>,
 {
     Ok(DiffWords {
         numeric: tables_given(alloc, diff)?,
-        history: needed(diff, "viewed")?,
-        from: needed(diff, "earlier")?,
-        to: needed(diff, "later")?,
+        history: needed_value(diff, "viewed")?,
+        from: needed_value(diff, "earlier")?,
+        to: needed_value(diff, "later")?,
         report: value_of(diff, "report"),
     })
 }
@@ -132,7 +132,7 @@ fn log_words<'a>(alloc: Global, log: &ArgMatches<'a>) -> Result<LogWords<'a>, Wo
 {
     Ok(LogWords {
         numeric: tables_given(alloc, log)?,
-        history: needed(log, "viewed")?,
+        history: needed_value(log, "viewed")?,
         svg: is_given(log, "svg"),
         first: value_of(log, "first"),
     })
@@ -147,7 +147,7 @@ fn inspect_words<'a>(
 {
     Ok(InspectWords {
         numeric: tables_given(alloc, inspect)?,
-        reports: all_needed(alloc, inspect, "reports")?,
+        reports: all_needed_values(alloc, inspect, "reports")?,
         allowing: value_of(inspect, "allowing"),
         text: is_given(inspect, "plain"),
     })
@@ -165,7 +165,7 @@ fn threads_words<'a>(
         history: value_of(threads, "history"),
         from: value_of(threads, "from"),
         journal: value_of(threads, "journal"),
-        scripts: all_needed(alloc, threads, "scripts")?,
+        scripts: all_needed_values(alloc, threads, "scripts")?,
         explain: is_given(threads, "explain"),
         strict: is_given(threads, "strict"),
     })
@@ -194,7 +194,7 @@ fn command_given<'a>(
 }
 
 /// What the words that `clap` has taken ask for. It takes none without a command.
-pub(crate) fn ordered<'a>(
+pub(crate) fn invocation_of<'a>(
     alloc: Global,
     matches: &ArgMatches<'a>,
 ) -> Result<Invocation<'a>, WordsFault>

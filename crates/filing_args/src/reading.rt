@@ -7,7 +7,7 @@ ghost use Rattle.filing_args.specs.declared.invocation.Invocation.TheVariants.{S
 
 use crate::commands::command;
 use crate::fault::WordsFault;
-use crate::given::ordered;
+use crate::given::invocation_of;
 use crate::invocation::Invocation;
 use crate::stray::stray_word;
 use clap::error::ErrorKind;
@@ -43,13 +43,13 @@ pub fn read_words<'a, R: Print + Eprint + AllocGlobal>(
     let mut command: Command<'a> = command(rt.alloc())?;
     match command.try_get_matches_from_mut(words) {
         Ok(matches) => {
-            let order = ordered(rt.alloc(), &matches);
+            let order = invocation_of(rt.alloc(), &matches);
             drop(matches);
             drop(command);
             order
         }
         Err(error) => {
-            let order = shown(rt, &error);
+            let order = show_error(rt, &error);
             hint(rt, &error, words);
             drop(error);
             drop(command);
@@ -59,7 +59,7 @@ pub fn read_words<'a, R: Print + Eprint + AllocGlobal>(
 }
 
 /// Tells an error of the words, or shows help, and answers what is left to do.
-fn shown<'a, R: Print + Eprint>(rt: &R, error: &Error) -> Result<Invocation<'a>, WordsFault>
+fn show_error<'a, R: Print + Eprint>(rt: &R, error: &Error) -> Result<Invocation<'a>, WordsFault>
     ensures shown { IfOk result (λ o. o ≡ Shown) }
     ensures asked { IfOk result (λ _. (kind_of error.now ≡ ErrorKind.DisplayHelp)
         ⊎ (kind_of error.now ≡ ErrorKind.DisplayVersion)) }

@@ -14,7 +14,7 @@ loop-argument-init c =
 pub loop-argument-preserved : goal.loop-argument-preserved
 loop-argument-preserved c =
     let at = c.loop-argument in
-    c.in_ok-command.ensures.shape c.made.ensures.local ∙ ap₂ with_rule at.invariant c.made.ensures.rule
+    c.in_ok-command.ensures.shape c.clap_arg.ensures.local ∙ ap₂ with_rule at.invariant c.clap_arg.ensures.rule
     ∙ ap (taking c.args.name.now) (sym (map_more rule_for c.args.arguments.now at.argument-index _ c.loop-argument-test.true))
 
 pub returns : goal.returns

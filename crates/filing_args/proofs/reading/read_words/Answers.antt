@@ -11,8 +11,8 @@ returns-in-Ok g c =
     let line = app_of c.in_ok-command.command in
     let is = c.in_ok-command.ensures in
     let enters = program_enters line words c.in-Ok.matches is c.in-Ok.ensures.ok.2 in
-    asks_command words c.ordered-order.result (program_takes line words is c.in-Ok.ensures.kinds)
-    (subst (λ entered. IfOk c.ordered-order.result (IsOrdered entered)) enters c.ordered-order.ensures)
+    asks_command words c.invocation_of-order.result (program_takes line words is c.in-Ok.ensures.kinds)
+    (subst (λ entered. IfOk c.invocation_of-order.result (IsOrdered entered)) enters c.invocation_of-order.ensures)
 
 pub returns-in-Err : goal.returns-in-Err
 returns-in-Err g c =
@@ -20,5 +20,5 @@ returns-in-Err g c =
     let line = app_of c.in_ok-command.command in
     let is = c.in_ok-command.ensures in
     let error = c.in-Err.error in
-    asks_shown words error.kind c.shown-order.result (program_passes line words error is c.in-Err.ensures.passes)
-    (program_fails line words error is c.in-Err.ensures.kinds) c.shown-order.ensures.shown c.shown-order.ensures.asked
+    asks_shown words error.kind c.show_error-order.result (program_passes line words error is c.in-Err.ensures.passes)
+    (program_fails line words error is c.in-Err.ensures.kinds) c.show_error-order.ensures.shown c.show_error-order.ensures.asked

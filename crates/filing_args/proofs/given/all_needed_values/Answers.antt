@@ -2,7 +2,7 @@ use Rattle.std.proofs.Common.{◌∙◌, ap, Bor, List, Some, ℕ}
 use Rattle.clap.specs.Walk.{texts}
 use Rattle.clap.specs.Words.{found_of}
 use Rattle.clap.proofs.WalkLemmas.{raw_values-rows}
-use Rattle.filing_args.proofs.given.all_needed.Goals as goal
+use Rattle.filing_args.proofs.given.all_needed_values.Goals as goal
 
 pub returns-in_ok-to_vec-in-Some : goal.returns-in_ok-to_vec-in-Some
 returns-in_ok-to_vec-in-Some c =

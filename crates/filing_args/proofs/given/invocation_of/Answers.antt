@@ -1,7 +1,7 @@
 use Rattle.std.proofs.Common.{IfOk, subst, sym}
 use Rattle.filing_args.specs.Words.{IsOrdered}
 use Rattle.filing_args.proofs.Entered.{both_read}
-use Rattle.filing_args.proofs.given.ordered.Goals as goal
+use Rattle.filing_args.proofs.given.invocation_of.Goals as goal
 
 pub returns-in-Some : goal.returns-in-Some
 returns-in-Some c =
