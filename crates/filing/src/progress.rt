@@ -215,7 +215,7 @@ impl Watch for Steps {
     }
 
     // The process ends soon. To give the core back fact by fact takes long; the system takes all of it at once.
-    fn done_with<T: Drop>(&self, remains: T) {
+    fn free_core<T: Drop>(&self, remains: T) {
         forget(remains);
     }
 }

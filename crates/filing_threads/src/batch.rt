@@ -39,7 +39,11 @@ fn begins_deep(alloc: Global, step: &Step) -> Result<bool, AllocError>
 }
 
 /// Whether a line is left out, since it takes a step whose entry nests too deep for the journal that is kept.
-fn is_left_out(alloc: Global, journaled: bool, outcome: &LineOutcome) -> Result<bool, AllocError>
+fn is_too_deep_for_journal(
+    alloc: Global,
+    journaled: bool,
+    outcome: &LineOutcome,
+) -> Result<bool, AllocError>
     ensures { IfOk result (λ left_out. left_out ≡ is_left_out journaled outcome.now) }
 {
     if !journaled {
@@ -106,7 +110,7 @@ impl Batch {
         ensures { IfOk result (Classifies journaled (arc_value table.now) line.now self.old self.new) }
     {
         let outcome = classify_line_in(alloc, line, table, room)?;
-        if is_left_out(alloc, journaled, &outcome)? {
+        if is_too_deep_for_journal(alloc, journaled, &outcome)? {
             drop(outcome);
             self.ends_deep = true;
             return Ok(false);

@@ -9,7 +9,7 @@ pub trait Watch: Sync {
 
     /// Called with the core, which nobody reads any more, once all steps are taken.
     /// Here its memory is freed; where the process ends soon, `std::mem::forget` leaves that to the system.
-    fn done_with<T: Drop>(&self, remains: T) {
+    fn free_core<T: Drop>(&self, remains: T) {
         drop(remains);
     }
 }

@@ -32,7 +32,7 @@ fn name_of(path: &str) -> &str {
 }
 
 /// Whether the path of a file is that of one to load: no folder, and none whose name begins with a dot.
-fn is_report(rt: &HostRuntime, path: &str) -> IoResult<bool> {
+fn is_file_to_load(rt: &HostRuntime, path: &str) -> IoResult<bool> {
     Ok(!name_of(path).starts_with('.') && !fs::metadata(rt, path)?.is_dir())
 }
 
@@ -41,7 +41,7 @@ fn files_in(rt: &HostRuntime, folder: &str) -> IoResult<Vec<String>> {
     let mut paths = Vec::new(rt.alloc());
     for entry in fs::read_dir(rt, folder)? {
         let path = String::from_str(rt.alloc(), entry?.path().as_str())?;
-        if is_report(rt, path.as_str())? {
+        if is_file_to_load(rt, path.as_str())? {
             paths.push(path)?;
         }
     }

@@ -8,7 +8,7 @@ returns-then-branch c = (
   record {
     due = c.in_ok-outcome.outcome;
     outcome = c.in_ok-outcome.ensures;
-    left_out = sym c.in_ok-is_left_out.ensures ∙ c.if-branch.true;
+    left_out = sym c.in_ok-is_too_deep_for_journal.ensures ∙ c.if-branch.true;
   },
   refl,
 )
@@ -16,4 +16,4 @@ returns-then-branch c = (
 pub returns : goal.returns
 returns c =
     adds_line c.args.journaled (arc_value c.args.table.now) c.args.line.now c.in_ok-outcome.outcome c.args.self.now c.push.new.self c.in_ok-outcome.ensures
-    (sym c.in_ok-is_left_out.ensures ∙ c.if-branch.false) c.in_ok-push.ensures
+    (sym c.in_ok-is_too_deep_for_journal.ensures ∙ c.if-branch.false) c.in_ok-push.ensures
