@@ -23,6 +23,7 @@ from trials.starts import (
     expect,
     holds,
     is_due,
+    is_torn,
     judged,
     made,
     shortened,
@@ -104,11 +105,14 @@ class Disk:
         self.synced, self.waiting = self.seen, []
 
     def after_power_cut(self):
-        """What may be there: of each write that waits all, nothing, a part or anything, and of a cut any of it."""
+        """What may be there: of each write that waits all, nothing, a part or anything, of a cut any of it, and of one byte
+        all, nothing or a zero past the end."""
         left = self.synced
         for at, data in self.waiting:
             if data is None:
                 left = left[: self.draw.randint(at, max(at, len(left)))]
+            elif len(data) == 1:
+                left = put(left, at, self.draw.choice([data, left[at : at + 1] or self.draw.choice([b"", b"\0"])]))
             else:
                 left = put(left, at, self.torn(data))
         return left
@@ -150,10 +154,14 @@ def power_cuts(folder, number, every_reply):
         start.ask(clerk.lines(count))
     start.ends()
     lines, _ = start.left(LINES, content(folder / "j"))
-    disk, written, cuts = Disk(before, random.Random(number)), 0, 0
+    disk, written, cuts, journal = Disk(before, random.Random(number)), 0, 0, None
     for name, file, data, place in calls_in(folder / "log"):
+        # The first sync is that of the journal; the bytes that are cut off go to another file.
+        journal = file if journal is None and name == "fsync" else journal
         if name == "write":
             written += len(data) if file == 1 else 0
+        elif file != journal:
+            continue
         elif name == "pwrite64":
             disk.write(place, data)
         elif name == "ftruncate":
@@ -161,7 +169,9 @@ def power_cuts(folder, number, every_reply):
         else:
             disk.sync()
         for _ in range(10):
-            left, _ = counted(disk.after_power_cut())
+            left, behind = counted(disk.after_power_cut())
+            if not is_torn(behind):
+                raise Differs(f"a power cut leaves a file that is refused: {shortened(behind)}")
             found, due = left.count(b"\n"), LINES.count(b"\n") + due_after(start, written)
             if not lines.startswith(left):
                 raise Differs(

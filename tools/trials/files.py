@@ -145,37 +145,85 @@ def _(folder):
 TAILS = {
     "a staged batch": GATE + b'2,["open","review"],["opened"]]\n\n',
     "a part of a staged batch": GATE + b'2,["open","rev',
-    "further lines behind the gate": GATE + MORE_LINES,
-    "further lines and gates": GATE + MORE_LINES + GATE + GATE,
     "many gates": GATE * 5_000,
+    "zeros behind the gate": GATE + bytes(4096),
     "bytes that are no text": GATE + bytes(range(256)) * 50,
-    "a half line": b'[2,["open","review"],["ope',
-    "a whole line that no line feed ends": MORE_LINES[: MORE_LINES.index(b"\n")],
-    "one byte": b"x",
-    "a gate that is another byte, with a batch behind it": b'x2,["open","review"],["opened"]]\n\n',
-    "a carriage return before the gate": b"\r\n",
+    "a zero in the gate's place": b"\0",
 }
+
+
+def kept(path, tail, number=1):
+    """What is told of a tail that was cut off, which is in a file beside; nothing of a gate."""
+    if len(tail) < 2:
+        return b""
+    beside = path.with_name(f"{path.name}.cut-{number}")
+    holds(beside, tail)
+    expect("its rights", stat.S_IMODE(beside.stat().st_mode), 0o600)
+    told = 'filing: warning: journal, line %d: %d bytes of a put that was under way were cut off, and kept in "%s"\n'
+    return (told % (LINES.count(b"\n") + 1, len(tail), beside)).encode()
+
 
 for _name, _tail in TAILS.items():
 
-    @case(f"what stands behind the lines is cut off, and told where it is more than a gate: {_name}")
+    @case(f"what a put left behind the lines is cut off, and kept where it is more than a gate: {_name}")
     def _(folder, tail=_tail):
         run = Run(made(folder / "j", LINES + tail))
         run.ends()
-        line = LINES.count(b"\n") + 1
-        warning = b"filing: warning: journal, line %d: %d bytes that count for nothing were cut off\n" % (
-            line,
-            len(tail),
-        )
-        expect("the warning", run.warned, warning if len(tail) > 1 else b"")
+        expect("the warning", run.warned, kept(folder / "j", tail))
         holds(folder / "j", LINES + GATE)
         goes_on(made(folder / "other", LINES + tail))
         threads, script = made(folder / "threads", LINES + tail), made(folder / "script", MORE)
         words = ["threads", "--numeric", TRIED.table, "--journal", str(threads), str(script)]
         done = subprocess.run([TRIED.program, *words], capture_output=True, timeout=PATIENCE)
-        expect("the warning of threads", done.stderr, warning if len(tail) > 1 else b"")
+        expect("the warning of threads", done.stderr, kept(threads, tail))
         # A review in threads takes no lock, and so is no entry.
         holds(threads, LINES + GATE)
+
+
+@case("what is cut off is kept under the first name that is free, where a link leads; nothing is written over")
+def _(folder):
+    (folder / "sub").mkdir()
+    (folder / "link").symlink_to("sub/j")
+    tail = TAILS["a staged batch"]
+    made(folder / "sub" / "j.cut-1", b"other")
+    run = Run(made(folder / "sub" / "j", LINES + tail) and folder / "link")
+    run.ends()
+    expect("the warning", run.warned, kept((folder / "sub").resolve() / "j", tail, 2))
+    holds(folder / "sub" / "j.cut-1", b"other")
+    alone(folder, "link", "sub")
+    alone(folder / "sub", "j", "j.cut-1", "j.cut-2")
+
+
+@case("where no file can be made beside it, it is a write fault, and nothing is cut off")
+def _(folder):
+    if not IS_ROOT:
+        raise PassedOver("it wants root")
+    (folder / "sub").mkdir()
+    journal = made(folder / "sub" / "j", LINES + TAILS["a staged batch"], 0o666)
+    (folder / "sub").chmod(0o555)
+    Run(journal, **AS_NOBODY).ends(1, b"", WRITE_FAULT)
+    holds(journal, LINES + TAILS["a staged batch"])
+
+
+DAMAGE = {
+    "further lines behind the gate": GATE + MORE_LINES,
+    "further lines and gates": GATE + MORE_LINES + GATE + GATE,
+    "an object behind the gate": GATE + b"{}\n",
+    "a half line": b'[2,["open","review"],["ope',
+    "a whole line that no line feed ends": MORE_LINES[: MORE_LINES.index(b"\n")],
+    "a line that begins with two brackets": b"[" + MORE_LINES,
+    "one byte": b"x",
+    "two zeros": bytes(2),
+    "a gate that is another byte, with a batch behind it": b'x2,["open","review"],["opened"]]\n\n',
+    "a carriage return before the gate": b"\r\n",
+}
+
+for _name, _tail in DAMAGE.items():
+
+    @case(f"what no put left behind the lines is damage: {_name}")
+    def _(folder, tail=_tail):
+        refused(made(folder / "j", LINES + tail), LINES.count(b"\n") + 1)
+        alone(folder, "j")
 
 
 @case("what is taken can be read again, however deep the links of a fact nest, added or loaded")
@@ -244,11 +292,9 @@ def _(folder):
     holds(folder / "j", LINES + MORE_LINES + GATE)
 
 
-@case("an empty file, a file of one byte, many empty lines, lines behind an empty one: no line counts")
+@case("an empty file, a gate or a zero, many empty lines, a first batch that was not acknowledged: no line counts")
 def _(folder):
-    for number, data in enumerate(
-        [b"", b"\n", b"x", b"[", b"\0", GATE * 5_000, GATE + b"hello\n", GATE + LINES, b"[half", b"[" * 5_000]
-    ):
+    for number, data in enumerate([b"", b"\n", b"\0", GATE * 5_000, GATE + b"hello\n", GATE + LINES[1:]]):
         begins_anew(made(folder / f"j{number}", data))
 
 
@@ -258,7 +304,7 @@ def _(folder):
 @case("a foreign file is refused at line 1")
 def _(folder):
     for number, data in enumerate(
-        [b"hello\n", b"he", b"\xef\xbb\xbf" + LINES, b" " + LINES, b"\r\n", b"{}\n", b"\0\0", b"x" * 100_000]
+        [b"hello\n", b"h", b"\xef\xbb\xbf" + LINES, b" " + LINES, GATE + LINES, b"{}\n", b"\0\0", b"[half", b"[" * 5_000]
     ):
         refused(made(folder / f"j{number}", data), 1)
 
@@ -317,18 +363,17 @@ def _(folder):
     Run(folder / "j").ends()
 
 
-@case("a line whose first letter is another ends what counts: all from there on is cut off")
+@case("a line whose first letter is another, an empty line and one with a bracket more are refused, and nothing is cut off")
 def _(folder):
-    made(folder / "j", lines_with(3, b"[1,", b"(1,") + GATE)
-    Run(folder / "j").ends()
-    holds(folder / "j", b"".join(LINES.splitlines(True)[:2]) + GATE)
+    for number, new in enumerate([b"(1,", b"\n[1,", b"[[1,", b"[{1,", b"1,"]):
+        refused(made(folder / f"j{number}", lines_with(3, b"[1,", new) + GATE), 3)
 
 
 @case("cut off by hand before the line that it names, it goes on")
 def _(folder):
     made(folder / "j", lines_with(3, b'"staged"', b'"stagee"') + GATE + b"torn")
     refused(folder / "j", 3)
-    count = subprocess.run("sed '/^\\[/!Q' j | wc -l", shell=True, cwd=folder, capture_output=True, check=True)
+    count = subprocess.run("sed '/^\\[[^[{]/!Q' j | wc -l", shell=True, cwd=folder, capture_output=True, check=True)
     expect("the lines that count", int(count.stdout), 4)
     by_hand = "head -n 2 j > j.new; echo >> j.new; sync j.new; mv j.new j; sync ."
     subprocess.run(["sh", "-e", "-c", by_hand], cwd=folder, check=True)

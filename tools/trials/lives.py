@@ -79,16 +79,14 @@ class Life:
             if line.told is not None:
                 self.counts[line.told[2:].split(b'"')[0].decode()] += 1
         if self.draw.random() < 0.15:
-            self.spoil(lines, behind)
+            self.spoil(lines)
 
-    def spoil(self, lines, behind):
-        """Puts behind the lines what a power cut could leave there: anything behind the gate, and another byte for the gate."""
+    def spoil(self, lines):
+        """Puts behind the lines what a power cut could leave there: behind the gate a zero or what goes on an entry."""
         rubbish = self.draw.randbytes(self.draw.choice([0, 1, 40, 5_000]))
         entries = b"".join(self.draw.choices(lines.splitlines(True) or [b"[1]\n"], k=3))
-        tails = [GATE + rubbish, GATE + entries, GATE + entries[1:] + GATE, GATE + bytes(4096), b"", b"[", b"x", b"[1]"]
-        if lines and len(behind) > 1:
-            tails.append(b"x" + behind[1:])
-        self.behind = self.draw.choice(tails)
+        tails = [GATE, GATE + b"\0" + rubbish, GATE + entries[1:] + GATE, GATE + entries[1:2] + rubbish]
+        self.behind = self.draw.choice([*tails, GATE + bytes(4096), b"", b"\0"])
         self.journal.write_bytes(lines + self.behind)
         self.counts["tails spoiled"] += 1
 

@@ -50,9 +50,16 @@ def at_line(number):
 def counted(data):
     """The lines that a file stands for, and what stands behind them."""
     end = 0
-    while data[end : end + 1] == b"[" and (feed := data.find(b"\n", end)) >= 0:
+    while data[end : end + 1] == b"[" and data[end + 1 : end + 2] not in (b"[", b"{"):
+        if (feed := data.find(b"\n", end)) < 0:
+            break
         end = feed + 1
     return data[:end], data[end:]
+
+
+def is_torn(tail):
+    """Whether a put or an opening that was cut short may leave this behind the lines."""
+    return tail in (b"", b"\0") or tail.startswith(GATE) and not tail.startswith((b"\n[", b"\n{"))
 
 
 def content(path):
@@ -77,7 +84,9 @@ def words_of(journal, every_reply=False, table=None):
     ]
 
 
-WARNING = re.compile(rb"\Afiling: warning: journal, line \d+: \d+ bytes that count for nothing were cut off\n")
+WARNING = re.compile(
+    rb"\Afiling: warning: journal, line \d+: \d+ bytes of a put that was under way were cut off, and kept in \".*\.cut-\d+\"\n"
+)
 
 
 def without_warning(told):

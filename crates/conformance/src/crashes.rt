@@ -1,7 +1,7 @@
 //! Opens what a crash may leave of the journal of a worked script, at each call of its file.
 //!
 //! The script is stopped at each change and each sync. At a change the file is as it was, or has all of the change. At a sync it
-//! may be torn in any way since the sync before: that is each file which a crash at those changes may leave too. Each opens to a
+//! may be torn since the sync before, as a device may tear it: that is each file which a crash at those changes may leave too. Each opens to a
 //! prefix of the history that has all that was answered, and so does what a crash leaves while it is opened.
 
 use crate::devices::{Done, Ended, Trial, Work, do_work};
@@ -68,7 +68,6 @@ struct Opened {
 struct Tally {
     stops: u64,
     files: u64,
-    refused: u64,
     gone_on: u64,
     differing: u64,
 }
@@ -77,17 +76,16 @@ impl Tally {
     const NOTHING: Tally = Tally {
         stops: 0,
         files: 0,
-        refused: 0,
         gone_on: 0,
         differing: 0,
     };
 
     /// Tells what was seen of a script.
     fn tell<R: Print>(self, rt: &R, name: &str, waiting: &str) -> Result<()> {
-        let (stops, files, refused) = (self.stops, self.files, self.refused);
+        let (stops, files) = (self.stops, self.files);
         let (gone_on, differing) = (self.gone_on, self.differing);
         println!(rt;
-            "crashes of {name}, {waiting} waits: {stops} stops, {files} files, {refused} refused, {gone_on} gone on from, {differing} differ"
+            "crashes of {name}, {waiting} waits: {stops} stops, {files} files, {gone_on} gone on from, {differing} differ"
         )?;
         Ok(())
     }
@@ -211,7 +209,7 @@ fn reopen(alloc: Global, bytes: &[u8]) -> Result<Option<Opened>, AllocError> {
         Err(fault) => {
             drop(file);
             match fault {
-                OpenFault::NotAJournal => Ok(None),
+                OpenFault::Damaged => Ok(None),
                 OpenFault::Failed => Err(AllocError),
             }
         }
@@ -288,7 +286,7 @@ impl Crashes<'_> {
         Ok(has_due && is_at_rest && self.goes_on(bytes, lines)?)
     }
 
-    /// Opens a file that a crash may leave. It may be refused where no entry was there for sure.
+    /// Opens a file that a crash may leave.
     fn look(&mut self, bytes: &[u8]) -> Result<()> {
         self.tally.files = self.tally.files.saturating_add(1);
         let is_so = match reopen(self.alloc, bytes)? {
@@ -297,21 +295,22 @@ impl Crashes<'_> {
                 drop(opened);
                 is_sound?
             }
-            None => {
-                self.tally.refused = self.tally.refused.saturating_add(1);
-                self.least == 0
-            }
+            None => false,
         };
         self.tally.judge(is_so);
         Ok(())
     }
 
-    /// A write after a place: a part of it, or of its end, is there, and anything in the place of the rest.
+    /// A write of one byte after a place, and others behind it: nothing is there, or the byte or a zero,
+    /// a part of the rest, or of its end, and anything in the place of the other part.
     fn tear_write(&mut self, start: usize, written: &[u8]) -> Result<()> {
-        for place in start..written.len().saturating_add(1) {
+        self.look(written.get(..start).unwrap_or(written))?;
+        for place in start.saturating_add(1)..written.len().saturating_add(1) {
             for others in UNWRITTEN {
                 let torn = overwritten(self.alloc, written, (place, written.len()), others)?;
                 self.look(&torn)?;
+                let blank = (start, start.saturating_add(1));
+                self.look(&overwritten(self.alloc, &torn, blank, b"\0")?)?;
             }
             let torn = overwritten(self.alloc, written, (start, place), b"\0")?;
             self.look(&torn)?;
@@ -319,14 +318,10 @@ impl Crashes<'_> {
         Ok(())
     }
 
-    /// A write of one byte: any byte is there.
-    fn tear_byte(&mut self, place: usize, written: &[u8]) -> Result<()> {
-        for byte in 0..=u8::MAX {
-            let after = place.saturating_add(1);
-            let torn = overwritten(self.alloc, written, (place, after), &[byte])?;
-            self.look(&torn)?;
-        }
-        Ok(())
+    /// A write of one byte: it was made or not.
+    fn tear_byte(&mut self, old: &[u8], new: &[u8]) -> Result<()> {
+        self.look(old)?;
+        self.look(new)
     }
 
     /// A cut to a length: the file has some length between.
@@ -342,10 +337,7 @@ impl Crashes<'_> {
         match new.len().cmp(&old.len()) {
             Ordering::Greater => self.tear_write(old.len(), new),
             Ordering::Less => self.tear_cut(new.len(), old),
-            Ordering::Equal => match old.iter().zip(new).position(|(one, other)| one != other) {
-                Some(place) => self.tear_byte(place, new),
-                None => self.look(new),
-            },
+            Ordering::Equal => self.tear_byte(old, new),
         }
     }
 

@@ -1,5 +1,5 @@
 -- What a run of the program leaves of its sources and its sinks, by its result.
-use Rattle.std.specs.Prelude.{◌≡◌, ◌⊎◌, ℕ, ◌+◌, Bool, true, false, List, [], reverse, Option, Some, None, Result, Ok, Err, option_map}
+use Rattle.std.specs.Prelude.{◌≡◌, ◌⊎◌, ℕ, ◌+◌, ◌≤◌, Bool, true, false, List, [], length, reverse, Option, Some, None, Result, Ok, Err, option_map}
 use Rattle.std.specs.declared.alloc.Global.{Global}
 use Rattle.std.specs.declared.vec.Vec.{Vec}
 use Rattle.std.specs.Io.KnownBytes.{Consumes, Appends, IsAtEnd}
@@ -10,7 +10,8 @@ use Rattle.filing_model.specs.Histories.History.{History}
 use Rattle.line_io.specs.Devices.{SinkState, SourceState, new_sink, new_source}
 use Rattle.line_io.specs.Lines.{lines_of, spoken}
 use Rattle.line_io.specs.declared.fault.ScriptFault.{ScriptFault}
-use Rattle.journal.specs.Lines.{is_foreign, recovered}
+use Rattle.journal.specs.Device.{Only}
+use Rattle.journal.specs.Lines.{damaged_line, is_damaged, recovered}
 use Rattle.journal.specs.Standing.{IsKept, device_of, has_stopped}
 use Rattle.journal.specs.declared.journal.Journal.{Journal}
 use Rattle.history_format.specs.LinesRead.{AreLawful, LinesDepart, entries_on}
@@ -36,6 +37,7 @@ use Rattle.session_pictures.specs.declared.drawing.Drawing.{Drawing}
 use Rattle.filing.specs.Faults.{fault_of, threads_fault_of}
 use Rattle.filing.specs.declared.fault.Fault.{Fault}
 use Rattle.filing.specs.declared.fault.Fault.TheVariants.{HistoryLine, JournalLine, NoMemory, Write}
+use Rattle.filing.specs.declared.runs.opening.Kept.{Kept}
 
 -- ---- readers and writers
 
@@ -136,10 +138,10 @@ OpensAs is_of table bytes (Ok opened) = (h : History) × (AreLinesOf table bytes
 OpensAs is_of table bytes (Err (opening.Departs number)) = DepartsAt table bytes number
 OpensAs is_of table bytes (Err opening.NoMemory) = Unit {0}
 
--- why the file of a journal was not opened: it is none of a journal, or its lines depart at the one of this number
+-- why the file of a journal was not opened: it is damaged at the line of this number, or its lines depart there
 abbrev pub RefusesFile : Table → List ℕ → Fault → Type 0
 RefusesFile table file (JournalLine number) =
-    ((is_foreign file ≡ true) × (number ≡ 1)) ⊎ DepartsAt table (recovered file) number
+    ((is_damaged file ≡ true) × (number ≡ damaged_line file)) ⊎ DepartsAt table (recovered file) number
 RefusesFile table file NoMemory = Unit {0}
 RefusesFile table file Write = Unit {0}
 RefusesFile table file other = ⊥
@@ -158,6 +160,11 @@ module _ {D : Type 0} (seen : D → List ℕ) (may_leave : D → List ℕ → Ty
     pub history : History
     pub is : is_of history
     pub lines : AreLinesOf table (recovered (seen (device_of journal))) history
+
+-- what stood after the lines of a journal is the file of another device, and on the disk, where it was more than a gate
+abbrev pub KeepsTail : {B : Type 0} → (B → List ℕ) → (B → List ℕ → Type 0) → List ℕ → Option (Kept B) → Type 0
+KeepsTail seen may_leave tail None = length tail ≤ 1
+KeepsTail seen may_leave tail (Some kept) = (seen kept.device ≡ tail) × Only tail (may_leave kept.device)
 
 -- ---- what is told of histories
 

@@ -10,8 +10,8 @@ use journal::{Journal, MemoryFile, PutFault, are_entries, open, read_lines};
 // The calls that open a file at rest: a cut, a write, and a sync after each.
 const OPENING_CALLS: u64 = 4;
 
-// The calls of one batch: two writes and a sync, a write and a sync.
-const PUT_CALLS: u64 = 5;
+// The calls of one batch: three writes and a sync, a write and a sync.
+const PUT_CALLS: u64 = 6;
 
 /// Prints the lines that a file opens to, or why it does not, what is in it then, and how often it was changed.
 fn show_opening(rt: &HostRuntime, bytes: &[u8]) -> Result<()> {
