@@ -18,6 +18,7 @@ from trials.starts import (
     REPLIES,
     SCRIPT,
     TRIED,
+    WRITE_FAULT,
     PassedOver,
     Run,
     alone,
@@ -304,7 +305,17 @@ def _(folder):
 @case("a foreign file is refused at line 1")
 def _(folder):
     for number, data in enumerate(
-        [b"hello\n", b"h", b"\xef\xbb\xbf" + LINES, b" " + LINES, GATE + LINES, b"{}\n", b"\0\0", b"[half", b"[" * 5_000]
+        [
+            b"hello\n",
+            b"h",
+            b"\xef\xbb\xbf" + LINES,
+            b" " + LINES,
+            GATE + LINES,
+            b"{}\n",
+            b"\0\0",
+            b"[half",
+            b"[" * 5_000,
+        ]
     ):
         refused(made(folder / f"j{number}", data), 1)
 
@@ -363,7 +374,9 @@ def _(folder):
     Run(folder / "j").ends()
 
 
-@case("a line whose first letter is another, an empty line and one with a bracket more are refused, and nothing is cut off")
+@case(
+    "a line whose first letter is another, an empty line and one with a bracket more are refused, and nothing is cut off"
+)
 def _(folder):
     for number, new in enumerate([b"(1,", b"\n[1,", b"[[1,", b"[{1,", b"1,"]):
         refused(made(folder / f"j{number}", lines_with(3, b"[1,", new) + GATE), 3)
