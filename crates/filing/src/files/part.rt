@@ -25,14 +25,15 @@ pub(crate) struct Part {
 }
 
 /// Makes a file under a name that no other file has, in the folder of a path.
-/// A private file is its owner's alone, as one that is to replace another is at first.
-pub(crate) fn new_part(rt: &HostRuntime, path: &str, is_private: bool) -> Result<Part, Misplaced> {
+/// Its owner alone may read and write it.
+pub(crate) fn new_part(rt: &HostRuntime, path: &str) -> Result<Part, Misplaced> {
     let run = process::id(rt.process());
     let mut options = OpenOptions::new();
-    options.read(true).write(true).create_new(true);
-    if is_private {
-        options.mode(RIGHTS_OF_OWNER);
-    }
+    options
+        .read(true)
+        .write(true)
+        .create_new(true)
+        .mode(RIGHTS_OF_OWNER);
     for number in 0..MOST_NAMES {
         let name = format!(in rt.alloc(); ".filing-{run}-{number}")?;
         let path = path_beside(rt.alloc(), path, name.as_str())?;
