@@ -41,12 +41,12 @@ pub(crate) fn check_file(rt: &HostRuntime, given: &CheckWords<'_>) -> Result<u8,
         Named::new(rt.stdout(), OUTPUT, reasons),
         &table,
     )?;
-    let JudgedHistory { status, engine } = back.left;
+    let status = back.left.status;
     if reasons.are_told() {
-        explain_verdict(rt, given.history, reasons, &table, &engine, status);
+        explain_verdict(rt, given.history, reasons, &table, &back.left.engine, status);
     }
     // The process ends soon, as after a script.
-    forget(engine);
+    forget(back);
     Ok(status)
 }
 
