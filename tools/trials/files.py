@@ -82,6 +82,35 @@ def _(folder):
     holds(folder / "other", LINES + MORE_LINES + GATE)
 
 
+@case("a new journal is its owner's alone")
+def _(folder):
+    expect("its rights", stat.S_IMODE(begun(folder / "j").stat().st_mode), 0o600)
+
+
+def move(journal):
+    journal.rename(journal.with_name("elsewhere"))
+
+
+def replace(journal):
+    made(journal.with_name("new"), LINES + GATE).rename(journal)
+
+
+for _way in (move, replace, Path.unlink):
+
+    @case(f"nothing more is acknowledged once somebody did this to the file below a run: {_way.__name__}")
+    def _(folder, way=_way):
+        with subprocess.Popen(
+            words_of(folder / "j"), stdin=subprocess.PIPE, stdout=subprocess.PIPE, stderr=subprocess.PIPE
+        ) as run:
+            run.stdin.write(SCRIPT)
+            run.stdin.flush()
+            expect("the replies before", b"".join(run.stdout.readline() for _ in REPLIES.splitlines()), REPLIES)
+            way(folder / "j")
+            written, told = run.communicate(SCRIPT.replace(b"r1", b"r2"), timeout=PATIENCE)
+        expect("status and standard error", (run.returncode, told), (1, WRITE_FAULT))
+        expect("the replies after", written, b"")
+
+
 @case("sessions that were open when it ended are abandoned, and their numbers are not used again")
 def _(folder):
     begun(folder / "j")
