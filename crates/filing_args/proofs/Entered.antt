@@ -1,5 +1,6 @@
 -- From what clap says of a parse to what the words ask for.
-use Rattle.std.proofs.Common.{◌≡◌, ◌⊎◌, refl, inl, inr, ap, ap₂, subst, sym, unwrap_or, Bool, true, false, List, [], Option, Some, None, Result, Ok, Err, IfOk, codes, option_map}
+use Rattle.std.proofs.Common.{◌≡◌, ◌⊎◌, refl, inl, inr, ap, ap₂, subst, sym, unwrap_or, Bool, true, false, List, []}
+use Rattle.std.proofs.Common.{Option, Some, None, Result, Ok, Err, IfOk, codes, option_map}
 use Rattle.clap.specs.Words.{Row, Text, IsAmong, all_of, fault_of, subcommand_of, takes}
 use Rattle.clap.specs.declared.error.kind.ErrorKind.{ErrorKind}
 use Rattle.clap.specs.declared.error.kind.ErrorKind.TheVariants.{DisplayHelp, DisplayVersion, OutOfMemory}

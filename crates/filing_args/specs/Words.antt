@@ -242,7 +242,8 @@ IsOrdered entered (Threads given) = Enters (codes "threads") (HoldsThreads given
 IsOrdered entered Explain = Enters (codes "words") (λ rows. Unit {0}) entered
 IsOrdered entered Shown = ⊥
 
--- The words, the program's name before them, ask for this. What is shown is asked for by words that the program does not take, and that clap answers with help; a command by words of which none is wrong.
+-- The words, the program's name before them, ask for this.
+-- What is shown is asked for by words that the program does not take, and that clap answers with help; a command by words of which none is wrong.
 abbrev pub Asks : List Text → Invocation → Type 0
 Asks words Shown = (takes program words ≡ false)
     × (IsAmong DisplayHelp (fault_of program words) ⊎ IsAmong DisplayVersion (fault_of program words))

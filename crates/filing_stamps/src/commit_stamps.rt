@@ -52,7 +52,7 @@ impl CommitStamps {
     }
 
     /// The greatest number of those in a range, or 0.
-    fn greatest(&self, among: &Among<'_>) -> u64
+    fn greatest_in(&self, among: &Among<'_>) -> u64
         ensures { result ≡ greatest (λ s. s.number) (within (among_side among.now) self.now) }
     {
         let mut number = 0u64;
@@ -72,7 +72,7 @@ impl KeptStamps for CommitStamps {
         if self.up_to <= since {
             return 0;
         }
-        self.greatest(among)
+        self.greatest_in(among)
     }
 
     fn append_to(&self, all: &mut Vec<Stamp>) -> Result<(), AllocError> {

@@ -157,13 +157,20 @@ impl Change {
         Ok(ReadyChange { change })
     }
 
+    /// Makes a declaration that is ready. It takes no memory.
+    pub fn take_declare(&mut self, ready: ReadyChange)
+        ensures { self.new ≡ ready }
+    {
+        self.take(ready);
+    }
+
     /// Declares a value, in the place of the one that the change declared before.
     pub fn declare(&mut self, report: &str, allowed: Allowed) -> Result<(), AllocError>
         ensures ok { OnOk result (self.new ≡ with_declared self.old report.now allowed) }
         ensures err { OnErr result (self.new ≡ self.old) }
     {
         let ready = self.ready_declare(report, allowed)?;
-        self.take(ready);
+        self.take_declare(ready);
         Ok(())
     }
 

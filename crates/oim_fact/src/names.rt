@@ -95,7 +95,7 @@ impl Column {
     }
 
     /// Sorts the rows by this column, and says whether a text stands there twice.
-    fn sort(self, rows: &mut Vec<(String, String)>) -> bool
+    fn sort_and_find_repeat(self, rows: &mut Vec<(String, String)>) -> bool
         ensures moved { IsPermutation rows.old.items rows.new.items }
         ensures rises { NoneFalls (column self (rows_view rows.new.items)) }
         ensures repeats { result ≡ has_repeats (column self (rows_view rows.old.items)) }
@@ -114,8 +114,8 @@ impl Names {
         ensures { result ≡ names_of (rows_view prefixes.items) (arc_value table) }
     {
         let mut prefixes = prefixes;
-        let has_alias = Column::Uri.sort(&mut prefixes);
-        if Column::Prefix.sort(&mut prefixes) {
+        let has_alias = Column::Uri.sort_and_find_repeat(&mut prefixes);
+        if Column::Prefix.sort_and_find_repeat(&mut prefixes) {
             return Err(NamesFault::NameTwice);
         }
         if has_alias {

@@ -62,7 +62,7 @@ fn features(alloc: Global, members: &Map<String, Value>) -> Result<Map<String, V
 }
 
 /// The members of `documentInfo` with this declared value.
-fn declaring(
+fn info_declaring(
     alloc: Global,
     members: Map<String, Value>,
     allowed: Allowed,
@@ -91,7 +91,7 @@ pub fn with_allowed(alloc: Global, info: &str, allowed: Allowed) -> Result<Strin
     ensures { IfOk result (λ text. string_bytes text ≡ with_allowed info.now allowed) }
 {
     match whole_members(alloc, info)? {
-        Some(members) => Value::Object(declaring(alloc, members, allowed)?).to_string(alloc),
+        Some(members) => Value::Object(info_declaring(alloc, members, allowed)?).to_string(alloc),
         None => String::from_str(alloc, info),
     }
 }

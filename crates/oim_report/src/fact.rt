@@ -121,7 +121,7 @@ fn set_of(named: Vec<(String, Option<String>)>) -> Result<DimSet, Trouble>
 }
 
 /// A text or null.
-fn nullable(value: Option<Value>) -> Result<Option<String>, Trouble>
+fn text_or_null(value: Option<Value>) -> Result<Option<String>, Trouble>
     ensures { Gives fact_trouble text_view result
         (ok_or (option_and_then as_nullable (option_map view value)) trouble.WrongShape) }
 {
@@ -174,7 +174,7 @@ fn fact_with(
         (option_map view stated.decimals) (option_map view stated.links)) }
     ensures links { IfOk result (λ raw. AreLinks raw.links) }
 {
-    let value = nullable(stated.value)?;
+    let value = text_or_null(stated.value)?;
     let decimals = decimals(stated.decimals)?;
     let links = links(alloc, stated.links)?;
     Ok(RawFact {

@@ -129,7 +129,7 @@ fn prefixes_in(
 }
 
 /// The prefixes with their URIs that the member `namespaces` binds.
-fn bound(alloc: Global, info: &Value) -> Result<Vec<(String, String)>, ReportFault>
+fn bound_prefixes(alloc: Global, info: &Value) -> Result<Vec<(String, String)>, ReportFault>
     ensures { Gives report_fault (λ v. rows_view v.items) result
         (bound_of (get (codes "namespaces") (view info.now))) }
 {
@@ -150,7 +150,7 @@ pub fn names_of_info(
 ) -> Result<Names, ReportFault>
     ensures { Gives report_fault same result (declared_names (arc_value table.now) (view info.now)) }
 {
-    let prefixes = bound(alloc, info)?;
+    let prefixes = bound_prefixes(alloc, info)?;
     match Names::of(prefixes, table.clone()?) {
         Ok(names) => Ok(names),
         Err(_) => Err(ReportFault::AliasTwice),

@@ -68,10 +68,10 @@ fn units_of(text: &[u8]) -> Result<i128, NumberFault>
 {
     let body = without_end(without_front(text, Padding::Blanks), Padding::Blanks);
     let size = size_of(without_sign(body))?;
-    Ok(signed(is_negative(body), size))
+    Ok(with_sign(is_negative(body), size))
 }
 
-fn signed(negative: bool, size: u128) -> i128
+fn with_sign(negative: bool, size: u128) -> i128
     requires { size < number_limit }
     ensures value { result ≡ signed negative size }
     ensures small { HasFewDigits result }

@@ -1,6 +1,7 @@
 -- What a picture of sessions shows: versions along, a row for each session with a bar from the version of its opening
 -- to that of its end, and an arrow into the bar of each that ended by a conflict. All of it is the project's own.
-use Rattle.std.specs.Prelude.{◌≡◌, ℕ, ◌+◌, ◌-◌, max, Bool, cond, ◌&&◌, nat_lt, nat_le, List, [], ◌∷◌, take, drop, length, Option, Some, None, option_map, string_bytes}
+use Rattle.std.specs.Prelude.{◌≡◌, ℕ, ◌+◌, ◌-◌, max, Bool, cond, ◌&&◌, nat_lt, nat_le, List, [], ◌∷◌, take}
+use Rattle.std.specs.Prelude.{drop, length, Option, Some, None, option_map, string_bytes}
 use Rattle.filing_model.specs.Common.Text.{Text}
 use Rattle.session_pictures.specs.Told.{End, Told}
 use Rattle.session_pictures.specs.Columns.{columns, count_below, touching_end}

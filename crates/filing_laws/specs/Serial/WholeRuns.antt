@@ -90,7 +90,9 @@ AreSoloReplies Amend Committing c calls replies = (r : Reply)
     × (replies ≡ (solo Amend c calls Unended).replies ++ r ∷ [])
 AreSoloReplies kind ending c calls replies = replies ≡ (solo kind c calls ending).replies
 
--- every session's replies, an amendment's reply to its commit aside, are those at its opening: a review's, be it committed, closed or not ended, and those of an amendment that was closed, refused or not ended. One that was not opened has none
+-- every session's replies, an amendment's reply to its commit aside, are those at its opening:
+-- a review's, be it committed, closed or not ended, and those of an amendment that was closed, refused or not ended.
+-- One that was not opened has none
 abbrev pub SessionsReplyAsAtTheirOpening : History → Type 0
 SessionsReplyAsAtTheirOpening h = (s : ℕ)
     → MatchOption (kind_of s h) (all_replies_of s h ≡ [])
@@ -108,7 +110,9 @@ is_accepted _ _ = false
 abbrev pub without : ℕ → History → History
 without s h = filter (λ e. not (is_of s e)) h
 
--- a refused or abandoned session changes no report: each entry but an accepted load and a passed commit leaves the repository as it was, and a session that was not committed, be it refused, closed or not ended, leaves the repository that would be there without it
+-- a refused or abandoned session changes no report:
+-- each entry but an accepted load and a passed commit leaves the repository as it was, and a session that was not committed,
+-- be it refused, closed or not ended, leaves the repository that would be there without it
 pub record RefusedAndAbandonedChangeNothing (h : History) : Type 0 where
   pub entries : (e : Entry) (older : History) → IsEntryOf h e older → is_accepted e.step e.reply ≡ false
       → repository (e ∷ older) ≡ repository older

@@ -25,5 +25,6 @@ in_order_of_names = refl
 
 -- ---- the prefixes of a report
 
-pub prefixes_in_order : prefixes_of ((codes "b", codes "u") ∷ (codes "a", codes "v") ∷ []) ≡ Ok (from_entries ((codes "a", codes "v") ∷ (codes "b", codes "u") ∷ []))
+pub prefixes_in_order : prefixes_of ((codes "b", codes "u") ∷ (codes "a", codes "v") ∷ [])
+    ≡ Ok (from_entries ((codes "a", codes "v") ∷ (codes "b", codes "u") ∷ []))
 prefixes_in_order = refl

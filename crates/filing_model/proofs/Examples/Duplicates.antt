@@ -90,5 +90,6 @@ pub no_cell_is_disallowed : least_disallowed allowed.Consistent entries ≡ None
 no_cell_is_disallowed = refl
 
 -- both concepts have duplicates
-pub the_least_of_two_disallowed_cells : least_disallowed allowed.Never ((codes "a", with cash Nil) ∷ (codes "b", with cash Nil) ∷ (codes "c", nil) ∷ (codes "d", nil) ∷ []) ≡ Some assets
+pub the_least_of_two_disallowed_cells : least_disallowed allowed.Never
+    ((codes "a", with cash Nil) ∷ (codes "b", with cash Nil) ∷ (codes "c", nil) ∷ (codes "d", nil) ∷ []) ≡ Some assets
 the_least_of_two_disallowed_cells = refl

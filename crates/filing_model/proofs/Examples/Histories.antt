@@ -1,4 +1,5 @@
--- Histories of one and of several sessions: the replies that the definitions give to lists of steps, and replies that are not lawful. The sheets of `conformance` have more.
+-- Histories of one and of several sessions: the replies that the definitions give to lists of steps,
+-- and replies that are not lawful. The sheets of `conformance` have more.
 use Rattle.std.proofs.Common.{◌≡◌, refl, List, [], ◌∷◌, ◌++◌, Some, None}
 use Rattle.std.specs.Prelude.{codes, false}
 use Rattle.filing_model.specs.Common.Text.{Text}

@@ -19,7 +19,8 @@ read_raw text = do
 abbrev pub raw : Text → Option Text → Option ℤ → RawFact
 raw name value decimals = record { dims = (codes "concept", Some name) ∷ []; value = value; decimals = decimals; links = None }
 
-pub all_members : read_raw (codes "{\"value\": \"1000\", \"links\": {\"b\": [], \"a\": 1}, \"decimals\": -3, \"dimensions\": {\"unit\": \"u\", \"concept\": \"ex:Assets\"}, \"x\": 1.5}")
+pub all_members : read_raw (codes
+    "{\"value\": \"1000\", \"links\": {\"b\": [], \"a\": 1}, \"decimals\": -3, \"dimensions\": {\"unit\": \"u\", \"concept\": \"ex:Assets\"}, \"x\": 1.5}")
     ≡ Ok (record {
       dims = (codes "concept", Some (codes "ex:Assets")) ∷ (codes "unit", Some (codes "u"))
           ∷ [];

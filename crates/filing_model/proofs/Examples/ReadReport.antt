@@ -35,7 +35,9 @@ bound = codes ",\"namespaces\":{\"ex\":\"http://e.org/t\"}"
 -- facts in byte order of their identifiers; Assets is numeric, Name is not
 pub facts_are_fitted : read_literal
     (report_with bound (codes
-    "{\"b\":{\"value\":\"1000\",\"decimals\":-3,\"dimensions\":{\"concept\":\"ex:Assets\"}},\"a\":{\"value\":\"1000\",\"dimensions\":{\"concept\":\"ex:Name\"}},\"\":{\"value\":null,\"decimals\":7,\"dimensions\":{\"concept\":\"ex:Name\",\"ex:d\":null}}}"))
+    "{\"b\":{\"value\":\"1000\",\"decimals\":-3,\"dimensions\":{\"concept\":\"ex:Assets\"}},"
+    ++ codes "\"a\":{\"value\":\"1000\",\"dimensions\":{\"concept\":\"ex:Name\"}},"
+    ++ codes "\"\":{\"value\":null,\"decimals\":7,\"dimensions\":{\"concept\":\"ex:Name\",\"ex:d\":null}}}"))
     ≡ Ok (record {
       info = info_with bound;
       names = record { prefixes = from_entries ((codes "ex", codes "http://e.org/t") ∷ []); table = table };
@@ -43,7 +45,14 @@ pub facts_are_fitted : read_literal
       facts = from_entries (
           ([], record { dims = (codes "concept", Some (codes "ex:Name")) ∷ (codes "ex:d", None) ∷ []; value = Nil; links = None })
           ∷ (codes "a", record { dims = (codes "concept", Some (codes "ex:Name")) ∷ []; value = Written (codes "1000"); links = None })
-          ∷ (codes "b", record { dims = (codes "concept", Some (codes "ex:Assets")) ∷ []; value = Number (codes "1000") (pos 1000000000000000000) (Some (negsuc 2)); links = None })
+          ∷ (
+            codes "b",
+            record {
+              dims = (codes "concept", Some (codes "ex:Assets")) ∷ [];
+              value = Number (codes "1000") (pos 1000000000000000000) (Some (negsuc 2));
+              links = None;
+            },
+          )
           ∷ []);
     })
 unfolding filing_on_literals
@@ -57,7 +66,8 @@ unfolding filing_on_literals
 shape_before_alias = refl
 
 -- the first refused fact in byte order of identifiers
-pub first_identifier : read_literal (report_with bound (codes "{\"b\":1,\"a\":{\"value\":\"1\",\"dimensions\":{}}}")) ≡ Err (BadFact (codes "a") (trouble.Dims NoConcept))
+pub first_identifier : read_literal (report_with bound (codes "{\"b\":1,\"a\":{\"value\":\"1\",\"dimensions\":{}}}"))
+    ≡ Err (BadFact (codes "a") (trouble.Dims NoConcept))
 unfolding filing_on_literals
 first_identifier = refl
 

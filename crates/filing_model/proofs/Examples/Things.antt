@@ -41,5 +41,6 @@ nothing_differs = refl
 pub ends_are_told_apart : has_thing (of_range Any None None ∷ of_range Any None (Some r1) ∷ []) (of_range Any None (Some r2)) ≡ false
 ends_are_told_apart = refl
 
-pub in_order_of_first_standing : each_once (Policy r1 ∷ Id r1 (codes "a") ∷ Policy r1 ∷ Report r2 ∷ Id r1 (codes "a") ∷ []) ≡ Policy r1 ∷ Id r1 (codes "a") ∷ Report r2 ∷ []
+pub in_order_of_first_standing : each_once (Policy r1 ∷ Id r1 (codes "a") ∷ Policy r1 ∷ Report r2 ∷ Id r1 (codes "a") ∷ [])
+    ≡ Policy r1 ∷ Id r1 (codes "a") ∷ Report r2 ∷ []
 in_order_of_first_standing = refl

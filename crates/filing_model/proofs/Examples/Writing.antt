@@ -1,5 +1,5 @@
 -- Worked examples of what is written for facts and reports.
-use Rattle.std.specs.Prelude.{◌≡◌, pos, codes, None, Some, Result, Ok, refl}
+use Rattle.std.specs.Prelude.{◌≡◌, ◌++◌, pos, codes, None, Some, Result, Ok, refl}
 use Rattle.filing_model.specs.Common.Text.{Text}
 use Rattle.filing_model.specs.Common.Try.{◌>>=◌}
 use Rattle.filing_model.specs.Reading.Writing.{raw_fact_text, report_text}
@@ -9,7 +9,8 @@ use Rattle.filing_model.proofs.Examples.ReadFact.{raw}
 use Rattle.filing_model.proofs.Examples.ReadReport.{read_literal, report_with, bound}
 
 -- a raw fact keeps decimals beside null
-pub raw_decimals_beside_null : raw_fact_text (raw (codes "ex:Name") None (Some (pos 0))) ≡ codes "{\"decimals\":0,\"dimensions\":{\"concept\":\"ex:Name\"},\"value\":null}"
+pub raw_decimals_beside_null : raw_fact_text (raw (codes "ex:Name") None (Some (pos 0)))
+    ≡ codes "{\"decimals\":0,\"dimensions\":{\"concept\":\"ex:Name\"},\"value\":null}"
 unfolding filing_on_literals
 raw_decimals_beside_null = refl
 
@@ -23,6 +24,10 @@ rewritten text = do
 
 pub members_in_byte_order : rewritten
     (report_with bound (codes
-    "{\"b\":{\"value\":\"1000\",\"decimals\":-3,\"dimensions\":{\"concept\":\"ex:Assets\"}},\"a\":{\"value\":null,\"links\":{\"y\":1,\"x\":[]},\"dimensions\":{\"ex:d\":null,\"concept\":\"ex:Name\"}}}")) ≡ Ok (report_with bound (codes "{\"a\":{\"dimensions\":{\"concept\":\"ex:Name\",\"ex:d\":null},\"links\":{\"x\":[],\"y\":1},\"value\":null},\"b\":{\"decimals\":-3,\"dimensions\":{\"concept\":\"ex:Assets\"},\"value\":\"1000\"}}"))
+    "{\"b\":{\"value\":\"1000\",\"decimals\":-3,\"dimensions\":{\"concept\":\"ex:Assets\"}},"
+    ++ codes "\"a\":{\"value\":null,\"links\":{\"y\":1,\"x\":[]},\"dimensions\":{\"ex:d\":null,\"concept\":\"ex:Name\"}}}"))
+    ≡ Ok (report_with bound (codes
+    "{\"a\":{\"dimensions\":{\"concept\":\"ex:Name\",\"ex:d\":null},\"links\":{\"x\":[],\"y\":1},\"value\":null},"
+    ++ codes "\"b\":{\"decimals\":-3,\"dimensions\":{\"concept\":\"ex:Assets\"},\"value\":\"1000\"}}"))
 unfolding filing_on_literals
 members_in_byte_order = refl

@@ -15,7 +15,7 @@ returns-in_err-size-clause-value c =
 pub returns-clause-value : goal.returns-clause-value
 returns-clause-value c =
     let body = body_is c.args.text.now c.without_front.result.now c.without_end-body.result.now c.without_front.ensures c.without_end-body.ensures in
-    let same : to_z w128 (of_z w128 c.signed.result) ≡ c.signed.result = omega (arith, ints) in
+    let same : to_z w128 (of_z w128 c.with_sign.result) ≡ c.with_sign.result = omega (arith, ints) in
     read_number c.args.text.now c.without_end-body.result.now c.without_sign.result.now c.is_negative.result
     c.in_ok-size.size _ body c.without_sign.ensures c.is_negative.ensures c.in_ok-size.ensures.value
-    (same ∙ c.signed.ensures.value)
+    (same ∙ c.with_sign.ensures.value)

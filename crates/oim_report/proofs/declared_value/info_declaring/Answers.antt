@@ -1,7 +1,7 @@
 use Rattle.std.proofs.Common.{◌∙◌}
 use Rattle.serde_json.specs.View.{members_view}
 use Rattle.oim_report.proofs.SetMembers.{members_set}
-use Rattle.oim_report.proofs.declared_value.declaring.Goals as goal
+use Rattle.oim_report.proofs.declared_value.info_declaring.Goals as goal
 
 pub returns : goal.returns
 returns c =

@@ -2,8 +2,8 @@ use Rattle.std.proofs.Common.{◌≡◌, ◌∙◌, ap, sym, ◌+◌, max, cond,
 use Rattle.std.proofs.lemmas.List.{take_more}
 use Rattle.filing_stamps.specs.Stamps.{Stamp, among_side}
 use Rattle.filing_stamps.proofs.GreatestStamps.{best, best-push}
-use Rattle.filing_stamps.proofs.commit_stamps.CommitStamps.greatest.Goals as goal
-use Rattle.filing_stamps.proofs.commit_stamps.CommitStamps.greatest.Goals.{then-is_eq, else-is_eq}
+use Rattle.filing_stamps.proofs.commit_stamps.CommitStamps.greatest_in.Goals as goal
+use Rattle.filing_stamps.proofs.commit_stamps.CommitStamps.greatest_in.Goals.{then-is_eq, else-is_eq}
 
 pub loop-stamp-preserved : goal.loop-stamp-preserved
 loop-stamp-preserved c =

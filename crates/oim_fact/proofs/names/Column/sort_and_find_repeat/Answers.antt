@@ -3,7 +3,7 @@ use Rattle.std.proofs.lemmas.Fn.{always_returns_same}
 use Rattle.oim_fact.specs.Texts.{rows_view, has_equal_neighbours}
 use Rattle.oim_fact.specs.Names.{column}
 use Rattle.oim_fact.proofs.NamedRows.{is_before, is_before-ranks, NoneFalls-column, repeats_from_sorted}
-use Rattle.oim_fact.proofs.names.Column.sort.Goals as goal
+use Rattle.oim_fact.proofs.names.Column.sort_and_find_repeat.Goals as goal
 
 pub returns-clause-rises : goal.returns-clause-rises
 returns-clause-rises c =
