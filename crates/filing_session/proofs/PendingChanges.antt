@@ -8,7 +8,8 @@ use Rattle.filing_model.specs.Oim.Facts.{Fact}
 use Rattle.filing_model.specs.Oim.Reports.{Report}
 use Rattle.filing_model.specs.Reading.DeclaredValue.{report_declaring}
 use Rattle.filing_model.specs.Sessions.Repository.{Repository, report_at, fact_in, with_fact, with_report_at, with_fact_at, declaring_at}
-use Rattle.filing_model.specs.Sessions.Changes.{ReportChange, Change, no_change, change_in, change_at, declared_in, with_change, with_declared, declaring_if, changed, laid_over}
+use Rattle.filing_model.specs.Sessions.Changes.{ReportChange, Change, no_change, change_in, change_at, declared_in}
+use Rattle.filing_model.specs.Sessions.Changes.{with_change, with_declared, declaring_if, changed, laid_over}
 use Rattle.filing_model.specs.declared.duplicates.Allowed.{Allowed}
 use Rattle.filing_version.specs.declared.got.Got.{Got}
 use Rattle.filing_version.specs.declared.got.Got.TheVariants.{NoReport, Absent, Found}
@@ -37,10 +38,12 @@ put_there Absent not fact = refl
 put_there (Found old) not fact = refl
 
 module _ (c : Repository) (p : Change) (name : Text) where
-  pub fact_laid : (id : Text) → seen_over (change_at p name id) (option_map (λ r. fact_in r id) (report_at c name)) ≡ option_map (λ r. fact_in r id) (report_at (laid_over p c) name)
+  pub fact_laid : (id : Text) → seen_over (change_at p name id) (option_map (λ r. fact_in r id) (report_at c name))
+      ≡ option_map (λ r. fact_in r id) (report_at (laid_over p c) name)
   fact_laid id = by (report_at c name) ∙ sym (ap (option_map (λ r. fact_in r id)) (report_at-laid_over p c name))
     where
-      by : (o : Option Report) → seen_over (change_at p name id) (option_map (λ r. fact_in r id) o) ≡ option_map (λ r. fact_in r id) (option_map (changed (change_in p name)) o)
+      by : (o : Option Report) → seen_over (change_at p name id) (option_map (λ r. fact_in r id) o)
+          ≡ option_map (λ r. fact_in r id) (option_map (changed (change_in p name)) o)
       by None = refl
       by (Some r) = ap Some (sym (fact_in-changed (change_in p name) r id))
 
@@ -55,17 +58,20 @@ module _ (c : Repository) (p : Change) (name : Text) where
   value_if None r = refl
   value_if (Some value) r = refl
 
-  pub value_laid : option_map (unwrap_or (declared_in p name)) (option_map (λ r. r.allowed) (report_at c name)) ≡ option_map (λ r. r.allowed) (report_at (laid_over p c) name)
+  pub value_laid : option_map (unwrap_or (declared_in p name)) (option_map (λ r. r.allowed) (report_at c name))
+      ≡ option_map (λ r. r.allowed) (report_at (laid_over p c) name)
   value_laid = by (report_at c name) ∙ sym (ap (option_map (λ (r : Report). r.allowed)) (report_at-laid_over p c name))
     where
-      by : (o : Option Report) → option_map (unwrap_or (declared_in p name)) (option_map (λ r. r.allowed) o) ≡ option_map (λ r. r.allowed) (option_map (changed (change_in p name)) o)
+      by : (o : Option Report) → option_map (unwrap_or (declared_in p name)) (option_map (λ r. r.allowed) o)
+          ≡ option_map (λ r. r.allowed) (option_map (changed (change_in p name)) o)
       by None = refl
       by (Some r) = ap Some (value_if (declared_in p name) (bare r) ∙ sym (ap (λ (x : Report). x.allowed) (bare-changed (change_in p name) r)))
 
 -- ---- what is pending
 
 -- the same is made of it and of all that is staged
-pub made_of_both : (f : Change → Change) (pending : Option Change) (change : Change) → unwrap_or (option_map f pending) (f change) ≡ f (unwrap_or pending change)
+pub made_of_both : (f : Change → Change) (pending : Option Change) (change : Change)
+    → unwrap_or (option_map f pending) (f change) ≡ f (unwrap_or pending change)
 made_of_both f None change = refl
 made_of_both f (Some pending) change = refl
 
@@ -75,7 +81,8 @@ made_of_both f (Some pending) change = refl
 abbrev made_at : Repository → Text → (Report → Report) → Repository
 made_at c name f = option_map_or (λ r. with_report_at c name (f r)) (report_at c name) c
 
-report_at-made_at : (c : Repository) (name : Text) (f : Report → Report) (m : Text) → report_at (made_at c name f) m ≡ cond (text_eq m name) (option_map f (report_at c m)) (report_at c m)
+report_at-made_at : (c : Repository) (name : Text) (f : Report → Report) (m : Text)
+    → report_at (made_at c name f) m ≡ cond (text_eq m name) (option_map f (report_at c m)) (report_at c m)
 report_at-made_at c name f m = by (report_at c name) refl (text_eq m name) refl
   where
     by : (o : Option Report) → report_at c name ≡ o → (b : Bool) → text_eq m name ≡ b

@@ -43,7 +43,14 @@ pub(crate) fn check_file(rt: &HostRuntime, given: &CheckWords<'_>) -> Result<u8,
     )?;
     let status = back.left.status;
     if reasons.are_told() {
-        explain_verdict(rt, given.history, reasons, &table, &back.left.engine, status);
+        explain_verdict(
+            rt,
+            given.history,
+            reasons,
+            &table,
+            &back.left.engine,
+            status,
+        );
     }
     // The process ends soon, as after a script.
     forget(back);

@@ -59,7 +59,8 @@ stored_run = refl
 
 -- a fact that is refused is found before a name that is not in use
 pub fact_first : told
-    (codes "[\"add\",\"s1\",\"r1\",\"a\",{\"value\":\"1\"}]" ∷ codes "[\"add\",\"s1\",\"r1\",\"a\",{\"value\":\"1\",\"dimensions\":{\"concept\":\"ex:Name\"}}]" ∷ [])
+    (codes "[\"add\",\"s1\",\"r1\",\"a\",{\"value\":\"1\"}]"
+    ∷ codes "[\"add\",\"s1\",\"r1\",\"a\",{\"value\":\"1\",\"dimensions\":{\"concept\":\"ex:Name\"}}]" ∷ [])
     ≡ codes "[\"bad-fact\",\"wrong-shape\"]" ∷ codes "[\"no-session\"]" ∷ []
 unfolding line_answer line_of filing_on_literals
 fact_first = refl

@@ -21,7 +21,8 @@ returns c =
       | in-Some+in_ok-share-in-Some+in_ok-with_record-in-Some w ↦
           let is : inside.pending ≡ Some w.in-Some.pending = w.in-Some.is in
           w.pending-is
-          ∙ ap Some (w.in_ok-with_record-in-Some.ensures ∙ (λ i. with_change w.in-Some.pending report (w.in_ok-share-in-Some.ensures i).0 (w.in_ok-share-in-Some.ensures i).1))
+          ∙ ap Some (w.in_ok-with_record-in-Some.ensures ∙ (λ i. with_change w.in-Some.pending report
+          (w.in_ok-share-in-Some.ensures i).0 (w.in_ok-share-in-Some.ensures i).1))
           ∙ ap (option_map f) (sym is)
     ] in
     let pending : unwrap_or c.match-self.pending c.in_ok-change.change ≡ f (unwrap_or inside.pending inside.change) =
@@ -45,7 +46,8 @@ invariant_of-result c =
       | in-Some+in_ok-share-in-Some+in_ok-with_record-in-Some w ↦
           let is : inside.pending ≡ Some w.in-Some.pending = w.in-Some.is in
           w.pending-is
-          ∙ ap Some (w.in_ok-with_record-in-Some.ensures ∙ (λ i. with_change w.in-Some.pending report (w.in_ok-share-in-Some.ensures i).0 (w.in_ok-share-in-Some.ensures i).1))
+          ∙ ap Some (w.in_ok-with_record-in-Some.ensures ∙ (λ i. with_change w.in-Some.pending report
+          (w.in_ok-share-in-Some.ensures i).0 (w.in_ok-share-in-Some.ensures i).1))
           ∙ ap (option_map f) (sym is)
     ] in
     let pending : unwrap_or c.match-self.pending c.in_ok-change.change ≡ f (unwrap_or inside.pending inside.change) =
