@@ -87,15 +87,11 @@ def _(folder):
     expect("its rights", stat.S_IMODE(begun(folder / "j").stat().st_mode), 0o600)
 
 
-def move(journal):
-    journal.rename(journal.with_name("elsewhere"))
-
-
 def replace(journal):
     made(journal.with_name("new"), LINES + GATE).rename(journal)
 
 
-for _way in (move, replace, Path.unlink):
+for _way in (replace, Path.unlink):
 
     @case(f"nothing more is acknowledged once somebody did this to the file below a run: {_way.__name__}")
     def _(folder, way=_way):
