@@ -128,7 +128,7 @@ fn line_answer(alloc: Global, line: &[u8], table: &Arc<NumericTable>) -> Result<
 }
 
 impl Answers for Calls<'_> {
-    fn told(&self, alloc: Global, sheet: &Sheet) -> Result<Vec<u8>> {
+    fn answer_to(&self, alloc: Global, sheet: &Sheet) -> Result<Vec<u8>> {
         let mut told = Vec::new(alloc);
         for line in sheet.script().split(is_end) {
             if !line.is_empty() {

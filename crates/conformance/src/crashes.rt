@@ -91,7 +91,7 @@ impl Tally {
     }
 
     /// Counts what is not as it is to be.
-    fn judge(&mut self, is_so: bool) {
+    fn count_unless(&mut self, is_so: bool) {
         self.differing = self.differing.saturating_add(u64::from(!is_so));
     }
 }
@@ -111,7 +111,7 @@ struct Crashes<'a> {
 }
 
 /// The replies to a script that has come to an end, and what it left.
-fn stop_of(
+fn end_of_run(
     alloc: Global,
     file: MemoryFile,
     told: Vec<u8>,
@@ -138,8 +138,8 @@ fn stopped_at(alloc: Global, course: Course<'_>, call: u64) -> Result<Stop> {
     let work = Work::Journal(course.script, keeping);
     let Done { ended, written } = do_work(alloc, course.table, work, Trial::sound(PIECE))?;
     match ended {
-        Ended::Kept(file) => Ok(stop_of(alloc, file, written, true)?),
-        Ended::Stopped(file, ScriptFault::Write) => Ok(stop_of(alloc, file, written, false)?),
+        Ended::Kept(file) => Ok(end_of_run(alloc, file, written, true)?),
+        Ended::Stopped(file, ScriptFault::Write) => Ok(end_of_run(alloc, file, written, false)?),
         other => {
             drop(other);
             Err(anyhow!("the script was not run"))
@@ -297,7 +297,7 @@ impl Crashes<'_> {
             }
             None => false,
         };
-        self.tally.judge(is_so);
+        self.tally.count_unless(is_so);
         Ok(())
     }
 
@@ -359,7 +359,8 @@ impl Crashes<'_> {
     fn crash_at(&mut self, stop: &Stop, next: &Stop) -> Result<()> {
         let course = self.course;
         self.tally.stops = self.tally.stops.saturating_add(1);
-        self.tally.judge(course.replies.starts_with(&stop.told));
+        self.tally
+            .count_unless(course.replies.starts_with(&stop.told));
         let due = entries_due(course.history, &stop.told, course.every_reply);
         self.least = self.least.max(due);
         if stop.changes < next.changes {
@@ -376,7 +377,7 @@ impl Crashes<'_> {
     /// Looks at what is left where nothing stops the script.
     fn look_at_end(&mut self, stop: &Stop) -> Result<()> {
         self.least = ends_in(self.course.history);
-        self.tally.judge(stop.is_whole && stop.told.as_slice() == self.course.replies);
+        self.tally.count_unless(stop.is_whole && stop.told.as_slice() == self.course.replies);
         self.look(&stop.bytes)
     }
 }

@@ -89,7 +89,7 @@ fn ended_with(ended: Ended, written: Result<Vec<u8>, AllocError>) -> Result<Done
 }
 
 /// Runs a script with at most so many reads.
-fn run_trial<R: Source, W: Sink>(
+fn run_with_reads<R: Source, W: Sink>(
     alloc: Global,
     source: &mut R,
     sink: &mut W,
@@ -121,7 +121,7 @@ pub(crate) fn do_work(
     let mut source = MemoryIn::new(read, piece).failing_at(trial.failing_read);
     let ended = match work {
         Work::Script(_) => {
-            match run_trial(alloc, &mut source, &mut sink, table, trial.reads) {
+            match run_with_reads(alloc, &mut source, &mut sink, table, trial.reads) {
                 Ok(core) => Ended::Left(core),
                 Err(fault) => Ended::Failed(fault),
             }

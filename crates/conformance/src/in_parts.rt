@@ -117,7 +117,7 @@ fn take_line(alloc: Global, table: &Arc<NumericTable>, core: &mut Core, line: &[
 }
 
 /// The history of a new core that takes the steps of lines.
-pub(crate) fn taken_in_parts(
+pub(crate) fn history_taken_in_parts(
     alloc: Global,
     table: &Arc<NumericTable>,
     lines: &[u8],

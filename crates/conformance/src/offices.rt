@@ -40,7 +40,7 @@ struct Player<'a, R: Wait + AllocGlobal> {
 }
 
 impl<R: Wait + AllocGlobal> Answers for Player<'_, R> {
-    fn told(&self, _alloc: Global, sheet: &Sheet) -> Result<Vec<u8>> {
+    fn answer_to(&self, _alloc: Global, sheet: &Sheet) -> Result<Vec<u8>> {
         play::<Brand, Brand, _>(self.rt, Blanks::of(2), sheet.script())
     }
 }
@@ -52,7 +52,7 @@ struct Lender<'a, R: Wait + AllocGlobal> {
 }
 
 impl<R: Wait + AllocGlobal> Answers for Lender<'_, R> {
-    fn told(&self, _alloc: Global, sheet: &Sheet) -> Result<Vec<u8>> {
+    fn answer_to(&self, _alloc: Global, sheet: &Sheet) -> Result<Vec<u8>> {
         play_lent::<Brand, _>(self.rt, UnopenedLog::new(), sheet.script())
     }
 }

@@ -6,7 +6,7 @@
 //! history anew, and `journals` runs the script with a journal in memory.
 
 use crate::devices::{Done, Ended, Trial, Work, do_work, push_verdict, verdict_on, written_in};
-use crate::in_parts::taken_in_parts;
+use crate::in_parts::history_taken_in_parts;
 use crate::journals::is_kept_both_ways;
 use crate::lines::{ends_in, is_end, push_line, read_data, read_numeric, read_text};
 use crate::question::part_text;
@@ -75,7 +75,7 @@ fn push_core(
     let is_kept = is_kept_both_ways(alloc, table, script, told, &history)?;
     told.extend_from_slice(&history)?;
     told.extend_from_slice(steps.as_bytes())?;
-    if taken_in_parts(alloc, table, &history)? != history {
+    if history_taken_in_parts(alloc, table, &history)? != history {
         push_line(told, b"another history in parts")?;
     }
     if !is_kept {
@@ -85,7 +85,7 @@ fn push_core(
 }
 
 /// The replies to a script, and what is reported of what it leaves.
-fn told_of_script(
+fn script_answer(
     alloc: Global,
     table: &Arc<NumericTable>,
     sheet: &Sheet,
@@ -147,7 +147,7 @@ fn push_changes(
 }
 
 /// The answer to a sheet by a table.
-fn told_by(
+fn answer_by_table(
     alloc: Global,
     table: &Arc<NumericTable>,
     sheet: &Sheet,
@@ -155,7 +155,7 @@ fn told_by(
 ) -> Result<Vec<u8>> {
     let script = sheet.scripts.first();
     let mut told = match script {
-        Some(script) => told_of_script(alloc, table, sheet, script, piece)?,
+        Some(script) => script_answer(alloc, table, sheet, script, piece)?,
         None => Vec::from_slice(alloc, &sheet.history)?,
     };
     if script.is_none() || !sheet.history.is_empty() {
@@ -178,12 +178,12 @@ fn table_of(alloc: Global, text: &[u8]) -> Result<Arc<NumericTable>, TableFault>
 }
 
 impl Answers for Scripts<'_> {
-    fn told(&self, alloc: Global, sheet: &Sheet) -> Result<Vec<u8>> {
+    fn answer_to(&self, alloc: Global, sheet: &Sheet) -> Result<Vec<u8>> {
         let Some(text) = &sheet.table else {
-            return told_by(alloc, self.table, sheet, self.piece);
+            return answer_by_table(alloc, self.table, sheet, self.piece);
         };
         match table_of(alloc, text) {
-            Ok(table) => told_by(alloc, &table, sheet, self.piece),
+            Ok(table) => answer_by_table(alloc, &table, sheet, self.piece),
             Err(TableFault::NoMemory) => Err(AllocError.into()),
             Err(fault) => Ok(format!(in alloc; "{fault}\n")?.into_bytes()),
         }

@@ -145,7 +145,7 @@ fn sheets_in(alloc: Global, file: &[u8]) -> Result<Vec<Sheet>, AllocError> {
 /// What answers sheets.
 pub(crate) trait Answers {
     /// The answer to a sheet: replies, then the lines of a history, then what else is reported.
-    fn told(&self, alloc: Global, sheet: &Sheet) -> Result<Vec<u8>>;
+    fn answer_to(&self, alloc: Global, sheet: &Sheet) -> Result<Vec<u8>>;
 }
 
 /// The line at a place, as far as it is text.
@@ -219,7 +219,7 @@ pub(crate) fn compare_sheets<A: Answers, R: Print + AllocGlobal>(
 ) -> Result<Seen> {
     let mut seen = Seen::NOTHING;
     for sheet in sheets {
-        let told = by.told(rt.alloc(), sheet)?;
+        let told = by.answer_to(rt.alloc(), sheet)?;
         seen.compare(rt, sheet, &told)?;
     }
     Ok(seen)

@@ -61,7 +61,7 @@ const TRIALS: [(&str, usize, Wrong); 9] = [
 
 impl Given {
     /// The script is run, its history written, that judged, or the verdict written.
-    fn course(&self, number: usize) -> Course<'_> {
+    fn course_at(&self, number: usize) -> Course<'_> {
         let (script, replies, history) = (&self.script, &self.replies, &self.history);
         let (work, read, written, replies): (Work<'_>, &[u8], &[u8], &[u8]) = match number {
             0 => (Work::Script(script), script, replies, replies),
@@ -126,7 +126,7 @@ fn comes_to(
 }
 
 /// The fault of a work whose call of this number, from 0, goes wrong, and what is written then.
-fn end_where<'a>(
+fn expected_end<'a>(
     course: Course<'a>,
     wrong: Wrong,
     number: usize,
@@ -158,7 +158,7 @@ fn try_each(
     let mut differing = 0u64;
     for number in 0..calls.saturating_add(1) {
         let wanted = if number < calls {
-            end_where(course, wrong, number)
+            expected_end(course, wrong, number)
         } else {
             (None, course.written)
         };
@@ -205,7 +205,7 @@ fn read_given<R: Files + AllocGlobal>(rt: &R) -> Result<Given> {
 /// Has each call of each work go wrong in turn.
 fn try_all<R: Print + AllocGlobal>(rt: &R, given: &Given) -> Result<()> {
     for (title, number, wrong) in TRIALS {
-        let (count, differing) = try_each(rt.alloc(), given, given.course(number), wrong)?;
+        let (count, differing) = try_each(rt.alloc(), given, given.course_at(number), wrong)?;
         println!(rt; "{title}: {count}, {differing} differ")?;
     }
     Ok(())

@@ -2,7 +2,7 @@
 
 ghost use Rattle.std.specs.Prelude.{◌≡◌, ◌↔◌, IfOk, IsTrue, reverse};
 ghost use Rattle.filing_model.specs.Histories.Lawful.{IsLawful};
-ghost use Rattle.filing_core.specs.declared.verdict.Verdict.TheVariants.{Lawful};
+ghost use Rattle.filing_core.specs.declared.check.Verdict.TheVariants.{Lawful};
 
 use filing_core::{Core, Entry, Verdict, check_run};
 use std::alloc::{AllocError, Global};

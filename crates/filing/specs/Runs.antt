@@ -18,8 +18,8 @@ use Rattle.history_format.specs.LinesRead.{AreLawful, LinesDepart, entries_on}
 use Rattle.filing_core.specs.Engines.{EngineState, IsEngineOf}
 use Rattle.filing_core.specs.States.{CoreState}
 use Rattle.filing_core.specs.Verdicts.{departure}
-use Rattle.filing_core.specs.declared.verdict.Verdict.{Verdict}
-use Rattle.filing_core.specs.declared.verdict.Verdict.TheVariants.{Departs}
+use Rattle.filing_core.specs.declared.check.Verdict.{Verdict}
+use Rattle.filing_core.specs.declared.check.Verdict.TheVariants.{Departs}
 use Rattle.script_runs.specs.HistoryRun.{IsHistoryFollowed, IsHistoryJudged, IsHistoryStopped, verdict_status, verdict_text}
 use Rattle.script_runs.specs.Reopened.{AreLinesOf, DepartsAt}
 use Rattle.script_runs.specs.Resumed.{GoesOn, IsStoppedOn}

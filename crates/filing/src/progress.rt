@@ -66,7 +66,7 @@ impl Progress {
     }
 
     /// The seconds since the beginning, where a line is due. Of threads that ask at once one is answered.
-    fn seconds_due(&self) -> Option<u64> {
+    fn claim_due_line(&self) -> Option<u64> {
         let passed = self.started?.elapsed(&self.rt).ok()?.as_secs();
         let due = self.due.load(Ordering::Relaxed);
         if passed < due {
@@ -81,7 +81,7 @@ impl Progress {
 
     /// Tells how much is done, and which share, where all of it is known, once a line is due. A line that cannot be written is passed over.
     pub(crate) fn tell(&self, done: u64, whole: Option<u64>, what: &str) {
-        let Some(seconds) = self.seconds_due() else {
+        let Some(seconds) = self.claim_due_line() else {
             return;
         };
         let _ = match whole {

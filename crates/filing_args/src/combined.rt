@@ -4,7 +4,7 @@ use crate::fault::WordsFault;
 use crate::invocation::{InspectWords, LoadWords, LogWords, RunWords, ThreadsWords};
 
 /// What is wrong with words that do not go together, in `clap`'s words.
-fn misfit(has_journal: bool, has_history: bool, has_from: bool) -> Option<&'static str> {
+fn journal_misfit(has_journal: bool, has_history: bool, has_from: bool) -> Option<&'static str> {
     if has_journal && has_history {
         Some("the argument '--history <FILE>' cannot be used with '--journal <FILE>'")
     } else if has_journal && has_from {
@@ -60,7 +60,7 @@ pub fn refuse_misfit(rt: &impl Eprint, given: &RunWords<'_>) -> Result<(), Words
             Some("the argument '--every-reply' wants '--journal <FILE>'"),
         );
     }
-    let reason = misfit(
+    let reason = journal_misfit(
         given.journal.is_some(),
         given.history.is_some(),
         given.from.is_some(),
@@ -73,7 +73,7 @@ pub fn refuse_misfit_of_threads(
     rt: &impl Eprint,
     given: &ThreadsWords<'_>,
 ) -> Result<(), WordsFault> {
-    let reason = misfit(
+    let reason = journal_misfit(
         given.journal.is_some(),
         given.history.is_some(),
         given.from.is_some(),

@@ -50,7 +50,7 @@ pub fn read_words<'a, R: Print + Eprint + AllocGlobal>(
         }
         Err(error) => {
             let order = show_error(rt, &error);
-            hint(rt, &error, words);
+            hint_at_input(rt, &error, words);
             drop(error);
             drop(command);
             order
@@ -78,7 +78,7 @@ fn show_error<'a, R: Print + Eprint>(rt: &R, error: &Error) -> Result<Invocation
 }
 
 /// Says where a script comes from, after the error of words that name its file.
-fn hint<R: Eprint>(rt: &R, error: &Error, words: &[String]) {
+fn hint_at_input<R: Eprint>(rt: &R, error: &Error, words: &[String]) {
     if error.kind() != ErrorKind::UnknownArgument {
         return;
     }

@@ -1,21 +1,22 @@
 //! `Outcome`: the reply to a load or a commit, and the version that it makes.
-
-ghost use Rattle.std.specs.Prelude.{◌≡◌, ◌+◌, ◌<◌, ◌^◌, None, Some, true, IfOk};
+ghost use Rattle.std.specs.Prelude.{◌≡◌, ◌+◌, ◌<◌, ◌^◌, None, Some, true, IfOk, max, option_map};
 ghost use Rattle.filing_model.specs.Common.Text.{Text};
 ghost use Rattle.filing_model.specs.Common.TextMap.{get as value_at};
 ghost use Rattle.filing_model.specs.Sessions.Repository.{report_at};
 ghost use Rattle.filing_model.specs.Sessions.Sessions.{repository_obeys};
-ghost use Rattle.filing_step.specs.Steps.{reply_of};
+ghost use Rattle.filing_step.specs.Steps.{reply_of, thing_of};
 ghost use Rattle.filing_version.specs.StampedReports.{repository_in, version_in};
 ghost use Rattle.filing_core.specs.Outcomes.{Makes, change_told, commit_told};
 ghost use Rattle.filing_model.specs.Histories.Lawful.{load_reply};
 ghost use Rattle.filing_model.specs.Histories.Stamps.{version_after, version_with};
+ghost use Rattle.filing_laws.specs.Stamping.StampedVersions.{first_stamped};
+ghost use Rattle.filing_laws.specs.Updating.NetChange.{refusal_at};
+ghost use Rattle.filing_model.specs.Sessions.Things as thing;
 
-use crate::conflict::conflict;
-use crate::disallowed::disallowed_reply;
-use filing_session::Session;
-use filing_step::{Kind, Reply};
+use filing_session::{Session, period_of, texts_of};
+use filing_step::{Kind, PageQuery, Reply, Thing};
 use filing_version::{Change, IndexedReport, RepoVersion};
+use oim_fact::DimSet;
 use std::alloc::{AllocError, Global};
 use std::marker::Model;
 use std::sync::Arc;
@@ -138,5 +139,70 @@ pub(crate) fn commit_outcome(
             Some((number, thing)) => Ok(reply_alone(Reply::Conflict(number, thing.clone()?))),
             None => change_outcome(alloc, current, session.change()),
         },
+    }
+}
+
+/// The number of the last commit that touched a range if it is greater than `since`; otherwise any number up to `since`.
+fn stamp_of_range(
+    version: &RepoVersion,
+    report: &str,
+    query: &PageQuery,
+    upto: Option<&str>,
+    since: u64,
+) -> u64
+    ensures { max since result ≡ max since ((version_in version.now).stamp
+        (thing.Range report.now query.now (option_map (λ t. t.now) upto.entry))) }
+{
+    let period = period_of(&query.period);
+    let after = query.after.as_deref();
+    version.stamp_range_since(report, &query.concept, period, after, upto, since)
+}
+
+/// The number of the last load or commit that touched a thing if it is greater than `since`; otherwise any number up to `since`.
+fn stamp_of(version: &RepoVersion, thing: &Thing, since: u64) -> u64
+    ensures { max since result ≡ max since ((version_in version.now).stamp (thing_of thing.now)) }
+{
+    match thing {
+        Thing::Report(report) => version.stamp_report(report),
+        Thing::Id(report, id) => version.stamp_id_since(report, id, since),
+        Thing::Cell(report, dims) => version.stamp_cell_since(report, dims, since),
+        Thing::Range(report, query, upto) => {
+            stamp_of_range(version, report, query, upto.as_deref(), since)
+        }
+        Thing::Policy(report) => version.stamp_policy(report),
+    }
+}
+
+/// The first thing that a session read whose stamp is greater than the number of its base, with that stamp. The history is not looked at.
+pub(crate) fn conflict<'a>(version: &RepoVersion, session: &'a Session) -> Option<(u64, &'a Thing)>
+    ensures { option_map (λ c. (c.0, thing_of c.1.now)) result
+        ≡ first_stamped session.now.state.base.count (version_in version.now).stamp session.now.state.reads }
+{
+    let opened_at = session.base().number();
+    for thing in session.reads() {
+        let stamp = stamp_of(version, thing, opened_at);
+        if opened_at < stamp {
+            return Some((stamp, thing));
+        }
+    }
+    None
+}
+
+/// The reply that reports a cell of a version: its report, its class, and its identifiers in byte order.
+pub(crate) fn disallowed_reply(
+    alloc: Global,
+    version: &RepoVersion,
+    name: &str,
+    dims: &DimSet,
+) -> Result<Reply, AllocError>
+    ensures { IfOk result (λ r. reply_of r ≡ refusal_at (repository_in version.now) (name.now, dims.now)) }
+{
+    match version.cell(name, dims) {
+        Some((class, ids)) => Ok(Reply::Disallowed(
+            String::from_str(alloc, name)?,
+            class,
+            texts_of(alloc, ids)?,
+        )),
+        None => Ok(Reply::NoReport),
     }
 }

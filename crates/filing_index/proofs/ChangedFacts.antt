@@ -11,8 +11,8 @@ use Rattle.std.proofs.lemmas.Simd.{map-map}
 use Rattle.std.proofs.lemmas.List.Sorted.{ranks_by}
 use Rattle.sorted_pages.specs.Sorted.{IsRising}
 use Rattle.std.proofs.lemmas.Map.Keys.{IsDistinct-IsPermutation}
-use Rattle.sorted_pages.specs.declared.edit.Edit.{Edit}
-use Rattle.sorted_pages.specs.declared.edit.Edit.TheVariants.{Remove}
+use Rattle.sorted_pages.specs.declared.apply.Edit.{Edit}
+use Rattle.sorted_pages.specs.declared.apply.Edit.TheVariants.{Remove}
 use Rattle.sorted_pages.specs.Changes.{entry_of}
 use Rattle.sorted_pages.specs.Changes as pages
 use Rattle.text_map.specs.MapChanges.{map_with_changes}

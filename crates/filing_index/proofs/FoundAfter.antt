@@ -6,8 +6,8 @@ use Rattle.std.specs.Ordering.{on, eq_by_cmp}
 use Rattle.std.specs.Cmp.{IsTotalOrder, Equal-is, alike_right}
 use Rattle.std.specs.List.{IsDistinct}
 use Rattle.std.specs.FinMap.Entries.{by_order, find, put, where_key}
-use Rattle.sorted_pages.specs.declared.edit.Edit.{Edit}
-use Rattle.sorted_pages.specs.declared.edit.Edit.TheVariants.{Put, Remove}
+use Rattle.sorted_pages.specs.declared.apply.Edit.{Edit}
+use Rattle.sorted_pages.specs.declared.apply.Edit.TheVariants.{Put, Remove}
 use Rattle.sorted_pages.specs.Sorted.{keyed, entries}
 use Rattle.sorted_pages.specs.Changes.{entry_of, with_change, with_changes}
 use Rattle.sorted_pages.proofs.Parts.{entries-keyed}

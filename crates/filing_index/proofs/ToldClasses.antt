@@ -9,7 +9,7 @@ use Rattle.filing_model.specs.declared.duplicates.Class.{Class}
 use Rattle.filing_index.specs.Index.{IndexEntry}
 use Rattle.filing_index.specs.Found.{unhashed, passing}
 use Rattle.filing_index.specs.CellSums.{Tells, facts_in}
-use Rattle.filing_index.specs.declared.cell_sum.CellSum.{CellSum}
+use Rattle.filing_index.specs.declared.cells.CellSum.{CellSum}
 
 all_found : (test : Fact → Bool) (es : List IndexEntry) → list_all test (facts_in es) ≡ true
     → map (λ e. e.1) (passing test es) ≡ facts_in es

@@ -4,8 +4,8 @@ use Rattle.filing_model.specs.Oim.Facts.{Fact}
 use Rattle.oim_fact.specs.Tallies.{IsTallyOf}
 use Rattle.oim_fact.specs.declared.tally.Tally.{Tally}
 use Rattle.filing_index.specs.CellSums.{Tells}
-use Rattle.filing_index.specs.declared.cell_sum.CellSum.{CellSum}
-use Rattle.filing_index.specs.declared.cell_sum.CellSum.TheVariants as sum
+use Rattle.filing_index.specs.declared.cells.CellSum.{CellSum}
+use Rattle.filing_index.specs.declared.cells.CellSum.TheVariants as sum
 
 -- after none there is only what comes
 pub after_none : (before after : CellSum) (facts more : List Fact) → before ≡ sum.Empty → Tells before facts → Tells after more

@@ -7,8 +7,8 @@ use Rattle.filing_model.specs.Oim.Facts.{Fact}
 use Rattle.oim_fact.specs.Tallies.{IsTallyOf}
 use Rattle.oim_fact.specs.declared.tally.Tally.{Tally}
 use Rattle.filing_index.specs.Index.{IndexEntry}
-use Rattle.filing_index.specs.declared.cell_sum.CellSum.{CellSum}
-use Rattle.filing_index.specs.declared.cell_sum.CellSum.TheVariants as sum
+use Rattle.filing_index.specs.declared.cells.CellSum.{CellSum}
+use Rattle.filing_index.specs.declared.cells.CellSum.TheVariants as sum
 
 -- the facts of some entries
 abbrev pub facts_in : List IndexEntry → List Fact

@@ -1,8 +1,8 @@
 -- What the fact changes of a change do to the indexes of the facts. The project's own.
 use Rattle.std.specs.Prelude.{◌≡◌, ℕ, Bool, true, false, cond, ◌==◌, List, [], ◌∷◌, ◌++◌, Option, Some, None, filter}
 use Rattle.std.specs.List.{flat_map}
-use Rattle.sorted_pages.specs.declared.edit.Edit.{Edit}
-use Rattle.sorted_pages.specs.declared.edit.Edit.TheVariants.{Put, Remove}
+use Rattle.sorted_pages.specs.declared.apply.Edit.{Edit}
+use Rattle.sorted_pages.specs.declared.apply.Edit.TheVariants.{Put, Remove}
 use Rattle.filing_model.specs.Common.Text.{Text}
 use Rattle.filing_model.specs.Common.TextMap.{TextMap}
 use Rattle.filing_model.specs.Oim.Facts.{Fact}

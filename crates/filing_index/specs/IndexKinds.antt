@@ -4,8 +4,8 @@ use Rattle.filing_model.specs.Oim.Facts.{Fact}
 use Rattle.filing_model.specs.Common.TextMap.{TextMap}
 use Rattle.filing_facts.specs.Hashes.{cell_hash, period_hash, concept_hash}
 use Rattle.filing_index.specs.Index.{IndexEntry, IsIndex}
-use Rattle.filing_index.specs.declared.index_kind.IndexKind.{IndexKind}
-use Rattle.filing_index.specs.declared.index_kind.IndexKind.TheVariants.{Cell, Period, Concept}
+use Rattle.filing_index.specs.declared.index_entry.IndexKind.{IndexKind}
+use Rattle.filing_index.specs.declared.index_entry.IndexKind.TheVariants.{Cell, Period, Concept}
 
 -- the hash of a fact in an index of a kind
 abbrev pub hash_in : IndexKind → Fact → ℕ

@@ -5,8 +5,8 @@ use Rattle.filing_model.specs.Oim.Duplicates.{has_dims}
 use Rattle.filing_model.specs.Sessions.Queries.{answers_query}
 use Rattle.filing_facts.specs.Hashes.{hash_of_dims, hash_of_query, cell_hash, query_hash}
 use Rattle.oim_fact.specs.PeriodFilterRef.{period_filter_of}
-use Rattle.filing_index.specs.declared.wanted.Wanted.{Wanted}
-use Rattle.filing_index.specs.declared.wanted.Wanted.TheVariants as wanted
+use Rattle.filing_index.specs.declared.look_ups.Wanted.{Wanted}
+use Rattle.filing_index.specs.declared.look_ups.Wanted.TheVariants as wanted
 
 -- whether a fact is one that is looked for
 abbrev pub is_wanted : Wanted → Fact → Bool

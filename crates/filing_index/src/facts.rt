@@ -11,10 +11,9 @@ ghost use Rattle.filing_facts.specs.FactChanges.{with_changes};
 ghost use Rattle.filing_index.specs.ChangedIndexes.{fact_changes_in, AreFactChanges};
 ghost use Rattle.std.specs.Arc.{arc_value};
 
-use crate::found::first_of_hash;
-use crate::index_entry::IndexEntry;
-use crate::index_kind::IndexKind;
+use crate::index_entry::{IndexEntry, IndexKind};
 use crate::indexing::{ids_after, ids_into_after, index_after, index_into_after, index_of, pair};
+use crate::look_ups::first_of_hash;
 use filing_facts::{FactChange, IndexedFact};
 use oim_fact::Fact;
 use sorted_pages::{PageEntry, Paged, Range};

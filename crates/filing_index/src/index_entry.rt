@@ -2,8 +2,7 @@
 ghost use Rattle.std.specs.Prelude.{◌≡◌, IfOk};
 ghost use Rattle.filing_index.specs.IndexKinds.{hash_in};
 
-use crate::cell_sum::{CellSum, KeptSum};
-use crate::index_kind::IndexKind;
+use crate::cells::{CellSum, KeptSum};
 use filing_facts::IndexedFact;
 use sorted_pages::{PageEntry, Summed};
 use std::alloc::{AllocError, Global};
@@ -132,5 +131,29 @@ impl PageEntry for IndexEntry {
             hash: self.hash,
             held,
         })
+    }
+}
+
+/// What facts that stand together in an index have in common.
+#[derive(Clone, Copy, Debug, PartialEq, Eq)]
+pub enum IndexKind {
+    /// Their dimensions.
+    Cell,
+    /// Their concept and their period, or that they have none.
+    Period,
+    /// Their concept.
+    Concept,
+}
+
+impl IndexKind {
+    /// The hash of a fact in an index of this kind.
+    pub fn hash(self, held: &IndexedFact) -> u64
+        ensures { result ≡ hash_in self held.now }
+    {
+        match self {
+            IndexKind::Cell => held.cell_hash(),
+            IndexKind::Period => held.period_hash(),
+            IndexKind::Concept => held.concept_hash(),
+        }
     }
 }

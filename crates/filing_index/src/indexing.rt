@@ -13,8 +13,7 @@ ghost use Rattle.filing_index.specs.IndexKinds.{hash_in};
 ghost use Rattle.filing_index.specs.ChangedIndexes.{AreFactChanges, IsIndexAfter, hashed, hashed_change};
 ghost use Rattle.filing_index.specs.ChangedIndexes.{hashed_changes, has_hash, id_change, id_changes};
 
-use crate::index_entry::IndexEntry;
-use crate::index_kind::IndexKind;
+use crate::index_entry::{IndexEntry, IndexKind};
 use filing_facts::{FactChange, IndexedFact};
 use sorted_pages::{Edit, PageEntry, Paged};
 use std::alloc::{AllocError, Global};

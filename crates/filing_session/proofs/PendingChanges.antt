@@ -11,8 +11,8 @@ use Rattle.filing_model.specs.Sessions.Repository.{Repository, report_at, fact_i
 use Rattle.filing_model.specs.Sessions.Changes.{ReportChange, Change, no_change, change_in, change_at, declared_in}
 use Rattle.filing_model.specs.Sessions.Changes.{with_change, with_declared, declaring_if, changed, laid_over}
 use Rattle.filing_model.specs.declared.duplicates.Allowed.{Allowed}
-use Rattle.filing_version.specs.declared.got.Got.{Got}
-use Rattle.filing_version.specs.declared.got.Got.TheVariants.{NoReport, Absent, Found}
+use Rattle.filing_version.specs.declared.version.Got.{Got}
+use Rattle.filing_version.specs.declared.version.Got.TheVariants.{NoReport, Absent, Found}
 use Rattle.filing_version.specs.Found.{got_of}
 use Rattle.filing_model.proofs.Common.TextMaps.{get-insert}
 use Rattle.filing_model.proofs.Common.Texts.{text_same}

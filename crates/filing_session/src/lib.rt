@@ -5,7 +5,6 @@
 //! - `ready`: what is made ready of a call before anything changes.
 //! - `hash_keys`: the keys of the hashes by which it finds what it has read.
 //! - `reads`: the calls that only read, but for pages.
-//! - `pages`: the calls that read a page.
 //! - `writes`: the calls that stage.
 //! - `reviewed`: the reply to a review for which no session is kept.
 //! - `runs`: the laws of what a session is after any calls.
@@ -17,7 +16,6 @@
 #![tactic(auto)]
 
 mod hash_keys;
-mod pages;
 mod reads;
 mod ready;
 mod reviewed;
@@ -29,8 +27,7 @@ mod writes;
 pub use filing_model::Kind;
 pub use filing_step::{Call, Limit, PageQuery, PeriodFilter, Reply, Thing};
 pub use hash_keys::HashKeys;
-pub use pages::period_of;
-pub use reads::texts_of;
+pub use reads::{period_of, texts_of};
 pub use ready::Ready;
 pub use reviewed::reply_at;
 pub use runs::{

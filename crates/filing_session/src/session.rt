@@ -18,7 +18,7 @@ ghost use Rattle.filing_model.specs.Sessions.Sessions.{may_make};
 use crate::hash_keys::HashKeys;
 use crate::ready::Ready;
 use crate::staging::Staging;
-use crate::{pages, reads, writes};
+use crate::{reads, writes};
 use filing_model::Kind;
 use filing_step::{Call, Limit, PageQuery, PeriodFilter, Reply, Thing};
 use filing_version::{Change, KeyCache, RepoVersion};
@@ -108,7 +108,7 @@ fn prepare_call(
     match call {
         Call::Get(report, id) => reads::get(staging, report, id),
         Call::Cell(report, dims) => reads::cell(alloc, staging, report, dims),
-        Call::Page(report, query, limit) => pages::page(alloc, staging, report, query, limit),
+        Call::Page(report, query, limit) => reads::page(alloc, staging, report, query, limit),
         Call::Add(report, id, fact) => writes::add(alloc, staging, key_cache, report, id, fact),
         Call::Remove(report, id) => writes::remove(alloc, staging, key_cache, report, id),
         Call::Declared(report) => Ok(reads::declared(staging, report)),

@@ -25,7 +25,7 @@ pub(crate) struct ScriptTask<'a> {
 }
 
 /// Drops the outcomes of steps, each of which may keep a version, if their receipts are learnt. If not, all are kept.
-fn let_go<J: Naming>(learnt: Result<(), AllocError>, outcomes: &mut Vec<Outcome<J>>)
+fn drop_if_learnt<J: Naming>(learnt: Result<(), AllocError>, outcomes: &mut Vec<Outcome<J>>)
     ensures { KeptBy learnt outcomes.old.items outcomes.new.items }
 {
     match learnt {
@@ -64,7 +64,7 @@ fn take_batch<L: Ledger + Naming, M: Ledger, A: Access<L, M>, G: Gate>(
     let whole = push_replies(text, &told, &outcomes[before..]);
     drop(told);
     let whole = whole?;
-    let_go(learnt, outcomes);
+    drop_if_learnt(learnt, outcomes);
     Ok(whole)
 }
 

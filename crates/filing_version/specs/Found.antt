@@ -2,8 +2,8 @@
 use Rattle.std.specs.Prelude.{Option, Some, None}
 use Rattle.std.specs.Arc.{arc_value}
 use Rattle.filing_model.specs.Oim.Facts.{Fact}
-use Rattle.filing_version.specs.declared.got.Got.{Got}
-use Rattle.filing_version.specs.declared.got.Got.TheVariants.{NoReport, Absent, Found}
+use Rattle.filing_version.specs.declared.version.Got.{Got}
+use Rattle.filing_version.specs.declared.version.Got.TheVariants.{NoReport, Absent, Found}
 
 -- no report; in a report no fact; a fact
 abbrev pub got_of : Got → Option (Option Fact)

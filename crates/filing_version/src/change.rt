@@ -1,21 +1,19 @@
 //! `Change`: what a session puts, removes and declares, by report.
-ghost use Rattle.std.specs.Prelude.{◌≡◌, ◌↔◌, option_copied, option_map, string_bytes, unwrap_or, IfOk, IsTrue, OnOk};
-ghost use Rattle.std.specs.Prelude.{OnErr};
+ghost use Rattle.std.specs.Prelude.{◌≡◌, ◌↔◌, option_copied, option_map, string_bytes, unwrap_or, IfOk, IsTrue, OnOk, OnErr, Some};
 ghost use Rattle.std.specs.Arc.{arc_value};
 ghost use Rattle.filing_model.specs.Common.TextMap.{empty, get, insert};
-ghost use Rattle.filing_model.specs.Sessions.Changes.{change_at, declared_in, with_change, with_declared};
+ghost use Rattle.filing_model.specs.Sessions.Changes.{change_at, declared_in, with_change, with_declared, no_change};
 ghost use Rattle.filing_version.specs.Puts.{fact_seen, puts_of};
 
-use crate::changed_report::{ChangedReport, fact_of};
-use crate::put_record::PutRecord;
-use crate::puts::Puts;
+use crate::puts::{PutRecord, Puts};
+use filing_facts::{IndexedFact, KeyCache};
 use oim_fact::{Allowed, Fact};
-use sorted_pages::Range;
+use sorted_pages::{Edit, Range};
 use std::alloc::{AllocError, Global};
 use std::marker::Model;
 use std::mem;
 use std::sync::Arc;
-use text_map::{NamedValue, TextPages};
+use text_map::{NamedValue, PagedValue, TextPages};
 
 /// What is put, removed and declared, by report. Contracts see the plain change.
 #[derive(Drop)]
@@ -212,5 +210,98 @@ impl Change {
         ensures { result ≡ puts_of self.now }
     {
         Puts::of(self.reports())
+    }
+}
+
+/// The value that a report is to declare, if any, and by identifier the fact that is put there,
+/// or none where it is removed.
+#[derive(Drop)]
+pub(crate) struct ChangedReport {
+    declared: Option<Allowed>,
+    facts: TextPages<Option<IndexedFact>>,
+}
+
+impl Model for ChangedReport {
+    ghost use Rattle.filing_model.specs.Sessions.Changes.{ReportChange};
+
+    ghost Value = { ReportChange };
+
+    ghost view = { λ r. record { declared = r.declared; facts = r.facts } };
+}
+
+impl PagedValue for ChangedReport {}
+
+/// The fact that is put, or none where it is removed.
+pub(crate) fn fact_of(put: &Option<IndexedFact>) -> Option<&Arc<Fact>>
+    ensures { fact_seen result ≡ put.now }
+{
+    put.as_ref().map(IndexedFact::fact)
+}
+
+/// The fact that is put, as an index holds it, or none.
+pub(crate) fn index_put(
+    alloc: Global,
+    key_cache: &mut KeyCache,
+    fact: Option<Arc<Fact>>,
+) -> Result<Option<IndexedFact>, AllocError>
+    ensures { IfOk result (λ put. put ≡ option_map arc_value fact) }
+{
+    match fact {
+        None => Ok(None),
+        Some(fact) => Ok(Some(IndexedFact::of(alloc, key_cache, fact)?)),
+    }
+}
+
+impl ChangedReport {
+    /// Nothing. It takes no memory.
+    pub(crate) fn new(alloc: Global) -> ChangedReport
+        ensures { result ≡ no_change }
+    {
+        ChangedReport {
+            declared: None,
+            facts: TextPages::new(alloc),
+        }
+    }
+
+    pub(crate) fn declared(&self) -> Option<Allowed>
+        ensures { result ≡ self.now.declared }
+    {
+        self.declared
+    }
+
+    pub(crate) fn facts(&self) -> &TextPages<Option<IndexedFact>>
+        ensures { result.now ≡ self.now.facts }
+    {
+        &self.facts
+    }
+
+    /// A copy with a fact put, or removed, at an identifier.
+    pub(crate) fn with_entry(
+        &self,
+        alloc: Global,
+        entry: NamedValue<Option<IndexedFact>>,
+    ) -> Result<ChangedReport, AllocError>
+        ensures { IfOk result (λ r. r ≡ record self.now { facts = insert self.now.facts entry.0 entry.1 }) }
+    {
+        let facts = self.facts.after(alloc, &[Edit::Put(entry)])?;
+        Ok(ChangedReport {
+            declared: self.declared,
+            facts,
+        })
+    }
+
+    /// A copy with a value declared.
+    pub(crate) fn with_declared(
+        &self,
+        alloc: Global,
+        allowed: Allowed,
+    ) -> Result<ChangedReport, AllocError>
+        ensures { IfOk result (λ r. r ≡ record self.now { declared = Some allowed }) }
+    {
+        let facts = self.facts.share(alloc)?;
+        Ok(ChangedReport {
+            declared: Some(allowed),
+            facts,
+        })
     }
 }

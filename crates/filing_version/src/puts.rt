@@ -1,13 +1,15 @@
 //! The puts of a change, one by one.
-ghost use Rattle.std.specs.Prelude.{◌≡◌, [], ◌∷◌, ◌++◌, MatchOption};
+ghost use Rattle.std.specs.Prelude.{◌≡◌, [], ◌∷◌, ◌++◌, MatchOption, option_map, string_bytes, IfOk};
 ghost use Rattle.std.specs.List.{flat_map};
 ghost use Rattle.std.specs.Iterator.{YieldsFirstBy, item_count};
 ghost use Rattle.filing_version.specs.Puts.{put_seen, puts_in, puts_left};
+ghost use Rattle.std.specs.Arc.{arc_value};
 
-use crate::changed_report::{ChangedReport, fact_of};
-use filing_facts::IndexedFact;
+use crate::change::{ChangedReport, fact_of, index_put};
+use filing_facts::{IndexedFact, KeyCache};
 use oim_fact::Fact;
-use sorted_pages::Range;
+use sorted_pages::{PageEntry, Range};
+use std::alloc::{AllocError, Global};
 use std::marker::Model;
 use std::sync::Arc;
 use text_map::NamedValue;
@@ -127,5 +129,60 @@ impl<'a> Iterator for Puts<'a> {
         let (put, puts) = first_of(&mut self.reports)?;
         self.current = Some(puts);
         Some(put)
+    }
+}
+
+/// An identifier with the fact that is put there, or none where it is removed. Several changes may hold it.
+/// Contracts see the two.
+#[derive(Drop)]
+pub struct PutRecord {
+    entry: NamedValue<Option<IndexedFact>>,
+}
+
+impl Model for PutRecord {
+    ghost use Rattle.std.specs.Prelude.{Option};
+    ghost use Rattle.filing_model.specs.Common.Text.{Text};
+    ghost use Rattle.filing_model.specs.Oim.Facts.{Fact as PlainFact};
+
+    ghost Value = { Text × Option PlainFact };
+
+    ghost view = { λ p. p.entry };
+}
+
+impl PutRecord {
+    /// A put by itself.
+    pub fn of(alloc: Global, id: String, fact: Option<Arc<Fact>>) -> Result<PutRecord, AllocError>
+        ensures { IfOk result (λ p. p ≡ (string_bytes id, option_map arc_value fact)) }
+    {
+        PutRecord::of_shared_keys(alloc, &mut KeyCache::new(alloc), id, fact)
+    }
+
+    /// A put among others, which shares what its fact has in common with those before it.
+    pub fn of_shared_keys(
+        alloc: Global,
+        key_cache: &mut KeyCache,
+        id: String,
+        fact: Option<Arc<Fact>>,
+    ) -> Result<PutRecord, AllocError>
+        ensures { IfOk result (λ p. p ≡ (string_bytes id, option_map arc_value fact)) }
+    {
+        let put = index_put(alloc, key_cache, fact)?;
+        let entry = NamedValue::new(alloc, id, put)?;
+        Ok(PutRecord { entry })
+    }
+
+    /// Another owner of the put, for one more change.
+    pub fn share(&self) -> Result<PutRecord, AllocError>
+        ensures { IfOk result (λ p. p ≡ self.now) }
+    {
+        let entry = self.entry.share()?;
+        Ok(PutRecord { entry })
+    }
+
+    pub(crate) fn into_entry(self) -> NamedValue<Option<IndexedFact>>
+        ensures { result ≡ self }
+    {
+        let PutRecord { entry } = self;
+        entry
     }
 }

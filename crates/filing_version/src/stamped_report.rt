@@ -11,7 +11,7 @@ ghost use Rattle.filing_stamps.specs.Stamps.{stamp_in};
 ghost use Rattle.filing_version.specs.StampedReports.{stamped_report_of, new_stamped_report, changed_stamped_report};
 ghost use Rattle.filing_version.specs.StampedReports.{without_facts};
 
-use crate::changed_report::ChangedReport;
+use crate::change::ChangedReport;
 use crate::indexed_report::{IndexedReport, without_facts};
 use filing_facts::IndexedFact;
 use filing_index::Facts;

@@ -1,12 +1,10 @@
 //! `RepoVersion`: one unchanging state of the repository.
-ghost use Rattle.std.specs.Prelude.{◌≡◌, ◌≤◌, ◌+◌, ◌<◌, ◌^◌, [], ◌∷◌, max, None, Some, Ok, true, Option, is_some, option_map};
-ghost use Rattle.std.specs.Prelude.{option_and_then, string_bytes, unwrap_or, IfOk, IfSome};
+ghost use Rattle.std.specs.Prelude.{◌≡◌, ◌≤◌, ◌+◌, ◌<◌, ◌^◌, [], ◌∷◌, max, None, Some, Ok, true, Option, is_some, option_map, option_and_then, string_bytes, unwrap_or, IfOk, IfSome};
 ghost use Rattle.std.specs.Arc.{arc_value};
 ghost use Rattle.std.specs.Option.{option_map_or};
 ghost use Rattle.filing_model.specs.Common.Text.{Text};
 ghost use Rattle.filing_model.specs.Common.TextMap.{get as value_at, insert, remove};
 ghost use Rattle.filing_model.specs.Sessions.Repository.{Repository, report_at, fact_in, with_report_at};
-ghost use Rattle.filing_model.specs.Sessions.Things as thing;
 ghost use Rattle.filing_model.specs.Histories.Stamps.{first_version, version_after, version_with};
 ghost use Rattle.filing_model.specs.Sessions.Changes.{after_change, changed, changed_at, first_disallowed, laid_over};
 ghost use Rattle.filing_model.specs.Oim.Duplicates.{class_of, least_disallowed};
@@ -17,15 +15,11 @@ ghost use Rattle.filing_facts.specs.FactChanges.{Part};
 ghost use Rattle.oim_fact.specs.PeriodFilterRef.{period_filter_of};
 ghost use Rattle.filing_stamps.specs.Stamps.{stamp_in as part_stamp};
 ghost use Rattle.filing_version.specs.Found.{got_of};
-ghost use Rattle.filing_version.specs.StampedReports.{StampedReportValue, KeepsItsStamps, version_in, repository_in};
-ghost use Rattle.filing_version.specs.StampedReports.{mapped, stamped_report_of, stamped_reports_after, thing_in};
-ghost use Rattle.filing_version.specs.StampedReports.{IsStampedUpTo};
+ghost use Rattle.filing_version.specs.StampedReports.{StampedReportValue, KeepsItsStamps, version_in, repository_in, mapped, stamped_report_of, stamped_reports_after, thing_in, IsStampedUpTo};
+ghost use Rattle.filing_model.specs.Sessions.Things as thing;
 
-use crate::change::Change;
-use crate::changed_report::ChangedReport;
-use crate::fact_entries::FactEntries;
-use crate::got::Got;
-use crate::indexed_report::IndexedReport;
+use crate::change::{Change, ChangedReport};
+use crate::indexed_report::{FactEntries, IndexedReport};
 use crate::stamped_report::StampedReport;
 use filing_index::{Facts, Ids};
 use filing_stamps::Stamps;
@@ -566,4 +560,12 @@ impl RepoVersion {
             None => 0,
         }
     }
+}
+
+/// What stands at an identifier of a report.
+#[derive(Clone, Copy)]
+pub enum Got<'a> {
+    NoReport,
+    Absent,
+    Found(&'a Arc<Fact>),
 }

@@ -2,7 +2,7 @@
 
 ghost use Rattle.std.specs.Prelude.{◌≡◌, ◌+◌, ◌≤◌, IfOk};
 ghost use Rattle.std.specs.Arc.{arc_value};
-ghost use Rattle.filing_core.specs.declared.verdict.Verdict.TheVariants.{Lawful};
+ghost use Rattle.filing_core.specs.declared.check.Verdict.TheVariants.{Lawful};
 ghost use Rattle.filing_model.specs.Histories.History.{History};
 ghost use Rattle.script_runs.specs.HistoryRun.{IsHistoryFollowed, IsHistoryJudged};
 ghost use Rattle.script_runs.specs.ScriptRun.{most_reads};

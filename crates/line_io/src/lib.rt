@@ -6,11 +6,8 @@
 //! - `memory`: sources and sinks over memory.
 //! - `counts`: the counts of their calls.
 //! - `fault`: why a run ended early.
-//! - `lines`: how what is read, and a text that is held whole, are cut into lines.
 //! - `machine`: what answers a line, and what keeps what it did before its replies are written.
-//! - `mode`: how a run asks the one and the other.
 //! - `outbox`: replies until they are written.
-//! - `progress`: a run that takes a piece at a time.
 //! - `runs`: a run that reads, answers and writes until the end.
 //!
 //! It knows nothing of what a line says: nothing of JSON, of reports or of sessions. Nor does it know files or locks.
@@ -19,21 +16,17 @@
 mod adapters;
 mod counts;
 mod fault;
-mod lines;
 mod machine;
 mod memory;
-mod mode;
 mod outbox;
-mod progress;
 mod runs;
 mod sink;
 mod source;
 
 pub use adapters::{FromReader, ToWriter};
 pub use fault::{Failed, ScriptFault};
-pub use lines::{is_blank, line_end, next_line};
 pub use machine::{DurableMachine, Machine};
 pub use memory::{MemoryIn, MemoryOut};
-pub use runs::{run, run_kept};
+pub use runs::{is_blank, line_end, next_line, run, run_kept};
 pub use sink::{Sink, write_all};
 pub use source::Source;

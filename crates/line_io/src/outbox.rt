@@ -6,7 +6,7 @@ ghost use Rattle.line_io.specs.Pieces.{HoldsOrTells, Tells, Untold, WritesOut};
 ghost use Rattle.line_io.specs.declared.outbox.TheConstants.{ROOM};
 
 use crate::fault::{Failed, ScriptFault};
-use crate::mode::Mode;
+use crate::machine::Mode;
 use crate::sink::{Sink, write_all};
 use std::alloc::Global;
 

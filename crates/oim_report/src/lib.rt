@@ -5,12 +5,10 @@
 //! - `reading`: a report, read from a JSON value.
 //! - `info`: what `documentInfo` declares.
 //! - `facts`: all facts of a report, read.
-//! - `fact`: one fact, read.
 //! - `table`: numeric tables, read.
 //! - `fault`: why a text is no report.
 //! - `report`: the report that was read.
 //! - `entries`: the facts of a report, one by one.
-//! - `declared_value`: setting the value that a report declares.
 //! - `report_text`: a report, written.
 //! - `fact_text`: a fact, written.
 //! - `pieces`: the pieces of which written texts are made.
@@ -22,9 +20,7 @@
 #![tactic(auto)]
 
 mod borrowed;
-mod declared_value;
 mod entries;
-mod fact;
 mod fact_text;
 mod facts;
 mod fault;
@@ -40,13 +36,14 @@ mod table;
 mod values;
 
 pub use borrowed::{copy_of, number, owned_at, text_value};
-pub use declared_value::with_allowed;
 pub use entries::Entries;
-pub use fact::{dimensions, dimensions_from, raw_fact, raw_fact_from};
 pub use fact_text::{push_dims, push_fact, push_raw, write_fact, write_raw};
+pub use facts::{dimensions, dimensions_from, raw_fact, raw_fact_from};
 pub use fault::ReportFault;
 pub use filing_model::{TableFault, Trouble};
-pub use info::{allowed_of_info, allowed_of_word, allowed_word, has_document_type, names_of_info};
+pub use info::{
+    allowed_of_info, allowed_of_word, allowed_word, has_document_type, names_of_info, with_allowed,
+};
 pub use info_laws::{
     each_set_info_is_an_info, each_set_report_is_read_back, each_set_value_is_declared,
 };

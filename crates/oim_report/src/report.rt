@@ -4,8 +4,8 @@ ghost use Rattle.std.specs.Prelude.{◌≡◌, IfOk};
 ghost use Rattle.filing_model.specs.Reading.DeclaredValue.{report_declaring};
 ghost use Rattle.oim_report.specs.Parts.{AreParts, facts_view, parts_of, whole};
 
-use crate::declared_value::with_allowed;
 use crate::entries::Entries;
+use crate::info::with_allowed;
 use filing_model::Allowed;
 use oim_fact::{Fact, Names};
 use std::alloc::{AllocError, Global};

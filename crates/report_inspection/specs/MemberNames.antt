@@ -37,18 +37,18 @@ abbrev mutual
   is_repeated_in_values (member k j ms) name = is_repeated_in j name || is_repeated_in_values ms name
 
 -- of `documentInfo`, the members that a reading looks at; the others that xBRL-JSON 1.0 defines, which it keeps
-abbrev pub is_looked_at : Text → Bool
-is_looked_at name = text_eq name (codes "documentType") ||
+abbrev pub is_read_in_info : Text → Bool
+is_read_in_info name = text_eq name (codes "documentType") ||
     (text_eq name (codes "features") || text_eq name (codes "namespaces"))
 
-abbrev pub is_kept : Text → Bool
-is_kept name = text_eq name (codes "taxonomy") ||
+abbrev pub is_kept_in_info : Text → Bool
+is_kept_in_info name = text_eq name (codes "taxonomy") ||
     (text_eq name (codes "linkTypes") || (text_eq name (codes "linkGroups") || text_eq name (codes "baseURL")))
 
 -- the members that such an object has; of a report and of a fact those that a reading looks at
 abbrev pub knows : ObjectKind → Text → Bool
 knows kind.Report name = text_eq name (codes "documentInfo") || text_eq name (codes "facts")
-knows kind.DocumentInfo name = is_looked_at name || is_kept name
+knows kind.DocumentInfo name = is_read_in_info name || is_kept_in_info name
 knows kind.Fact name = text_eq name (codes "dimensions") ||
     (text_eq name (codes "value") || (text_eq name (codes "decimals") || text_eq name (codes "links")))
 

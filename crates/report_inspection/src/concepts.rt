@@ -3,7 +3,7 @@
 ghost use Rattle.std.specs.Prelude.{IsTrue, OnOk};
 ghost use Rattle.report_inspection.specs.Warnings.{AreOfConcepts, Tells, is_of_concept};
 
-use crate::warning::{Warning, WarningKind, push_warned};
+use crate::warning::{Warning, WarningKind, add_warning};
 use oim_fact::{Names, NumericTable};
 use oim_value::Decimal;
 use std::alloc::{AllocError, Global};
@@ -76,7 +76,7 @@ fn push_concept(
     ensures { OnOk result (Tells AreOfConcepts warnings.old.items warnings.new.items) }
 {
     let name = format!(in alloc; "{uri} {local}")?;
-    push_warned(alloc, warnings, kind, Some(id), &name)
+    add_warning(alloc, warnings, kind, Some(id), &name)
 }
 
 /// Warns of a concept that has a unit and that the table lacks.

@@ -3,7 +3,7 @@
 ghost use Rattle.std.specs.Prelude.{◌≡◌, OnOk};
 ghost use Rattle.json.specs.Strict.{keys};
 ghost use Rattle.json.specs.Value.{members_view};
-ghost use Rattle.report_inspection.specs.MemberNames.{Adds, is_kept, is_looked_at, is_unknown, knows};
+ghost use Rattle.report_inspection.specs.MemberNames.{Adds, is_kept_in_info, is_read_in_info, is_unknown, knows};
 
 use filing_model::is_same_text;
 use std::alloc::AllocError;
@@ -18,15 +18,15 @@ pub(crate) enum ObjectKind {
 }
 
 /// Whether a reading looks at the member of a report under this name.
-fn is_of_report(name: &str) -> bool
+fn is_read_in_report(name: &str) -> bool
     ensures { result ≡ knows ObjectKind.Report name.now }
 {
     is_same_text(name, "documentInfo") || is_same_text(name, "facts")
 }
 
 /// Whether a reading looks at the member of `documentInfo` under this name.
-fn is_looked_at(name: &str) -> bool
-    ensures { result ≡ is_looked_at name.now }
+fn is_read_in_info(name: &str) -> bool
+    ensures { result ≡ is_read_in_info name.now }
 {
     is_same_text(name, "documentType")
         || is_same_text(name, "features")
@@ -34,8 +34,8 @@ fn is_looked_at(name: &str) -> bool
 }
 
 /// Whether the member of `documentInfo` under this name is one that xBRL-JSON 1.0 defines and a reading keeps as it is.
-fn is_kept(name: &str) -> bool
-    ensures { result ≡ is_kept name.now }
+fn is_kept_in_info(name: &str) -> bool
+    ensures { result ≡ is_kept_in_info name.now }
 {
     is_same_text(name, "taxonomy")
         || is_same_text(name, "linkTypes")
@@ -44,7 +44,7 @@ fn is_kept(name: &str) -> bool
 }
 
 /// Whether a reading looks at the member of a fact under this name.
-fn is_of_fact(name: &str) -> bool
+fn is_read_in_fact(name: &str) -> bool
     ensures { result ≡ knows ObjectKind.Fact name.now }
 {
     is_same_text(name, "dimensions")
@@ -59,9 +59,9 @@ impl ObjectKind {
         ensures { result ≡ knows self name.now }
     {
         match self {
-            ObjectKind::Report => is_of_report(name),
-            ObjectKind::DocumentInfo => is_looked_at(name) || is_kept(name),
-            ObjectKind::Fact => is_of_fact(name),
+            ObjectKind::Report => is_read_in_report(name),
+            ObjectKind::DocumentInfo => is_read_in_info(name) || is_kept_in_info(name),
+            ObjectKind::Fact => is_read_in_fact(name),
         }
     }
 }

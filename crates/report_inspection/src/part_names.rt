@@ -39,7 +39,7 @@ fn add_unknown_of<'a>(
 }
 
 /// The names that stand more than once in the report itself, in an object of `documentInfo`, or in `facts`.
-pub(crate) fn repeated_in_report<'a>(
+pub(crate) fn repeated_names_in_report<'a>(
     alloc: Global,
     report: &json::Value<'a>,
 ) -> Result<BTreeSet<&'a str>, AllocError>
@@ -57,7 +57,7 @@ pub(crate) fn repeated_in_report<'a>(
 }
 
 /// The members of a report and of `documentInfo` that are not known.
-pub(crate) fn unknown_in_report<'a>(
+pub(crate) fn unknown_names_in_report<'a>(
     alloc: Global,
     report: &json::Value<'a>,
 ) -> Result<BTreeSet<&'a str>, AllocError>
@@ -72,7 +72,7 @@ pub(crate) fn unknown_in_report<'a>(
 }
 
 /// The names that stand more than once in an object of a fact.
-pub(crate) fn repeated_in_fact<'a>(
+pub(crate) fn repeated_names_in_fact<'a>(
     alloc: Global,
     fact: &json::Value<'a>,
 ) -> Result<BTreeSet<&'a str>, AllocError>
@@ -84,7 +84,7 @@ pub(crate) fn repeated_in_fact<'a>(
 }
 
 /// The members of a fact that a reading passes over.
-pub(crate) fn unknown_in_fact<'a>(
+pub(crate) fn unknown_names_in_fact<'a>(
     alloc: Global,
     fact: &json::Value<'a>,
 ) -> Result<BTreeSet<&'a str>, AllocError>

@@ -34,7 +34,7 @@ pub struct Warning {
 }
 
 /// Warns of one more thing.
-pub(crate) fn push_warned(
+pub(crate) fn add_warning(
     alloc: Global,
     warnings: &mut Vec<Warning>,
     kind: WarningKind,

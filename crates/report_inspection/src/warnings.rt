@@ -7,14 +7,17 @@ ghost use Rattle.report_inspection.specs.MemberNames.{has_name};
 ghost use Rattle.report_inspection.specs.Warnings.{AreOf, AreOfFact, AreOfFacts, AreOfNames, AreOfReport, Tells, has_idle_decimals, kept_facts, of_decimals, told};
 
 use crate::concepts::warn_of_concepts;
-use crate::part_names::{repeated_in_fact, repeated_in_report, unknown_in_fact, unknown_in_report};
-use crate::warning::{Warning, WarningKind, push_warned};
+use crate::part_names::{
+    repeated_names_in_fact, repeated_names_in_report, unknown_names_in_fact,
+    unknown_names_in_report,
+};
+use crate::warning::{Warning, WarningKind, add_warning};
 use oim_fact::{Names, NumericTable};
 use std::alloc::{AllocError, Global};
 use std::collections::{BTreeMap, BTreeSet};
 
 /// Warns of each of these names.
-fn push_names(
+fn warn_of_names(
     alloc: Global,
     warnings: &mut Vec<Warning>,
     kind: WarningKind,
@@ -25,23 +28,23 @@ fn push_names(
         warnings.old.items warnings.new.items) }
 {
     for name in names.iter() {
-        push_warned(alloc, warnings, kind, fact, name)?;
+        add_warning(alloc, warnings, kind, fact, name)?;
     }
     Ok(())
 }
 
 /// Warns of the names in a report apart from those in its facts.
-fn warn_of_report(
+fn warn_of_report_names(
     alloc: Global,
     warnings: &mut Vec<Warning>,
     report: &json::Value<'_>,
 ) -> Result<(), AllocError>
     ensures { OnOk result (Tells (AreOfReport (value_view report.now)) warnings.old.items warnings.new.items) }
 {
-    let repeated = repeated_in_report(alloc, report)?;
-    push_names(alloc, warnings, WarningKind::NameTwice, None, &repeated)?;
-    let unknown = unknown_in_report(alloc, report)?;
-    push_names(alloc, warnings, WarningKind::NotRead, None, &unknown)
+    let repeated = repeated_names_in_report(alloc, report)?;
+    warn_of_names(alloc, warnings, WarningKind::NameTwice, None, &repeated)?;
+    let unknown = unknown_names_in_report(alloc, report)?;
+    warn_of_names(alloc, warnings, WarningKind::NotRead, None, &unknown)
 }
 
 /// Whether a fact has a number of decimals, and a value that is null.
@@ -65,7 +68,7 @@ fn warn_of_decimals(
     if !has_idle_decimals(fact) {
         return Ok(());
     }
-    push_warned(
+    add_warning(
         alloc,
         warnings,
         WarningKind::DecimalsBesideNull,
@@ -83,10 +86,10 @@ fn warn_of_fact(
 ) -> Result<(), AllocError>
     ensures { OnOk result (Tells (AreOfFact id.now (value_view fact.now)) warnings.old.items warnings.new.items) }
 {
-    let repeated = repeated_in_fact(alloc, fact)?;
-    push_names(alloc, warnings, WarningKind::NameTwice, Some(id), &repeated)?;
-    let unknown = unknown_in_fact(alloc, fact)?;
-    push_names(alloc, warnings, WarningKind::NotRead, Some(id), &unknown)?;
+    let repeated = repeated_names_in_fact(alloc, fact)?;
+    warn_of_names(alloc, warnings, WarningKind::NameTwice, Some(id), &repeated)?;
+    let unknown = unknown_names_in_fact(alloc, fact)?;
+    warn_of_names(alloc, warnings, WarningKind::NotRead, Some(id), &unknown)?;
     warn_of_decimals(alloc, warnings, id, fact)
 }
 
@@ -116,7 +119,7 @@ pub(crate) fn warnings_of<'a>(
     ensures { IfOk result (λ v. AreOf (value_view report.now) (map told v.items)) }
 {
     let mut warnings = Vec::new(alloc);
-    warn_of_report(alloc, &mut warnings, report)?;
+    warn_of_report_names(alloc, &mut warnings, report)?;
     warn_of_facts(alloc, &mut warnings, kept)?;
     warn_of_concepts(alloc, &mut warnings, report, kept, names, table)?;
     Ok(warnings)

@@ -11,7 +11,7 @@ use Rattle.script_format.specs.Script.{call_read}
 use Rattle.script_format.specs.ScriptLines.{◌>>=◌, Asking, Line, Load, Open, Ask, Commit, Close, Export}
 use Rattle.script_format.specs.ScriptLines.{text_at, ends_at, report_part_at, load_of, asking_at, asking_line, asking_of_verb, line_of, line_of_word}
 use Rattle.script_format.specs.Verbs.{verb_of_word}
-use Rattle.script_format.specs.declared.verb.Verb.{Verb}
+use Rattle.script_format.specs.declared.line.Verb.{Verb}
 use Rattle.script_format.proofs.LinesByWord.{HoldsOfOthers, of_word, then}
 
 -- a line that asks something has it in the value

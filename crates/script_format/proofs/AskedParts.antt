@@ -15,8 +15,8 @@ use Rattle.script_format.specs.ScriptLines.{◌>>=◌, Asking, Cell, Add, text_a
 use Rattle.script_format.specs.ScriptLines.{object_at, asked_at, nullable_at, limit_at, ends_at, get_at, cell_at}
 use Rattle.script_format.specs.ScriptLines.{page_at, add_at, remove_at, declared_at, declare_at, asking_at, asking_of_verb}
 use Rattle.script_format.specs.Verbs.{verb_of_word}
-use Rattle.script_format.specs.declared.verb.Verb.{Verb}
-use Rattle.script_format.specs.declared.verb.Verb.TheVariants as verb
+use Rattle.script_format.specs.declared.line.Verb.{Verb}
+use Rattle.script_format.specs.declared.line.Verb.TheVariants as verb
 
 -- behind a report, or behind a report and an identifier
 abbrev HasPart : ℕ → Data → Option Asking → Type 0

@@ -7,8 +7,8 @@ use Rattle.script_format.specs.ScriptLines.{◌>>=◌, Line, Open, Commit, Close
 use Rattle.script_format.specs.ScriptLines.{kind_of_word, text_at, ends_at, load_of, open_of, commit_of, close_of, export_of}
 use Rattle.script_format.specs.ScriptLines.{asking_line, line_of_verb, line_of_word}
 use Rattle.script_format.specs.Verbs.{verb_of_word}
-use Rattle.script_format.specs.declared.verb.Verb.{Verb}
-use Rattle.script_format.specs.declared.verb.Verb.TheVariants as verb
+use Rattle.script_format.specs.declared.line.Verb.{Verb}
+use Rattle.script_format.specs.declared.line.Verb.TheVariants as verb
 
 -- it holds where there is no line, and of these
 pub record HoldsOfOthers (P : Option Line → Type 0) : Type 0 where

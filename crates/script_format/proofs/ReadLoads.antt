@@ -9,7 +9,7 @@ use Rattle.serde_json.specs.Read.{of_json, of_members}
 use Rattle.filing_model.specs.Common.Text.{Text, text_eq}
 use Rattle.oim_report.proofs.InRange.{at_of, place_in, text_at_of, the_value}
 use Rattle.script_format.specs.Loads.{is_report, load_parts}
-use Rattle.script_format.specs.declared.verb.Verb.TheVariants as verb
+use Rattle.script_format.specs.declared.line.Verb.TheVariants as verb
 use Rattle.script_format.specs.ScriptLines.{◌>>=◌, Load, ends_at, line_of, line_of_verb, line_of_word, report_part_at, text_at}
 
 three : (a b c : Bool) → (a && b && c) ≡ true → (a ≡ true) × (b ≡ true) × (c ≡ true)

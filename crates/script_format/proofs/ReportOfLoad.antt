@@ -11,7 +11,7 @@ use Rattle.script_format.specs.ScriptLines.{◌>>=◌, Asking, Line, Load, Open,
 use Rattle.script_format.proofs.LinesByWord.{HoldsOfOthers, of_word, then}
 use Rattle.script_format.specs.ScriptLines.{text_at, ends_at, load_of}
 use Rattle.script_format.specs.ScriptLines.{asking_line, asking_of_verb, line_of}
-use Rattle.script_format.specs.declared.verb.Verb.{Verb}
+use Rattle.script_format.specs.declared.line.Verb.{Verb}
 
 -- a load has its report as the third part of the value
 abbrev pub HasReport : Data → Option Line → Type 0

@@ -10,7 +10,7 @@ use Rattle.filing_model.specs.Common.Try.{Gives}
 use Rattle.oim_report.specs.Faults.{report_fault}
 use Rattle.script_format.specs.Script.{report_in}
 use Rattle.script_format.specs.ScriptLines.{◌>>=◌, Load, line_of}
-use Rattle.script_format.specs.declared.load.Loaded.{Loaded}
+use Rattle.script_format.specs.declared.line_outcome.Loaded.{Loaded}
 
 -- a report is an object, or the text of one
 abbrev pub is_report : read.Json → Bool

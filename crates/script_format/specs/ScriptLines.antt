@@ -11,8 +11,8 @@ use Rattle.filing_model.specs.declared.duplicates.Allowed.{Allowed}
 use Rattle.filing_model.specs.declared.kind.Kind.{Kind}
 use Rattle.filing_model.specs.declared.kind.Kind.TheVariants.{Review, Amend}
 use Rattle.script_format.specs.Verbs.{verb_of_word}
-use Rattle.script_format.specs.declared.verb.Verb.{Verb}
-use Rattle.script_format.specs.declared.verb.Verb.TheVariants as verb
+use Rattle.script_format.specs.declared.line.Verb.{Verb}
+use Rattle.script_format.specs.declared.line.Verb.TheVariants as verb
 
 -- what a line asks of a session, with its parts. The dimensions of a cell and the fact of an addition are not read yet
 pub data Asking : Type 0 where

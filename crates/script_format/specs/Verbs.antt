@@ -1,8 +1,8 @@
 -- The words by which lines begin. The project's own.
 use Rattle.std.specs.Prelude.{Option, None, Some, codes, if◌then◌else◌}
 use Rattle.filing_model.specs.Common.Text.{Text, text_eq}
-use Rattle.script_format.specs.declared.verb.Verb.{Verb}
-use Rattle.script_format.specs.declared.verb.Verb.TheVariants as verb
+use Rattle.script_format.specs.declared.line.Verb.{Verb}
+use Rattle.script_format.specs.declared.line.Verb.TheVariants as verb
 
 abbrev pub verb_word : Verb → Text
 verb_word verb.Load = codes "load"

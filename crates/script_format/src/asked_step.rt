@@ -15,7 +15,7 @@ ghost use Rattle.script_format.specs.Script.{bad_dims_text, call_read};
 ghost use Rattle.script_format.specs.AskedStep.{AreAsked, IsAsked, asking_in};
 
 use crate::json_array::JsonArray;
-use crate::line::{Asking, asking_at, taken_at};
+use crate::line::{Asking, asking_from, taken_at};
 use crate::texts::{bad_fact_reply, bad_line_reply};
 use filing_model::Trouble;
 use filing_step::{Limit, PeriodFilter, Step};
@@ -200,7 +200,7 @@ fn step_in(
     let Some(word) = value.text_at(0) else {
         return Ok(None);
     };
-    let Some(asking) = asking_at(word, value, place) else {
+    let Some(asking) = asking_from(word, value, place) else {
         return Ok(None);
     };
     match asking {
@@ -219,7 +219,7 @@ fn step_in(
     }
 }
 
-/// The step that an array asks of a session by its first text, as `step_asked` has it; none where `asking_at` reads none.
+/// The step that an array asks of a session by its first text, as `step_asked` has it; none where `asking_from` reads none.
 /// The array is given up: dimensions and a fact move out of it.
 pub fn step_from(
     alloc: Global,

@@ -1,16 +1,19 @@
-//! `JsonArray`: the parts of a JSON array, whichever form of value it has.
-
+//! `JsonArray`: the parts of a JSON array, in either form of value. `TextArray`: one whose texts are those of its line, so that no part is copied before it is used.
 ghost use Rattle.std.specs.Prelude.{◌≡◌, option_map, option_and_then};
 ghost use Rattle.serde_json.specs.Data.{Data};
 ghost use Rattle.serde_json.specs.View.{view};
 ghost use Rattle.oim_fact.specs.PeriodFilterRef.{period_filter_of};
 ghost use Rattle.filing_model.specs.Reading.ReadReport.{allowed_of_word};
+ghost use Rattle.json.specs.Value.{value_view};
+ghost use Rattle.oim_report.specs.Borrowed.{IsInRange, data_of};
 ghost use Rattle.script_format.specs.ScriptLines as model;
+ghost use Rattle.script_format.specs.ReadParts as parts;
 
 use filing_model::Allowed;
 use filing_step::Limit;
+use json::Value as BorrowedValue;
 use oim_fact::PeriodFilterRef;
-use oim_report::allowed_of_word;
+use oim_report::{allowed_of_word, number};
 use serde_json::Value;
 
 /// A value whose parts are asked for by their places. Where it is no array, it has none.
@@ -111,4 +114,123 @@ pub fn allowed_at<V: JsonArray>(value: &V, place: usize) -> Option<Allowed>
     ensures { result ≡ option_and_then allowed_of_word (model.text_at place (V.seen value.now)) }
 {
     allowed_of_word(value.text_at(place)?)
+}
+
+/// A value in which each number is in range.
+#[derive(Drop)]
+pub(crate) struct TextArray<'a> {
+    value: BorrowedValue<'a>,
+    ghost in_range: { IsInRange value },
+}
+
+fn text_in<'a>(value: &'a BorrowedValue<'_>, place: usize) -> Option<&'a str>
+    ensures { option_map (λ t. t.now) result ≡ parts.text_at place (value_view value.now) }
+{
+    value.at(place)?.as_str()
+}
+
+fn nullable_in<'a>(value: &'a BorrowedValue<'_>, place: usize) -> Option<Option<&'a str>>
+    ensures { option_map (option_map (λ t. t.now)) result ≡ parts.nullable_at place (value_view value.now) }
+{
+    match value.at(place)? {
+        BorrowedValue::Null => Some(None),
+        BorrowedValue::String(text) => Some(Some(*text)),
+        _ => None,
+    }
+}
+
+fn asked_in<'a>(value: &'a BorrowedValue<'_>, place: usize) -> Option<PeriodFilterRef<'a>>
+    ensures { option_map period_filter_of result ≡ parts.asked_at place (value_view value.now) }
+{
+    match value.at(place)? {
+        BorrowedValue::Bool(true) => Some(PeriodFilterRef::Any),
+        BorrowedValue::Null => Some(PeriodFilterRef::Without),
+        BorrowedValue::String(text) => Some(PeriodFilterRef::Text(*text)),
+        _ => None,
+    }
+}
+
+fn limit_in(value: &BorrowedValue<'_>, place: usize) -> Option<Limit>
+    ensures { result ≡ parts.limit_at place (value_view value.now) }
+{
+    let text = value.at(place)?.as_number()?;
+    Limit::of(number(text)?.as_u64()?)
+}
+
+fn object_in<'a, 'b>(value: &'b BorrowedValue<'a>, place: usize) -> Option<&'b BorrowedValue<'a>>
+    ensures { option_map (λ v. value_view v.now) result ≡ parts.object_at place (value_view value.now) }
+{
+    let part = value.at(place)?;
+    match part {
+        BorrowedValue::Object(_) => Some(part),
+        _ => None,
+    }
+}
+
+fn report_part_in<'a, 'b>(
+    value: &'b BorrowedValue<'a>,
+    place: usize,
+) -> Option<&'b BorrowedValue<'a>>
+    ensures { option_map (λ v. value_view v.now) result ≡ parts.report_part_at place (value_view value.now) }
+{
+    let part = value.at(place)?;
+    match part {
+        BorrowedValue::Object(_) | BorrowedValue::String(_) => Some(part),
+        _ => None,
+    }
+}
+
+fn end_in(value: &BorrowedValue<'_>, place: usize) -> Option<()>
+    ensures { result ≡ parts.ends_at place (value_view value.now) }
+{
+    if value.at(place).is_some() {
+        None
+    } else {
+        Some(())
+    }
+}
+
+impl<'a> TextArray<'a> {
+    pub(crate) fn of(value: BorrowedValue<'a>) -> TextArray<'a>
+        requires { IsInRange value }
+        ensures { result.value ≡ value.entry }
+    {
+        TextArray { value }
+    }
+}
+
+impl<'a> JsonArray for TextArray<'a> {
+    type Part = BorrowedValue<'a>;
+
+    ghost seen = { λ a. data_of a.value };
+
+    ghost part_seen = { data_of };
+
+    fn text_at(&self, place: usize) -> Option<&str> {
+        text_in(&self.value, place)
+    }
+
+    fn nullable_at(&self, place: usize) -> Option<Option<&str>> {
+        nullable_in(&self.value, place)
+    }
+
+    fn asked_at(&self, place: usize) -> Option<PeriodFilterRef<'_>> {
+        asked_in(&self.value, place)
+    }
+
+    fn limit_at(&self, place: usize) -> Option<Limit> {
+        limit_in(&self.value, place)
+    }
+
+    fn object_at(&self, place: usize) -> Option<&BorrowedValue<'a>> {
+        object_in(&self.value, place)
+    }
+
+    fn report_part_at(&self, place: usize) -> Option<&BorrowedValue<'a>> {
+        report_part_in(&self.value, place)
+    }
+
+    fn ends_at(&self, place: usize) -> Option<()> {
+        end_in(&self.value, place)
+    }
 }

@@ -1,13 +1,12 @@
 //! `Line`: a line of a script by its kind, read from JSON without a copy of its parts.
-
 ghost use Rattle.std.specs.Prelude.{◌≡◌, ◌+◌, ◌<◌, ◌^◌, IsSome, Some, option_map};
 ghost use Rattle.serde_json.specs.Find.{at};
 ghost use Rattle.serde_json.specs.View.{view};
-ghost use Rattle.script_format.specs.ScriptLines as model;
 ghost use Rattle.script_format.specs.LineView.{asking_view, line_view};
+ghost use Rattle.script_format.specs.Verbs.{asking_verb_of_word, verb_of_word, verb_word};
+ghost use Rattle.script_format.specs.ScriptLines as model;
 
 use crate::json_array::{JsonArray, allowed_at};
-use crate::verb::Verb;
 use filing_model::{Allowed, Kind, is_same_text};
 use filing_step::Limit;
 use oim_fact::PeriodFilterRef;
@@ -117,7 +116,7 @@ fn open_of<V: JsonArray>(value: &V) -> Option<Line<'_, V::Part>>
     Some(Line::Open { session, kind })
 }
 
-fn get_at<V: JsonArray>(value: &V, place: usize) -> Option<Asking<'_, V::Part>>
+fn get_asking_from<V: JsonArray>(value: &V, place: usize) -> Option<Asking<'_, V::Part>>
     requires { place + 6 < 2 ^ 64 }
     ensures { option_map (asking_view V.part_seen) result ≡ model.get_at place (V.seen value.now) }
 {
@@ -127,7 +126,7 @@ fn get_at<V: JsonArray>(value: &V, place: usize) -> Option<Asking<'_, V::Part>>
     Some(Asking::Get { report, id })
 }
 
-fn cell_at<V: JsonArray>(value: &V, place: usize) -> Option<Asking<'_, V::Part>>
+fn cell_asking_from<V: JsonArray>(value: &V, place: usize) -> Option<Asking<'_, V::Part>>
     requires { place + 6 < 2 ^ 64 }
     ensures { option_map (asking_view V.part_seen) result ≡ model.cell_at place (V.seen value.now) }
 {
@@ -137,7 +136,7 @@ fn cell_at<V: JsonArray>(value: &V, place: usize) -> Option<Asking<'_, V::Part>>
     Some(Asking::Cell { report, dims })
 }
 
-fn page_at<V: JsonArray>(value: &V, place: usize) -> Option<Asking<'_, V::Part>>
+fn page_asking_from<V: JsonArray>(value: &V, place: usize) -> Option<Asking<'_, V::Part>>
     requires { place + 6 < 2 ^ 64 }
     ensures { option_map (asking_view V.part_seen) result ≡ model.page_at place (V.seen value.now) }
 {
@@ -156,7 +155,7 @@ fn page_at<V: JsonArray>(value: &V, place: usize) -> Option<Asking<'_, V::Part>>
     })
 }
 
-fn add_at<V: JsonArray>(value: &V, place: usize) -> Option<Asking<'_, V::Part>>
+fn add_asking_from<V: JsonArray>(value: &V, place: usize) -> Option<Asking<'_, V::Part>>
     requires { place + 6 < 2 ^ 64 }
     ensures { option_map (asking_view V.part_seen) result ≡ model.add_at place (V.seen value.now) }
 {
@@ -167,7 +166,7 @@ fn add_at<V: JsonArray>(value: &V, place: usize) -> Option<Asking<'_, V::Part>>
     Some(Asking::Add { report, id, fact })
 }
 
-fn remove_at<V: JsonArray>(value: &V, place: usize) -> Option<Asking<'_, V::Part>>
+fn remove_asking_from<V: JsonArray>(value: &V, place: usize) -> Option<Asking<'_, V::Part>>
     requires { place + 6 < 2 ^ 64 }
     ensures { option_map (asking_view V.part_seen) result ≡ model.remove_at place (V.seen value.now) }
 {
@@ -177,7 +176,7 @@ fn remove_at<V: JsonArray>(value: &V, place: usize) -> Option<Asking<'_, V::Part
     Some(Asking::Remove { report, id })
 }
 
-fn declared_at<V: JsonArray>(value: &V, place: usize) -> Option<Asking<'_, V::Part>>
+fn declared_asking_from<V: JsonArray>(value: &V, place: usize) -> Option<Asking<'_, V::Part>>
     requires { place + 6 < 2 ^ 64 }
     ensures { option_map (asking_view V.part_seen) result ≡ model.declared_at place (V.seen value.now) }
 {
@@ -186,7 +185,7 @@ fn declared_at<V: JsonArray>(value: &V, place: usize) -> Option<Asking<'_, V::Pa
     Some(Asking::Declared { report })
 }
 
-fn declare_at<V: JsonArray>(value: &V, place: usize) -> Option<Asking<'_, V::Part>>
+fn declare_asking_from<V: JsonArray>(value: &V, place: usize) -> Option<Asking<'_, V::Part>>
     requires { place + 6 < 2 ^ 64 }
     ensures { option_map (asking_view V.part_seen) result ≡ model.declare_at place (V.seen value.now) }
 {
@@ -202,19 +201,19 @@ fn asking_of_verb<V: JsonArray>(verb: Verb, value: &V, place: usize) -> Option<A
     ensures { option_map (asking_view V.part_seen) result ≡ model.asking_of_verb verb place (V.seen value.now) }
 {
     match verb {
-        Verb::Get => get_at(value, place),
-        Verb::Cell => cell_at(value, place),
-        Verb::Page => page_at(value, place),
-        Verb::Add => add_at(value, place),
-        Verb::Remove => remove_at(value, place),
-        Verb::Declared => declared_at(value, place),
-        Verb::Declare => declare_at(value, place),
+        Verb::Get => get_asking_from(value, place),
+        Verb::Cell => cell_asking_from(value, place),
+        Verb::Page => page_asking_from(value, place),
+        Verb::Add => add_asking_from(value, place),
+        Verb::Remove => remove_asking_from(value, place),
+        Verb::Declared => declared_asking_from(value, place),
+        Verb::Declare => declare_asking_from(value, place),
         Verb::Load | Verb::Open | Verb::Commit | Verb::Close | Verb::Export => None,
     }
 }
 
 /// What is asked by a word, with the parts of an array from a place on and none after them.
-pub(crate) fn asking_at<'a, V: JsonArray>(
+pub(crate) fn asking_from<'a, V: JsonArray>(
     word: &str,
     value: &'a V,
     place: usize,
@@ -285,4 +284,100 @@ pub fn line_of<V: JsonArray>(value: &V) -> Option<Line<'_, V::Part>>
     ensures { option_map (line_view V.part_seen) result ≡ model.line_of (V.seen value.now) }
 {
     line_of_verb(Verb::of_word(value.text_at(0)?)?, value)
+}
+
+/// The word by which a line begins. It decides which parts follow.
+#[derive(Clone, Copy)]
+pub enum Verb {
+    Load,
+    Open,
+    Commit,
+    Close,
+    Export,
+    Get,
+    Cell,
+    Page,
+    Add,
+    Remove,
+    Declared,
+    Declare,
+}
+
+impl Verb {
+    /// Each verb.
+    pub const ALL: [Verb; 12] = [
+        Verb::Load,
+        Verb::Open,
+        Verb::Get,
+        Verb::Cell,
+        Verb::Page,
+        Verb::Add,
+        Verb::Remove,
+        Verb::Declared,
+        Verb::Declare,
+        Verb::Commit,
+        Verb::Close,
+        Verb::Export,
+    ];
+
+    pub fn word(self) -> &'static str
+        ensures { result.now ≡ verb_word self }
+    {
+        match self {
+            Verb::Load => "load",
+            Verb::Open => "open",
+            Verb::Commit => "commit",
+            Verb::Close => "close",
+            Verb::Export => "export",
+            Verb::Get => "get",
+            Verb::Cell => "cell",
+            Verb::Page => "page",
+            Verb::Add => "add",
+            Verb::Remove => "remove",
+            Verb::Declared => "declared",
+            Verb::Declare => "declare",
+        }
+    }
+
+    /// The verb of this word, if any.
+    pub fn of_word(word: &str) -> Option<Verb>
+        ensures { result ≡ verb_of_word word.now }
+    {
+        if is_same_text(word, "load") {
+            Some(Verb::Load)
+        } else if is_same_text(word, "open") {
+            Some(Verb::Open)
+        } else if is_same_text(word, "commit") {
+            Some(Verb::Commit)
+        } else if is_same_text(word, "close") {
+            Some(Verb::Close)
+        } else if is_same_text(word, "export") {
+            Some(Verb::Export)
+        } else {
+            Verb::asking_of_word(word)
+        }
+    }
+
+    /// The verb of this word, of those that ask something of a session.
+    fn asking_of_word(word: &str) -> Option<Verb>
+        ensures { result ≡ asking_verb_of_word word.now }
+    {
+        if is_same_text(word, "get") {
+            Some(Verb::Get)
+        } else if is_same_text(word, "cell") {
+            Some(Verb::Cell)
+        } else if is_same_text(word, "page") {
+            Some(Verb::Page)
+        } else if is_same_text(word, "add") {
+            Some(Verb::Add)
+        } else if is_same_text(word, "remove") {
+            Some(Verb::Remove)
+        } else if is_same_text(word, "declared") {
+            Some(Verb::Declared)
+        } else if is_same_text(word, "declare") {
+            Some(Verb::Declare)
+        } else {
+            None
+        }
+    }
 }

@@ -79,7 +79,7 @@ fn reasons_of(
 }
 
 /// What was gathered, or what the refusal means where nothing was.
-fn some_of(alloc: Global, refusal: Refusal, gathered: Gathered) -> Result<Gathered, AllocError>
+fn or_meaning(alloc: Global, refusal: Refusal, gathered: Gathered) -> Result<Gathered, AllocError>
     ensures some { IfOk result (λ g. 0 < vec_len g.reasons) }
     ensures kept { IfOk result (λ g. (of : Text → Bool) → KeepsTo of gathered.reasons.items g.reasons.items) }
 {
@@ -107,7 +107,7 @@ fn gather_reasons(
         return Ok((column, Gathered::of(alloc, said)?));
     }
     let gathered = reasons_of(alloc, refusal, line, table, reply)?;
-    Ok((None, some_of(alloc, refusal, gathered)?))
+    Ok((None, or_meaning(alloc, refusal, gathered)?))
 }
 
 /// Why the line of this number was refused, by its reply and by the numeric table of its script; none where the reply answers it.

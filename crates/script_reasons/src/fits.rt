@@ -131,7 +131,7 @@ fn has_exponent(text: &str) -> bool {
 }
 
 /// Why a text is no number, where a letter or a sign in it shows that.
-fn hint(text: &str) -> &'static str {
+fn number_hint(text: &str) -> &'static str {
     if has_exponent(text) {
         ": exponents are not taken"
     } else if text.contains(',') {
@@ -162,7 +162,7 @@ fn number_fault(alloc: Global, fault: FactFault, fact: &Value) -> Result<String,
             None => String::from_str(alloc, "\"decimals\" is not within -20 to 15"),
         },
         _ => {
-            let hint = hint(text);
+            let hint = number_hint(text);
             format!(in alloc; "{shown} is no number here{hint}")
         }
     }

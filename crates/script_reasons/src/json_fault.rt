@@ -127,7 +127,12 @@ impl Walk {
     }
 
     /// The fault of a token that may not stand here, or of the end.
-    fn refuse(&self, alloc: Global, text: &str, is_bad: bool) -> Result<JsonFault, AllocError> {
+    fn unexpected_token(
+        &self,
+        alloc: Global,
+        text: &str,
+        is_bad: bool,
+    ) -> Result<JsonFault, AllocError> {
         let expected = self.next.expectation();
         let rest = match text.split_at_checked(self.place) {
             Some((_, rest)) => rest,
@@ -168,7 +173,11 @@ fn first_word(text: &str) -> &str {
 }
 
 /// The fault of a token that is none of JSON as it is read, though it stands where it may: a number out of range, or an array or object that nests too deep.
-fn misfit(alloc: Global, walk: &Walk, token: &Token<'_>) -> Result<Option<JsonFault>, AllocError> {
+fn unreadable_token(
+    alloc: Global,
+    walk: &Walk,
+    token: &Token<'_>,
+) -> Result<Option<JsonFault>, AllocError> {
     let said = match token {
         Token::Number(text) if number(text).is_none() => {
             let shown = Shown(text);
@@ -215,9 +224,9 @@ fn step(
     }
     if !walk.next.admits(token) {
         let is_bad = matches!(token, Token::Bad);
-        return Ok(Some(walk.refuse(alloc, text, is_bad)?));
+        return Ok(Some(walk.unexpected_token(alloc, text, is_bad)?));
     }
-    if let Some(fault) = misfit(alloc, walk, token)? {
+    if let Some(fault) = unreadable_token(alloc, walk, token)? {
         return Ok(Some(fault));
     }
     walk.pass(text, token, place)?;
@@ -239,5 +248,5 @@ pub(crate) fn json_fault(alloc: Global, text: &str) -> Result<JsonFault, AllocEr
             return Ok(fault);
         }
     }
-    walk.refuse(alloc, text, false)
+    walk.unexpected_token(alloc, text, false)
 }

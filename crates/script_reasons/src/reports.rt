@@ -37,7 +37,7 @@ pub fn faults_of_fact(
         Err(Trouble::NoMemory | Trouble::Dims(DimFault::NoMemory)) => return Err(AllocError),
         Err(trouble) => {
             tell_fact_faults(alloc, &mut told, fact)?;
-            told.tell_some(alloc, trouble)?;
+            told.tell_unless_told(alloc, trouble)?;
             return Ok(told);
         }
     };
@@ -46,7 +46,7 @@ pub fn faults_of_fact(
     };
     if let Err(fault) = fit(names, raw) {
         tell_fit_faults(alloc, &mut told, names, fault, fact)?;
-        told.tell_some(alloc, Trouble::Fit(fault))?;
+        told.tell_unless_told(alloc, Trouble::Fit(fault))?;
     }
     Ok(told)
 }

@@ -41,7 +41,11 @@ impl Told {
     }
 
     /// Tells a fault in general, where nothing was found.
-    pub(crate) fn tell_some(&mut self, alloc: Global, trouble: Trouble) -> Result<(), AllocError>
+    pub(crate) fn tell_unless_told(
+        &mut self,
+        alloc: Global,
+        trouble: Trouble,
+    ) -> Result<(), AllocError>
         ensures { OnOk result (0 < vec_len self.new.said) }
     {
         if self.said.is_empty() {

@@ -11,7 +11,7 @@ use Rattle.script_format.specs.Script.{Outcome, ReplyNow, answered, export_outco
 use Rattle.script_format.specs.declared.line_outcome.LineOutcome.{LineOutcome}
 use Rattle.script_format.specs.declared.line_outcome.LineOutcome.TheVariants as outcome
 use Rattle.script_runs.specs.StepsTaken.{carried, AnswersAs}
-use Rattle.script_runs.specs.declared.run.answer.Answer.{Answer}
+use Rattle.script_runs.specs.declared.run.machine.Answer.{Answer}
 use Rattle.script_runs.specs.declared.run.machine.ScriptMachine.{ScriptMachine}
 
 -- what holds of a text that was written, holds of that of the answer made of it

@@ -8,7 +8,7 @@ use Rattle.line_io.specs.KeptRun.{RepliesKept, RunsKept}
 use Rattle.line_io.specs.Run.{Answers, Runs}
 use Rattle.line_io.specs.declared.fault.ScriptFault.{ScriptFault}
 use Rattle.script_runs.specs.Observed.{IsShown, KeepsSeen, RepliesSeen}
-use Rattle.script_runs.specs.declared.run.observer.Observed.{Observed}
+use Rattle.script_runs.specs.declared.run.machine.Observed.{Observed}
 use Rattle.script_runs.proofs.RunsWithin.{IsWithin, answers_within}
 
 module _ {M O S : Type 0} (sees : O → Text → Text → O → Type 0) (state : S → SourceState) (reads : ℕ) (before after : Observed M O)

@@ -5,8 +5,8 @@ use Rattle.filing_model.specs.Common.Text.{Text}
 use Rattle.line_io.specs.Devices.{SourceState, SinkState, Gave, Took}
 use Rattle.line_io.specs.Lines.{lines_of, lines_text, spoken}
 use Rattle.line_io.specs.Run.{Answers}
-use Rattle.script_runs.specs.declared.run.observer.Observed.{Observed}
-use Rattle.script_runs.specs.declared.run.observer.Unobserved.{Unobserved}
+use Rattle.script_runs.specs.declared.run.machine.Observed.{Observed}
+use Rattle.script_runs.specs.declared.run.machine.Unobserved.{Unobserved}
 
 -- nothing is said
 abbrev pub looks_at_nothing : Unobserved → List ℕ → List ℕ → Unobserved → Type 0

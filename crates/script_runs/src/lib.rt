@@ -20,9 +20,8 @@ pub use history::reopen::{
 };
 pub use history::view::{NoView, View};
 pub use history::writing::write_history;
-pub use run::answer::Answer;
 pub use run::entry_file::EntryFile;
-pub use run::observer::{Observes, Unobserved};
+pub use run::machine::{Answer, Observes, Unobserved};
 pub use run::script::{READS, resume_script_observed, run_script, run_script_within};
 pub use run::with_entry_file::{RecordedRun, record_script_observed};
 pub use run::with_journal::{JournaledRun, run_script_with_journal_observed};

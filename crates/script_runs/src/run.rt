@@ -2,9 +2,7 @@
 //!
 //! - `script`: runs a script.
 //! - `machine`: answers its lines, each by the step that it takes.
-//! - `answer`: what a line is answered.
 //! - `taker`: what takes its steps: a core, an engine, or an engine with a journal or with a file of its entries.
-//! - `observer`: what is shown the lines with their answers.
 //! - `journal_keeper`: an engine with a journal.
 //! - `journal_steps`: the steps that it takes.
 //! - `durability`: keeps in the journal what was accepted before it is reported.
@@ -13,13 +11,11 @@
 //! - `recorder`: an engine whose entries are written to one.
 //! - `with_entry_file`: runs a script with that.
 
-pub(crate) mod answer;
 pub(crate) mod durability;
 pub(crate) mod entry_file;
 pub(crate) mod journal_keeper;
 pub(crate) mod journal_steps;
 pub(crate) mod machine;
-pub(crate) mod observer;
 pub(crate) mod recorder;
 pub(crate) mod script;
 pub(crate) mod taker;

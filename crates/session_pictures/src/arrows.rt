@@ -1,7 +1,8 @@
 //! The arrow into the bar of a session that ended by a conflict.
 
 use crate::elements::{
-    FROM_NOWHERE, ROW, along, down, push_from_above, push_from_below, push_group, push_group_end,
+    FROM_NOWHERE, ROW, column_x, push_from_above, push_from_below, push_group, push_group_end,
+    row_y,
 };
 use crate::picture::{Arrow, Picture};
 use std::alloc::AllocError;
@@ -17,7 +18,7 @@ fn push_from_row(out: &mut String, number: u64, session: u64) -> Result<(), Allo
 
 /// Appends the arrow into the row of a session.
 fn push_arrow(out: &mut String, first: u64, number: u64, arrow: &Arrow) -> Result<(), AllocError> {
-    push_group(out, along(arrow.column), down(first, number))?;
+    push_group(out, column_x(arrow.column), row_y(first, number))?;
     match arrow.from_row {
         Some(session) => push_from_row(out, number, session)?,
         None => out.push_str(FROM_NOWHERE)?,

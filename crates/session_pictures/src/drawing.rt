@@ -4,7 +4,7 @@ ghost use Rattle.std.specs.Prelude.{◌≡◌, IfOk};
 ghost use Rattle.session_pictures.specs.Picture.{picture_in, text_in};
 
 use crate::arrows::push_arrows_group;
-use crate::elements::{CELL, ROW, along, push_group, push_group_end};
+use crate::elements::{CELL, ROW, column_x, push_group, push_group_end};
 use crate::legend::{push_arrows_legend, push_ends, push_kinds};
 use crate::picture::Picture;
 use crate::rows::push_rows;
@@ -72,7 +72,7 @@ fn push_column(
     height: u128,
     version: u64,
 ) -> Result<(), AllocError> {
-    let x = along(column);
+    let x = column_x(column);
     write!(
         out,
         "<g transform=\"translate({x},0)\"><line y1=\"-6\" y2=\"{height}\" stroke=\"#c8c8c8\"/><text transform=\"translate(3,-10) rotate(-60)\">{version}</text></g>\n"

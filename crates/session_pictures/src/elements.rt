@@ -14,14 +14,14 @@ pub(crate) const ROW: u128 = 20;
 const ENDING: u128 = 18;
 
 /// Where a column begins.
-pub(crate) fn along(column: usize) -> u128
+pub(crate) fn column_x(column: usize) -> u128
     ensures { result ≤ 24 * 2 ^ 64 }
 {
     CELL * (column as u128)
 }
 
 /// Where the row of a session begins.
-pub(crate) fn down(first: u64, number: u64) -> u128 {
+pub(crate) fn row_y(first: u64, number: u64) -> u128 {
     ROW * (number.saturating_sub(first) as u128)
 }
 

@@ -1,7 +1,7 @@
 //! The row of a session: its label, its bar, and what is reported about its end.
 
 use crate::elements::{
-    along, down, end_inset, kind_style, kind_word, mark, push_group, push_group_end,
+    column_x, end_inset, kind_style, kind_word, mark, push_group, push_group_end, row_y,
 };
 use crate::picture::{Picture, Row, RowEnd};
 use crate::told::Ending;
@@ -13,8 +13,8 @@ const OPENING: u128 = 12;
 /// Where the bar of a session ends, among so many versions.
 fn bar_end(versions: usize, end: &Option<RowEnd>) -> u128 {
     match end {
-        Some(end) => along(end.column) + end_inset(end.ending),
-        None => along(versions),
+        Some(end) => column_x(end.column) + end_inset(end.ending),
+        None => column_x(versions),
     }
 }
 
@@ -28,7 +28,7 @@ fn push_label(out: &mut String, row: &Row) -> Result<(), AllocError> {
 
 /// Appends the bar of a session.
 fn push_bar(out: &mut String, versions: usize, row: &Row) -> Result<(), AllocError> {
-    let start = along(row.opening) + OPENING;
+    let start = column_x(row.opening) + OPENING;
     let width = bar_end(versions, &row.end).saturating_sub(start);
     write!(
         out,
@@ -81,7 +81,7 @@ fn push_end(out: &mut String, versions: usize, row: &Row) -> Result<(), AllocErr
 
 /// Appends the row of a session.
 fn push_row(out: &mut String, first: u64, versions: usize, row: &Row) -> Result<(), AllocError> {
-    push_group(out, 0, down(first, row.number))?;
+    push_group(out, 0, row_y(first, row.number))?;
     push_label(out, row)?;
     push_bar(out, versions, row)?;
     push_end(out, versions, row)?;

@@ -7,8 +7,8 @@ use Rattle.std.specs.Cmp.{IsTotalOrder}
 use Rattle.std.specs.List.{flat_map, remove, list_all}
 use Rattle.std.specs.Ordering.{is_gt, is_eq, eq_by_cmp, ordering_reverse}
 use Rattle.std.proofs.lemmas.List.{drop-set, length-append, set-get_or, take-append-drop, take-set}
-use Rattle.sorted_pages.specs.declared.edit.Edit.{Edit}
-use Rattle.sorted_pages.specs.declared.edit.Edit.TheVariants.{Remove}
+use Rattle.sorted_pages.specs.declared.apply.Edit.{Edit}
+use Rattle.sorted_pages.specs.declared.apply.Edit.TheVariants.{Remove}
 use Rattle.sorted_pages.specs.Ranges.{IsMonotone, first_within}
 use Rattle.sorted_pages.specs.Sorted.{IsRising, is_below, AllBelow}
 use Rattle.sorted_pages.specs.Changes.{entry_of, entries_put, with_change, without_tied}

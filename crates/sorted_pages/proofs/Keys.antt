@@ -2,7 +2,7 @@
 use Rattle.std.proofs.Common.{◌≡◌, ◌∙◌, ap, subst, refl, ℕ, T, not, List, [], ◌∷◌, ◌++◌, map, Option, Ordering, Less, Equal, Greater, is_lt}
 use Rattle.std.specs.Ordering.{is_gt, ordering_reverse}
 use Rattle.std.specs.Cmp.{IsTotalOrder}
-use Rattle.sorted_pages.specs.declared.edit.Edit.{Edit}
+use Rattle.sorted_pages.specs.declared.apply.Edit.{Edit}
 use Rattle.sorted_pages.specs.Changes.{entry_of}
 use Rattle.sorted_pages.specs.Edges.{ends_with, begins_with, first_passes}
 use Rattle.sorted_pages.specs.Keys.{last_of}

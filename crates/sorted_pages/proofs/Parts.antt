@@ -3,8 +3,8 @@ use Rattle.std.proofs.Common.{◌≡◌, ◌∙◌, ap, sym, subst, refl, true, 
 use Rattle.std.specs.Cmp.{IsTotalOrder, tied_back}
 use Rattle.std.specs.Ordering.{eq_by_cmp, ordering_reverse}
 use Rattle.std.specs.FinMap.Entries.{by_order, put, where_key}
-use Rattle.sorted_pages.specs.declared.edit.Edit.{Edit}
-use Rattle.sorted_pages.specs.declared.edit.Edit.TheVariants.{Put, Remove}
+use Rattle.sorted_pages.specs.declared.apply.Edit.{Edit}
+use Rattle.sorted_pages.specs.declared.apply.Edit.TheVariants.{Put, Remove}
 use Rattle.sorted_pages.specs.Sorted.{keyed, entries, IsRising, is_below, AllBelow}
 use Rattle.sorted_pages.specs.Changes.{entry_of, with_change, with_changes, entries_put, without_tied}
 use Rattle.sorted_pages.specs.Edges.{begins_with}

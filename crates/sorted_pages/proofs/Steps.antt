@@ -6,7 +6,7 @@ use Rattle.std.proofs.lemmas.List.{map-append}
 use Rattle.std.specs.List.{list_all, flat_map}
 use Rattle.std.specs.Cmp.{IsTotalOrder}
 use Rattle.std.specs.Ordering.{is_gt, ordering_reverse}
-use Rattle.sorted_pages.specs.declared.edit.Edit.{Edit}
+use Rattle.sorted_pages.specs.declared.apply.Edit.{Edit}
 use Rattle.sorted_pages.specs.Sorted.{IsRising, is_below, AllBelow, PassesBelow}
 use Rattle.sorted_pages.specs.Changes.{entry_of, with_changes, entries_put, without_tied}
 use Rattle.sorted_pages.specs.Edges.{ends_with, begins_with, first_passes, is_before_edge}

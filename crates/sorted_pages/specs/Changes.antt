@@ -3,8 +3,8 @@ use Rattle.std.specs.Prelude.{Bool, not, cond, List, [], ◌∷◌}
 use Rattle.std.specs.Ordering.{eq_by_cmp}
 use Rattle.std.specs.declared.cmp.Ordering.{Ordering}
 use Rattle.std.specs.FinMap.Entries.{put, where_key}
-use Rattle.sorted_pages.specs.declared.edit.Edit.{Edit}
-use Rattle.sorted_pages.specs.declared.edit.Edit.TheVariants.{Put, Remove}
+use Rattle.sorted_pages.specs.declared.apply.Edit.{Edit}
+use Rattle.sorted_pages.specs.declared.apply.Edit.TheVariants.{Put, Remove}
 use Rattle.sorted_pages.specs.Sorted.{keyed, entries}
 
 -- the entry that a change puts, or ties with what it removes

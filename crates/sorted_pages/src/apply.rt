@@ -7,13 +7,10 @@ ghost use Rattle.sorted_pages.specs.Pages.{of_block, singleton, IsFirst, IsFirst
 ghost use Rattle.sorted_pages.specs.Sorted.{IsRising, AllBelow, PassesBelow, is_below};
 ghost use Rattle.sorted_pages.specs.Changes.{entry_of, entries_put, with_changes, without_tied};
 
-use crate::block::Block;
-use crate::block_splitter::Layout;
-use crate::builder::{Grow, LevelBuilder, begin, finish};
+use crate::block::{Block, Layout};
 use crate::edge::{Before, Below, Until, split_at_edge, split_before_edge};
-use crate::edit::Edit;
 use crate::entry::{Edged, PageEntry};
-use crate::level::{Leaf, Level};
+use crate::level::{Grow, Leaf, Level, LevelBuilder, begin, finish};
 use crate::spans::Tie;
 use std::alloc::{AllocError, Global};
 use std::sync::Arc;
@@ -260,5 +257,25 @@ impl<E: PageEntry, T: Changing<E>> Changing<E> for Arc<Block<T>> {
         grown: U,
     ) -> Result<U, AllocError> {
         apply_to_blocks(alloc, items, changes, grown)
+    }
+}
+
+/// A change of a sorted list.
+#[derive(Debug, Drop)]
+pub enum Edit<E> {
+    /// The entry stands in the list, in place of one that ties with it.
+    Put(E),
+    /// No entry that ties with this one stands in the list.
+    Remove(E),
+}
+
+impl<E> Edit<E> {
+    /// The entry that is put, or that ties with what is removed.
+    pub fn entry(&self) -> &E
+        ensures { result.now ≡ entry_of self.now }
+    {
+        match self {
+            Edit::Put(entry) | Edit::Remove(entry) => entry,
+        }
     }
 }

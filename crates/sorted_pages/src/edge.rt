@@ -6,7 +6,7 @@ ghost use Rattle.sorted_pages.specs.Edges.{first_passes, last_passes, is_before_
 ghost use Rattle.sorted_pages.specs.Changes.{entry_of};
 ghost use Rattle.sorted_pages.specs.Keys.{IsSideOfFirst, IsSideOfLast};
 
-use crate::edit::Edit;
+use crate::apply::Edit;
 use crate::entry::{PageEntry, Span};
 use crate::level::Level;
 use crate::spans::Tie;

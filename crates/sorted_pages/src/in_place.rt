@@ -8,10 +8,9 @@ ghost use Rattle.sorted_pages.specs.Pages.{of_block, singleton};
 ghost use Rattle.sorted_pages.specs.Sorted.{IsRising};
 ghost use Rattle.sorted_pages.specs.Changes.{entries_put, with_change_if};
 
-use crate::apply::split_at_place;
+use crate::apply::{Edit, split_at_place};
 use crate::block::{Block, change_items};
 use crate::edge::{Before, split_at_edge};
-use crate::edit::Edit;
 use crate::entry::PageEntry;
 use crate::level::{Leaf, Level};
 use crate::spans::Tie;

@@ -1,15 +1,11 @@
 //! Unchanging sorted lists in pages, of which a changed copy shares every page where nothing changed.
 //!
 //! - `entry`: what an entry and a range of entries are.
-//! - `edit`: one change of a list.
 //! - `paged`: the list itself.
 //! - `range`: the entries in a range.
 //! - `spans`: ranges by entries of the list's own type.
-//! - `rising`: whether entries rise.
 //! - `level`: what stands at a level: an entry, a page, a run of pages, a group of runs, or a section of groups.
 //! - `block`: what a page, a run, a group and a section are.
-//! - `block_splitter`: where a block ends.
-//! - `builder`: a list that grows.
 //! - `edge`: the place where a test stops to hold.
 //! - `apply`: changes applied to a level.
 //! - `in_place`: one change made where nothing is shared.
@@ -19,21 +15,16 @@
 
 mod apply;
 mod block;
-mod block_splitter;
-mod builder;
 mod edge;
-mod edit;
 mod entry;
 mod in_place;
 mod level;
 mod paged;
 mod range;
-mod rising;
 mod spans;
 
-pub use edit::Edit;
-pub use entry::{PageEntry, Span, Summed, order_of_keys};
+pub use apply::Edit;
+pub use entry::{PageEntry, Span, Summed, are_rising, is_rising, order_of_keys};
 pub use paged::Paged;
 pub use range::Range;
-pub use rising::{are_rising, is_rising};
 pub use spans::Between;

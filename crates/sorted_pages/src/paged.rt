@@ -9,12 +9,11 @@ ghost use Rattle.sorted_pages.specs.Sorted.{IsRising, keyed};
 ghost use Rattle.sorted_pages.specs.Ranges.{from_span, within, first_within};
 ghost use Rattle.sorted_pages.specs.Changes.{entry_of, with_change, with_change_if, with_changes};
 ghost use Rattle.sorted_pages.specs.Edges.{first_passes};
-ghost use Rattle.sorted_pages.specs.declared.edit.Edit.TheVariants.{Remove};
+ghost use Rattle.sorted_pages.specs.declared.apply.Edit.TheVariants.{Remove};
 
-use crate::apply::{Changing, apply_to_blocks, fill_blocks};
-use crate::block_splitter::Layout;
+use crate::apply::{Changing, Edit, apply_to_blocks, fill_blocks};
+use crate::block::Layout;
 use crate::edge::{Before, split_at_edge};
-use crate::edit::Edit;
 use crate::entry::{PageEntry, Span};
 use crate::in_place::InPlace;
 use crate::level::{Group, Leaf, Section};

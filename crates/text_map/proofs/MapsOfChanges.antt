@@ -1,8 +1,8 @@
 -- What changes make of a list in byte order of names is what they make of its map.
 use Rattle.std.proofs.Common.{◌≡◌, ◌∙◌, ap, sym, refl, subst, Bool, true, false, cond, T, List, [], ◌∷◌, map, Option, Some, None, is_eq, true≢false}
 use Rattle.std.specs.FinMap.Entries.{below_all, is_sorted}
-use Rattle.sorted_pages.specs.declared.edit.Edit.{Edit}
-use Rattle.sorted_pages.specs.declared.edit.Edit.TheVariants.{Put, Remove}
+use Rattle.sorted_pages.specs.declared.apply.Edit.{Edit}
+use Rattle.sorted_pages.specs.declared.apply.Edit.TheVariants.{Put, Remove}
 use Rattle.sorted_pages.specs.Changes.{entry_of, with_change, with_changes}
 use Rattle.filing_model.specs.Common.Text.{Text, text_cmp, text_eq}
 use Rattle.filing_model.specs.Common.TextMap.{TextMap, get, from_entries}

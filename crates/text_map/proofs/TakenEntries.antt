@@ -2,7 +2,7 @@
 use Rattle.std.proofs.Common.{◌≡◌, ◌∙◌, ap, sym, refl, subst, Bool, true, false, cond, T, List, [], ◌∷◌, Option, Some, None, is_some}
 use Rattle.std.specs.Prelude.{option_map}
 use Rattle.std.specs.FinMap.Entries.{is_sorted}
-use Rattle.sorted_pages.specs.declared.edit.Edit.TheVariants.{Remove}
+use Rattle.sorted_pages.specs.declared.apply.Edit.TheVariants.{Remove}
 use Rattle.sorted_pages.specs.Changes.{with_change}
 use Rattle.filing_model.specs.Common.Text.{Text, text_cmp, text_eq}
 use Rattle.filing_model.specs.Common.TextMap.{TextMap, get, insert, remove, from_entries}

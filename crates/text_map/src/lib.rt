@@ -3,12 +3,10 @@
 //! - `named_value`: a value under a name, how many of a kind of value a page holds, and a name that is looked for.
 //! - `text_pages`: the unchanging map of such values.
 //! - `name_map`: the map that changes in place.
-//! - `keyed_name`: a name in it, with its first bytes.
 //!
 //! It knows nothing of reports, of versions or of orders by anything but a name.
 #![tactic(auto)]
 
-mod keyed_name;
 mod name_map;
 mod named_value;
 mod text_pages;

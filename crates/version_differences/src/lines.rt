@@ -49,7 +49,7 @@ fn push_allowed(out: &mut String, allowed: Allowed) -> Result<(), AllocError>
 }
 
 /// Appends how the line of a declared value ends.
-fn push_values(out: &mut String, from: Allowed, to: Allowed) -> Result<(), AllocError>
+fn push_allowed_from_to(out: &mut String, from: Allowed, to: Allowed) -> Result<(), AllocError>
     ensures { OnOk result (string_bytes out.new ≡ string_bytes out.old ++ (codes "," ++ (word_text (allowed_word from)
         ++ (codes "," ++ (word_text (allowed_word to) ++ codes "]\n"))))) }
 {
@@ -59,7 +59,7 @@ fn push_values(out: &mut String, from: Allowed, to: Allowed) -> Result<(), Alloc
 }
 
 /// Appends the line of a declared value that is another.
-fn push_another_value(
+fn push_changed_allowed(
     out: &mut String,
     name: &str,
     from: Allowed,
@@ -69,7 +69,7 @@ fn push_another_value(
 {
     out.push_str("[\"declared\",")?;
     push_quoted(out, name)?;
-    push_values(out, from, to)
+    push_allowed_from_to(out, from, to)
 }
 
 fn are_same_values(one: Allowed, other: Allowed) -> bool
@@ -91,7 +91,7 @@ pub(crate) fn push_declared(
     if are_same_values(from, to) {
         return Ok(());
     }
-    push_another_value(out, name, from, to)
+    push_changed_allowed(out, name, from, to)
 }
 
 /// Appends how a line of a fact begins: with its word, the name of the report and the identifier.

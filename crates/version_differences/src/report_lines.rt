@@ -26,7 +26,7 @@ fn fact_of<'a>(version: &'a RepoVersion, name: &str, id: &str) -> Option<&'a Fac
 }
 
 /// Appends the line of an identifier, if its fact differs.
-fn push_id(
+fn push_lines_at_id(
     out: &mut String,
     name: &str,
     id: &str,
@@ -46,7 +46,7 @@ fn push_id(
 }
 
 /// Appends the lines of these identifiers.
-fn push_ids(
+fn push_lines_at_ids(
     out: &mut String,
     name: &str,
     ids: &Ids,
@@ -58,7 +58,7 @@ fn push_ids(
         (keys ids.now))) }
 {
     for entry in ids.iter() {
-        push_id(out, name, entry.name(), from, to)?;
+        push_lines_at_id(out, name, entry.name(), from, to)?;
     }
     Ok(())
 }
@@ -81,7 +81,7 @@ pub(crate) fn push_report_lines(
         (Some(_), None) => push_no_report(out, name),
         (Some(before), Some(after)) => {
             push_declared(out, name, before, after)?;
-            push_ids(out, name, ids, from, to)
+            push_lines_at_ids(out, name, ids, from, to)
         }
     }
 }

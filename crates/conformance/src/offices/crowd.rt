@@ -7,7 +7,7 @@ use crate::offices::acts::line_step;
 use crate::offices::ends::{all_came, give_up};
 use crate::offices::entered::{Told, has_each_receipt};
 use crate::offices::meeting::Meeting;
-use crate::offices::places::made_of_each;
+use crate::offices::places::map_with_place;
 use crate::offices::readers::Readers;
 use crate::offices::rounds::{Way, work_of};
 use anyhow::{Result, anyhow};
@@ -118,7 +118,7 @@ fn run_rounds<
     let with_steps = |alloc: Global, place: usize, desk: Desk<L, M>| -> Result<Work<L, M>> {
         work_of(alloc, way, place, desk)
     };
-    let works = made_of_each(rt.alloc(), desks, with_steps)?;
+    let works = map_with_place(rt.alloc(), desks, with_steps)?;
     match way {
         Way::Steps => {
             let run = |work: Work<L, M>| -> Ran<L, M> { take_in_order(rt, office, work) };
@@ -129,19 +129,27 @@ fn run_rounds<
 }
 
 /// The desk that comes back.
-fn desk_of<L: Ledger + Naming, M: Ledger>(
-    _alloc: Global,
-    _place: usize,
-    ran: Ran<L, M>,
-) -> Result<Desk<L, M>> {
+fn desk_back<L: Ledger + Naming, M: Ledger>(ran: Ran<L, M>) -> Desk<L, M> {
     let (desk, reviewer, outcomes) = ran;
     drop(reviewer);
     drop(outcomes);
-    Ok(desk)
+    desk
+}
+
+/// The desks that come back.
+fn desks_back<L: Ledger + Naming, M: Ledger>(
+    alloc: Global,
+    all_ran: Vec<Ran<L, M>>,
+) -> Result<Vec<Desk<L, M>>> {
+    let mut desks = Vec::with_capacity(alloc, all_ran.len())?;
+    for ran in all_ran {
+        desks.push(desk_back(ran))?;
+    }
+    Ok(desks)
 }
 
 /// What each desk was answered, whose receipts a reviewer learns. It opens a review when it has learnt those of the first.
-fn told_of_all<L: Ledger + Naming, M: Ledger>(
+fn answers_of_all<L: Ledger + Naming, M: Ledger>(
     alloc: Global,
     ran: &[Ran<L, M>],
     readers: &mut Readers<L>,
@@ -165,8 +173,8 @@ fn come_back<L: Ledger + Naming, M: Ledger>(
     readers: &mut Readers<L>,
     way: Way,
 ) -> Result<(Vec<Desk<L, M>>, Vec<Told>)> {
-    match told_of_all(alloc, &ran, readers, way) {
-        Ok(told) => match made_of_each(alloc, ran, desk_of::<L, M>) {
+    match answers_of_all(alloc, &ran, readers, way) {
+        Ok(told) => match desks_back(alloc, ran) {
             Ok(desks) => Ok((desks, told)),
             Err(error) => {
                 drop(told);

@@ -27,7 +27,7 @@ fn number_text(alloc: Global, number: Option<u64>) -> Result<String, AllocError>
 }
 
 /// The answer to an act.
-fn told<J: Naming, R: Wait + AllocGlobal>(
+fn answer_to_act<J: Naming, R: Wait + AllocGlobal>(
     rt: &R,
     shared: &mut Shared<J>,
     act: &Value,
@@ -61,7 +61,7 @@ fn play_acts<J: Naming, R: Wait + AllocGlobal>(
 ) -> Result<()> {
     for line in acts.lines() {
         if let Some(act) = json_value(rt.alloc(), line.as_bytes())? {
-            let told = told(rt, shared, &act);
+            let told = answer_to_act(rt, shared, &act);
             drop(act);
             push_line(all_told, told?.as_bytes())?;
         }

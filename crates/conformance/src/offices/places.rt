@@ -4,7 +4,7 @@ use anyhow::Result;
 use std::alloc::Global;
 
 /// What is made of each value at its place.
-pub(crate) fn made_of_each<T: Drop, U: Drop, F: Fn(Global, usize, T) -> Result<U>>(
+pub(crate) fn map_with_place<T: Drop, U: Drop, F: Fn(Global, usize, T) -> Result<U>>(
     alloc: Global,
     values: Vec<T>,
     make: F,

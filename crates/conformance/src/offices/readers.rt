@@ -39,7 +39,7 @@ fn reply_to(alloc: Global, review: &Review, step: Step) -> Result<Reply> {
 }
 
 /// The text of a reply, which is dropped.
-fn told(alloc: Global, reply: Reply) -> Result<String> {
+fn into_reply_text(alloc: Global, reply: Reply) -> Result<String> {
     let told = reply_text(alloc, &reply);
     drop(reply);
     Ok(told?)
@@ -64,7 +64,7 @@ impl<J: Naming> Readers<J> {
         } = answer;
         self.session = session;
         match self.receipts.extend(receipt) {
-            Ok(()) => told(alloc, reply),
+            Ok(()) => into_reply_text(alloc, reply),
             Err(error) => {
                 drop(reply);
                 Err(error.into())
@@ -115,7 +115,7 @@ impl<J: Naming> Readers<J> {
     /// What a review is answered.
     pub(crate) fn ask(&self, alloc: Global, one: usize, step: Step) -> Result<String> {
         match self.reviews.get(one) {
-            Some(review) => told(alloc, reply_to(alloc, review, step)?),
+            Some(review) => into_reply_text(alloc, reply_to(alloc, review, step)?),
             None => {
                 drop(step);
                 Err(anyhow!("there is no such review"))

@@ -28,7 +28,7 @@ use std::sync::ledger::Ledger;
 const END: &str = "[\"end\"]\n";
 
 /// A desk takes a step in the session of the answer before.
-fn taken<L: Ledger + Naming, M: Ledger, R: Wait + AllocGlobal>(
+fn take_in_session<L: Ledger + Naming, M: Ledger, R: Wait + AllocGlobal>(
     rt: &R,
     office: &Office<L, M>,
     desk: &mut Desk<L, M>,
@@ -40,7 +40,7 @@ fn taken<L: Ledger + Naming, M: Ledger, R: Wait + AllocGlobal>(
 }
 
 /// The answer to an act.
-fn told<L: Ledger + Naming, M: Ledger, R: Wait + AllocGlobal>(
+fn answer_to_act<L: Ledger + Naming, M: Ledger, R: Wait + AllocGlobal>(
     rt: &R,
     office: &Office<L, M>,
     desks: &mut Desks<L, M>,
@@ -49,7 +49,7 @@ fn told<L: Ledger + Naming, M: Ledger, R: Wait + AllocGlobal>(
 ) -> Result<String> {
     match text_at(act, 0) {
         "step" => match desks.here.get_mut(number_at(act, 1)) {
-            Some(desk) => taken(rt, office, desk, readers, step_at(rt.alloc(), act)?),
+            Some(desk) => take_in_session(rt, office, desk, readers, step_at(rt.alloc(), act)?),
             None => Err(anyhow!("there is no such desk")),
         },
         "leave" => desks.leave(rt.alloc()),
@@ -72,7 +72,7 @@ fn play_before<L: Ledger + Naming, M: Ledger, R: Wait + AllocGlobal>(
 ) -> Result<()> {
     for line in acts.lines() {
         if let Some(act) = json_value(rt.alloc(), line.as_bytes())? {
-            let told = told(rt, office, desks, readers, &act);
+            let told = answer_to_act(rt, office, desks, readers, &act);
             drop(act);
             push_line(all_told, told?.as_bytes())?;
         }

@@ -52,19 +52,24 @@ fn some_changes(alloc: Global, round: u64) -> Result<Vec<Edit<Item>>, AllocError
 }
 
 /// Makes the changes of a round in both lists. Whether they have the same entries then, in pages of the same lengths.
-fn take_round(alloc: Global, list: &mut List, plain: &mut PlainPages, round: u64) -> Result<bool> {
+fn is_same_after_round(
+    alloc: Global,
+    list: &mut List,
+    plain: &mut PlainPages,
+    round: u64,
+) -> Result<bool> {
     let changes = some_changes(alloc, round)?;
     plain.change(alloc, &changes)?;
     list.change(alloc, &changes)?;
-    let (sizes, items) = plain.told(alloc)?;
+    let (sizes, items) = plain.sizes_and_items(alloc)?;
     Ok(list.sizes(alloc)? == sizes && list.has_all(alloc, &items)?)
 }
 
 /// Makes rounds of changes in both, and compares them after each. How many differ.
-fn take_rounds(alloc: Global, list: &mut List, plain: &mut PlainPages) -> Result<u64> {
+fn count_differing_rounds(alloc: Global, list: &mut List, plain: &mut PlainPages) -> Result<u64> {
     let mut differing = 0u64;
     for round in 0..ROUNDS {
-        let is_same = take_round(alloc, list, plain, round)?;
+        let is_same = is_same_after_round(alloc, list, plain, round)?;
         differing = differing.saturating_add(u64::from(!is_same));
     }
     Ok(differing)
@@ -78,8 +83,8 @@ pub(crate) fn compare_rounds<R: Print + AllocGlobal>(rt: &R, kind: Kind) -> Resu
     };
     let items = spaced_items(rt.alloc(), 0, GAP, FIRST)?;
     let mut plain = PlainPages::of_items(rt.alloc(), &items)?;
-    let mut list = List::built(rt.alloc(), kind, items)?;
-    let taken = take_rounds(rt.alloc(), &mut list, &mut plain);
+    let mut list = List::of_items(rt.alloc(), kind, items)?;
+    let taken = count_differing_rounds(rt.alloc(), &mut list, &mut plain);
     drop(list);
     let differing = taken?;
     println!(rt; "rounds of changes of {what}: {ROUNDS}, {differing} differ")?;

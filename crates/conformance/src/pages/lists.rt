@@ -40,11 +40,11 @@ pub(crate) fn spaced_items(
 
 impl List {
     /// The list of items, which have to rise where it stands alone.
-    pub(crate) fn built(alloc: Global, kind: Kind, items: Vec<Item>) -> Result<List> {
+    pub(crate) fn of_items(alloc: Global, kind: Kind, items: Vec<Item>) -> Result<List> {
         match kind {
             Kind::Alone if is_rising(&items) => Ok(List::Alone(Paged::of_sorted(alloc, items)?)),
             Kind::Alone => Err(anyhow!("the items do not rise")),
-            Kind::Report => Ok(List::Report(Reported::built(alloc, &items)?)),
+            Kind::Report => Ok(List::Report(Reported::of_items(alloc, &items)?)),
         }
     }
 
@@ -85,7 +85,7 @@ impl List {
     }
 
     /// The first key of a range, how many items it has, how many of them do not rise from the first by one, and the greatest weight.
-    pub(crate) fn range_told(&self, alloc: Global, from: u64, until: u64) -> Result<String> {
+    pub(crate) fn range_answer(&self, alloc: Global, from: u64, until: u64) -> Result<String> {
         let List::Alone(list) = self else {
             return Err(anyhow!("a report tells of no range of identifiers"));
         };

@@ -106,7 +106,10 @@ impl PlainPages {
     }
 
     /// The lengths of the pages, and the items, one after another.
-    pub(crate) fn told(&self, alloc: Global) -> Result<(Vec<usize>, Vec<Item>), AllocError> {
+    pub(crate) fn sizes_and_items(
+        &self,
+        alloc: Global,
+    ) -> Result<(Vec<usize>, Vec<Item>), AllocError> {
         let (mut sizes, mut items) = (Vec::new(alloc), Vec::new(alloc));
         for page in &self.pages {
             sizes.push(page.len())?;

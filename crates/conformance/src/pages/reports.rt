@@ -75,7 +75,7 @@ impl Reported {
     }
 
     /// The report of items.
-    pub(crate) fn built(alloc: Global, items: &[Item]) -> Result<Reported> {
+    pub(crate) fn of_items(alloc: Global, items: &[Item]) -> Result<Reported> {
         let load = load_of(alloc, items)?;
         let core = Core::new(alloc)?;
         let mut reported = Reported { core, sessions: 0 };

@@ -37,12 +37,12 @@ fn push_changes(changes: &mut Vec<Edit<Item>>, edit: &Value) -> Result<(), Alloc
 }
 
 /// The answer to a line, if it asks.
-fn told(alloc: Global, kind: Kind, list: &mut List, line: &Value) -> Result<String> {
+fn answer_to_line(alloc: Global, kind: Kind, list: &mut List, line: &Value) -> Result<String> {
     let (one, two, three) = (number_at(line, 1), number_at(line, 2), number_at(line, 3));
     match text_at(line, 0) {
         "spaced" => {
             let items = spaced_items(alloc, one as u64, two as u64, three as u64)?;
-            drop(mem::replace(list, List::built(alloc, kind, items)?));
+            drop(mem::replace(list, List::of_items(alloc, kind, items)?));
         }
         "change" => {
             let mut changes = Vec::new(alloc);
@@ -55,17 +55,17 @@ fn told(alloc: Global, kind: Kind, list: &mut List, line: &Value) -> Result<Stri
             let sizes = list.sizes(alloc)?;
             return Ok(format!(in alloc; "{sizes:?}\n")?);
         }
-        _ => return list.range_told(alloc, one as u64, two as u64),
+        _ => return list.range_answer(alloc, one as u64, two as u64),
     }
     Ok(String::new(alloc))
 }
 
 /// The answers to lines in turn.
-fn told_all(alloc: Global, kind: Kind, list: &mut List, lines: &[u8]) -> Result<String> {
+fn answers_to_lines(alloc: Global, kind: Kind, list: &mut List, lines: &[u8]) -> Result<String> {
     let mut all_told = String::new(alloc);
     for line in lines.split(is_end) {
         if let Some(line) = json_value(alloc, line)? {
-            let told = told(alloc, kind, list, &line);
+            let told = answer_to_line(alloc, kind, list, &line);
             drop(line);
             all_told.push_str(&told?)?;
         }
@@ -75,9 +75,9 @@ fn told_all(alloc: Global, kind: Kind, list: &mut List, lines: &[u8]) -> Result<
 
 impl Answers for Lists {
     /// The answers to the lines of a sheet, of a list that is empty at first.
-    fn told(&self, alloc: Global, sheet: &Sheet) -> Result<Vec<u8>> {
-        let mut list = List::built(alloc, self.kind, Vec::new(alloc))?;
-        let told = told_all(alloc, self.kind, &mut list, sheet.script());
+    fn answer_to(&self, alloc: Global, sheet: &Sheet) -> Result<Vec<u8>> {
+        let mut list = List::of_items(alloc, self.kind, Vec::new(alloc))?;
+        let told = answers_to_lines(alloc, self.kind, &mut list, sheet.script());
         drop(list);
         Ok(told?.into_bytes())
     }

@@ -11,7 +11,7 @@ use crate::files::named::{Named, OUTPUT, Reasons};
 use crate::files::table::numeric_table;
 use crate::keys::drawn_keys;
 use crate::reasons::departure::explain_fault;
-use crate::runs::beginning::departure;
+use crate::runs::beginning::departure_fault;
 use crate::runs::between::Between;
 use filing_args::{DiffWords, number_of};
 use filing_cli::{FromReader, ToWriter};
@@ -75,7 +75,7 @@ fn write_difference<R: Read + Drop, W: Write + Drop>(
         }
         Verdict::Departs(place) => {
             forget(found);
-            Err(departure(place))
+            Err(departure_fault(place))
         }
     }
 }

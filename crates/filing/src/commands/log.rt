@@ -11,7 +11,7 @@ use crate::files::named::{Named, OUTPUT, Reasons};
 use crate::files::table::numeric_table;
 use crate::keys::drawn_keys;
 use crate::reasons::departure::explain_fault;
-use crate::runs::beginning::departure;
+use crate::runs::beginning::departure_fault;
 use filing_args::{LogWords, number_given, refuse_misfit_of_log};
 use filing_cli::{FromReader, ToWriter};
 use filing_core::{HashKeys, Verdict};
@@ -46,7 +46,7 @@ fn write_log<R: Read + Drop, W: Write + Drop>(
         }
         Verdict::Departs(place) => {
             forget(found);
-            Err(departure(place))
+            Err(departure_fault(place))
         }
     }
 }
@@ -77,7 +77,7 @@ fn write_picture<R: Read + Drop, W: Write + Drop>(
         }
         Verdict::Departs(place) => {
             forget(found);
-            Err(departure(place))
+            Err(departure_fault(place))
         }
     }
 }

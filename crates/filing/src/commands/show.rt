@@ -12,7 +12,7 @@ use crate::files::named::{Named, OUTPUT, Reasons};
 use crate::files::table::numeric_table;
 use crate::keys::drawn_keys;
 use crate::reasons::departure::explain_fault;
-use crate::runs::beginning::departure;
+use crate::runs::beginning::departure_fault;
 use crate::runs::between::Between;
 use filing_args::{ShowWords, number_given};
 use filing_cli::{FromReader, ToWriter};
@@ -54,7 +54,7 @@ fn write_report<R: Read + Drop, W: Write + Drop>(
         }
         Verdict::Departs(place) => {
             forget(found);
-            Err(departure(place))
+            Err(departure_fault(place))
         }
     }
 }
@@ -88,7 +88,7 @@ fn write_listing<R: Read + Drop, W: Write + Drop>(
         }
         Verdict::Departs(place) => {
             forget(found);
-            Err(departure(place))
+            Err(departure_fault(place))
         }
     }
 }

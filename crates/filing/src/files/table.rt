@@ -68,7 +68,7 @@ pub(crate) fn bytes_given(
 }
 
 /// The bytes after one byte order mark, of which it warns.
-fn after_mark<'a>(rt: &impl Eprint, path: &str, bytes: &'a [u8]) -> &'a [u8]
+fn skip_mark_with_warning<'a>(rt: &impl Eprint, path: &str, bytes: &'a [u8]) -> &'a [u8]
     ensures { result.now ≡ without_mark bytes.now }
 {
     let rest = without_mark(bytes);
@@ -98,7 +98,7 @@ fn add_file(
     reasons: Reasons,
 ) -> Result<(), Fault> {
     let bytes = bytes_given(rt, path, reasons)?;
-    let added = add_lines(rt.alloc(), lines, after_mark(rt, path, &bytes));
+    let added = add_lines(rt.alloc(), lines, skip_mark_with_warning(rt, path, &bytes));
     if let Err(fault) = &added {
         tell_table_fault(path, *fault, reasons);
     }

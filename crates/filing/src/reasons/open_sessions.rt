@@ -39,7 +39,7 @@ fn session_named(alloc: Global, line: &[u8]) -> Result<Option<String>, AllocErro
 }
 
 /// Whether a reply begins with this word.
-fn says(reply: &str, word: &str) -> bool {
+fn begins_with_word(reply: &str, word: &str) -> bool {
     match reply.strip_prefix("[\"") {
         Some(rest) => match rest.strip_prefix(word) {
             Some(end) => end.starts_with('"'),
@@ -74,12 +74,12 @@ impl OpenSessions {
         line: &[u8],
         reply: &str,
     ) -> Result<(), AllocError> {
-        let opens = says(reply, "opened");
-        let stages = says(reply, "staged");
-        let ends = says(reply, "committed")
-            || says(reply, "closed")
-            || says(reply, "conflict")
-            || says(reply, "disallowed");
+        let opens = begins_with_word(reply, "opened");
+        let stages = begins_with_word(reply, "staged");
+        let ends = begins_with_word(reply, "committed")
+            || begins_with_word(reply, "closed")
+            || begins_with_word(reply, "conflict")
+            || begins_with_word(reply, "disallowed");
         if !(opens || stages || ends) {
             return Ok(());
         }

@@ -19,7 +19,7 @@ use std::mem::forget;
 use std::sync::Arc;
 
 /// The fault of a history that departs at a place, from 0.
-pub(crate) fn departure(place: usize) -> Fault
+pub(crate) fn departure_fault(place: usize) -> Fault
     ensures { result ≡ Fault.HistoryLine (place + 1) }
 {
     Fault::HistoryLine(place as u128 + 1)
@@ -54,7 +54,7 @@ pub(crate) fn begin_from<V: View + Drop, H: Source + Drop>(
             Verdict::Departs(place) => {
                 // The process ends soon, and the system takes the memory back at once.
                 forget(found);
-                (Some(source), Err(departure(place)))
+                (Some(source), Err(departure_fault(place)))
             }
         },
         Err(fault) => (Some(source), Err(Fault::from(fault))),

@@ -15,7 +15,7 @@ use oim_report::{push_dims, push_nullable, push_quoted};
 use std::alloc::AllocError;
 
 /// Appends the array of a word and a report.
-fn push_named(out: &mut String, opening: &str, report: &str) -> Result<(), AllocError>
+fn push_array_of_report(out: &mut String, opening: &str, report: &str) -> Result<(), AllocError>
     ensures { OnOk result (string_bytes out.new ≡ string_bytes out.old
         ++ (opening.now ++ (quoted report.now ++ codes "]"))) }
 {
@@ -98,10 +98,10 @@ pub(super) fn push_thing(out: &mut String, thing: &Thing) -> Result<(), AllocErr
     ensures { OnOk result (string_bytes out.new ≡ string_bytes out.old ++ thing_text (thing_of thing.now)) }
 {
     match thing {
-        Thing::Report(report) => push_named(out, "[\"report\",", report),
+        Thing::Report(report) => push_array_of_report(out, "[\"report\",", report),
         Thing::Id(report, id) => push_id(out, report, id),
         Thing::Cell(report, dims) => push_cell(out, report, dims),
         Thing::Range(report, query, upto) => push_range(out, report, query, upto),
-        Thing::Policy(report) => push_named(out, "[\"policy\",", report),
+        Thing::Policy(report) => push_array_of_report(out, "[\"policy\",", report),
     }
 }

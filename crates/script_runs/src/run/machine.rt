@@ -1,18 +1,19 @@
 //! `ScriptMachine`: what takes steps, asked by lines of a script.
-
-ghost use Rattle.std.specs.Prelude.{◌≡◌, IfOk, string_bytes};
+ghost use Rattle.std.specs.Prelude.{◌≡◌, IfOk, string_bytes, Ok, Some, ℕ, List};
 ghost use Rattle.std.specs.Arc.{arc_value};
 ghost use Rattle.filing_model.specs.Common.TextMap.{empty, get};
-ghost use Rattle.filing_step.specs.Steps.{step_of};
+ghost use Rattle.filing_step.specs.Steps.{step_of, reply_of};
 ghost use Rattle.script_format.specs.LineOutcomes.{outcome_under};
 ghost use Rattle.script_format.specs.Script.{StepDue, open_outcome, step_outcome, end_outcome, export_outcome};
 ghost use Rattle.script_runs.specs.StepsTaken.{Answers, AnswersLine};
+ghost use Rattle.script_format.specs.ReplyText.{reply_text};
+ghost use Rattle.script_runs.specs.Observed.{RepliesSeen, looks_at_nothing};
 
-use crate::run::answer::Answer;
 use crate::run::taker::TakesSteps;
 use filing_step::{Kind, Reply, Step};
 use filing_version::RepoVersion;
 use json::Scratch;
+use line_io::Machine;
 use oim_fact::NumericTable;
 use script_format::{
     LineOutcome, classify_line_in, exported_reply_of, name_in_use_reply, no_session_reply,
@@ -166,5 +167,113 @@ impl<T: TakesSteps + Drop> ScriptMachine<T> {
             LineOutcome::Export(name) => self.answer_export(alloc, &name),
             LineOutcome::StepDue { name, step } => self.take_due(alloc, &name, step),
         }
+    }
+}
+
+/// What a line is answered: a text, and the reply that it tells, where the line took a step.
+#[derive(Drop)]
+pub struct Answer {
+    pub text: String,
+    /// None where the line took no step: it was refused before, or is an export.
+    pub reply: Option<Reply>,
+    ghost is_told: { (r : _) → reply ≡ Some r → string_bytes text ≡ reply_text (reply_of r) },
+}
+
+impl Answer {
+    /// The answer to a step that got this reply.
+    pub(crate) fn of_reply(alloc: Global, reply: Reply) -> Result<Answer, AllocError>
+        ensures { IfOk result (λ answer. string_bytes answer.text ≡ reply_text (reply_of reply)) }
+    {
+        match reply_text(alloc, &reply) {
+            Ok(text) => Ok(Answer {
+                text,
+                reply: Some(reply),
+            }),
+            Err(error) => {
+                drop(reply);
+                Err(error)
+            }
+        }
+    }
+
+    /// The answer of this text to a line that took no step.
+    pub(crate) fn of_text(text: String) -> Answer
+        ensures { result.text ≡ text }
+    {
+        Answer { text, reply: None }
+    }
+
+    /// The answer of this text to a line that took no step.
+    pub(crate) fn of_str(alloc: Global, text: &str) -> Result<Answer, AllocError>
+        ensures { IfOk result (λ answer. string_bytes answer.text ≡ text.now) }
+    {
+        let text = String::from_str(alloc, text)?;
+        Ok(Answer { text, reply: None })
+    }
+
+    /// The answer of the text that was written, if it was.
+    pub(crate) fn of_written(written: Result<String, AllocError>) -> Result<Answer, AllocError>
+        ensures { IfOk result (λ answer. written ≡ Ok answer.text) }
+    {
+        match written {
+            Ok(text) => Ok(Answer::of_text(text)),
+            Err(error) => Err(error),
+        }
+    }
+
+    /// The text alone.
+    pub(crate) fn into_text(self) -> String
+        ensures { result ≡ self.text }
+    {
+        let Answer { text, reply } = self;
+        drop(reply);
+        text
+    }
+}
+
+/// What is shown each line of a run with its answer. It changes neither.
+pub trait Observes {
+    /// The observer before, a line that is not blank, its reply without a line feed, and the observer after.
+    ghost sees: { Self → List ℕ → List ℕ → Self → Type 0 };
+
+    /// Looks at a line, which has this number among all lines of the script, from 1, and at its answer.
+    fn observe(&mut self, alloc: Global, number: u128, line: &[u8], answer: &Answer)
+        ensures { sees self.old line.now (string_bytes answer.now.text) self.new };
+}
+
+/// Looks at nothing.
+#[derive(Drop)]
+pub struct Unobserved;
+
+impl Observes for Unobserved {
+    ghost sees = { looks_at_nothing };
+
+    fn observe(&mut self, _alloc: Global, _number: u128, _line: &[u8], _answer: &Answer) {}
+}
+
+/// A machine, and what is shown its lines with their answers.
+#[derive(Drop)]
+pub(crate) struct Observed<M: Drop, O: Drop> {
+    pub(crate) machine: M,
+    pub(crate) observer: O,
+}
+
+impl<M: Drop, O: Observes + Drop> Observed<M, O> {
+    /// Shows a line with its answer.
+    pub(crate) fn show(&mut self, alloc: Global, number: u128, line: &[u8], answer: &Answer)
+        ensures machine { self.new.machine ≡ self.old.machine }
+        ensures saw { O.sees self.old.observer line.now (string_bytes answer.now.text) self.new.observer }
+    {
+        self.observer.observe(alloc, number, line, answer);
+    }
+}
+
+impl<T: TakesSteps + Drop, O: Observes + Drop> Machine for Observed<ScriptMachine<T>, O> {
+    ghost replies = { RepliesSeen (AnswersLine T.has_taken) O.sees };
+
+    fn answer(&mut self, alloc: Global, number: u128, line: &[u8]) -> Result<String, AllocError> {
+        let answer = self.machine.answer_line(alloc, line)?;
+        self.show(alloc, number, line, &answer);
+        Ok(answer.into_text())
     }
 }

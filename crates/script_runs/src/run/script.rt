@@ -9,8 +9,7 @@ ghost use Rattle.script_runs.specs.Resumed.{GoesOn};
 ghost use Rattle.script_runs.specs.Serial.{GoesOnSerially};
 ghost use Rattle.script_runs.specs.ScriptRun.{most_reads, ScriptRuns, ScriptRunsWithin, TakerRuns};
 
-use crate::run::machine::ScriptMachine;
-use crate::run::observer::{Observed, Observes, Unobserved};
+use crate::run::machine::{Observed, Observes, ScriptMachine, Unobserved};
 use crate::run::taker::TakesSteps;
 use filing_core::{Core, Engine};
 use line_io::{ScriptFault, Sink, Source, run};

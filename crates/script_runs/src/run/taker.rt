@@ -6,7 +6,7 @@ ghost use Rattle.filing_step.specs.Steps.{step_of};
 ghost use Rattle.filing_core.specs.Engines.{IsEngineOf};
 ghost use Rattle.script_runs.specs.StepsTaken.{IsTold, Takes, Tells};
 
-use crate::run::answer::Answer;
+use crate::run::machine::Answer;
 use filing_core::{Core, CoreFault, Engine, EngineFault, Reply, Step};
 use script_format::no_session_reply;
 use std::alloc::{AllocError, Global};

@@ -1,7 +1,7 @@
 use Rattle.std.proofs.Common.{IfOk, ◌≡◌, ◌∙◌, ap, sym, subst, T, List, map}
 use Rattle.std.proofs.lemmas.Result.{IfOk-weaker}
 use Rattle.std.specs.FinMap.Entries.{is_sorted}
-use Rattle.sorted_pages.specs.declared.edit.Edit.{Edit}
+use Rattle.sorted_pages.specs.declared.apply.Edit.{Edit}
 use Rattle.sorted_pages.specs.Changes.{entry_of}
 use Rattle.text_map.specs.MapChanges.{map_with_changes}
 use Rattle.filing_model.specs.Common.Text.{Text, text_cmp}

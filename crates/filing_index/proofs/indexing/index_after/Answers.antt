@@ -1,7 +1,7 @@
 -- A fact keeps its hash where only one change is made.
 use Rattle.std.proofs.Common.{◌≡◌, ◌∙◌, ap, sym, subst, List, map, IsPermutation}
 use Rattle.std.proofs.lemmas.Result.{IfOk-weaker}
-use Rattle.sorted_pages.specs.declared.edit.Edit.{Edit}
+use Rattle.sorted_pages.specs.declared.apply.Edit.{Edit}
 use Rattle.sorted_pages.specs.Sorted.{IsRising}
 use Rattle.sorted_pages.specs.Changes.{entry_of, with_changes}
 use Rattle.filing_index.specs.Index.{IndexEntry, hashed_cmp, IsIndex}

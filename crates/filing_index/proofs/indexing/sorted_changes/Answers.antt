@@ -1,7 +1,7 @@
 -- The sort keeps the edits, whose keys differ since the identifiers of the fact changes do.
 use Rattle.std.proofs.Common.{rules, ◌∙◌, ap, subst, List, IsPermutation}
 use Rattle.std.proofs.lemmas.Fn.{always_returns_same}
-use Rattle.sorted_pages.specs.declared.edit.Edit.{Edit}
+use Rattle.sorted_pages.specs.declared.apply.Edit.{Edit}
 use Rattle.filing_index.specs.Index.{IndexEntry}
 use Rattle.filing_index.specs.IndexKinds.{hash_in}
 use Rattle.filing_index.specs.ChangedIndexes.{hashed_changes}

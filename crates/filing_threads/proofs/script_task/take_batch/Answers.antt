@@ -26,11 +26,11 @@ returns-clause-taken g c =
       lets_go = (
         c.learn-learnt.result,
         learns_told _ _ _ _ _ c.learn-learnt.result (c.deref.ensures.value ∙ all) c.learn-learnt.ensures.learns,
-        subst (λ os. KeptBy c.learn-learnt.result os c.let_go.new.outcomes.items) all c.let_go.ensures,
+        subst (λ os. KeptBy c.learn-learnt.result os c.drop_if_learnt.new.outcomes.items) all c.drop_if_learnt.ensures,
       );
     }
 
 pub returns-clause-learnt : goal.returns-clause-learnt
 returns-clause-learnt g c =
-    still_learnt c.learn-learnt.new.self c.deref.result.now c.take_steps.new.outcomes.items c.let_go.new.outcomes.items c.learn-learnt.result
-    c.deref.ensures.value c.let_go.ensures c.learn-learnt.ensures.none c.learn-learnt.ensures.err
+    still_learnt c.learn-learnt.new.self c.deref.result.now c.take_steps.new.outcomes.items c.drop_if_learnt.new.outcomes.items c.learn-learnt.result
+    c.deref.ensures.value c.drop_if_learnt.ensures c.learn-learnt.ensures.none c.learn-learnt.ensures.err

@@ -12,7 +12,7 @@ returns c =
     let fact = value_view c.args.fact.now in
     let id = c.args.id.now in
     on_ok_weaker c.warn_of_decimals.result (λ h. tells_then _ _ _ _ _
-    (by_test NameTwice (Some id) c.in_ok-repeated.repeated (is_repeated_in fact) _ _ c.in_ok-repeated.ensures c.in_ok-push_names.ensures)
+    (by_test NameTwice (Some id) c.in_ok-repeated.repeated (is_repeated_in fact) _ _ c.in_ok-repeated.ensures c.in_ok-warn_of_names.ensures)
     (tells_then _ _ _ _ _
-    (by_test NotRead (Some id) c.in_ok-unknown.unknown (is_unknown_in_fact fact) _ _ c.in_ok-unknown.ensures c.in_ok-push_names-2.ensures)
+    (by_test NotRead (Some id) c.in_ok-unknown.unknown (is_unknown_in_fact fact) _ _ c.in_ok-unknown.ensures c.in_ok-warn_of_names-2.ensures)
     (tells_just (of_decimals id fact) _ _ h))) c.warn_of_decimals.ensures

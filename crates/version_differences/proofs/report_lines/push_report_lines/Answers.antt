@@ -16,9 +16,9 @@ returns-in_ok-push_declared-in-Some-Some c = λ cover.
     let name = c.args.name.now in
     let before = c.in-Some-Some.before in
     let after = c.in-Some-Some.after in
-    on_ok_weaker c.push_ids.result
+    on_ok_weaker c.push_lines_at_ids.result
     (λ told. written_both _ _ _ (declared_lines name before after) (flat_map (lines_at_id from to name) (keys c.args.ids.now))
     c.in_ok-push_declared-in-Some-Some.ensures told
     ∙ ap (λ lines. string_bytes c.args.out.now ++ lines_text lines)
     (told_of_both from to name c.args.ids.now before after (sym c.allowed.ensures ∙ c.in-Some-Some.is-0) (sym c.allowed-2.ensures ∙ c.in-Some-Some.is-1) cover))
-    c.push_ids.ensures
+    c.push_lines_at_ids.ensures

@@ -1,6 +1,6 @@
 use Rattle.std.proofs.Common.{◌≡◌, ◌∙◌, ◌<◌, ◌++◌, ◌∷◌, [], ap, sym, subst, refl, arith, drop, length, get_or, true}
 use Rattle.std.specs.Ordering.{is_eq}
-use Rattle.sorted_pages.specs.declared.edit.Edit.TheVariants.{Remove}
+use Rattle.sorted_pages.specs.declared.apply.Edit.TheVariants.{Remove}
 use Rattle.sorted_pages.specs.Changes.{with_change}
 use Rattle.sorted_pages.specs.Edges.{first_passes}
 use Rattle.sorted_pages.specs.Ranges.{first_within}

@@ -1,7 +1,7 @@
 use Rattle.std.proofs.Common.{◌≡◌, ◌∙◌, ap, sym, subst, T, [], ◌∷◌, Some}
 use Rattle.std.specs.Prelude.{option_map, IfSome}
 use Rattle.std.specs.FinMap.Entries.{is_sorted}
-use Rattle.sorted_pages.specs.declared.edit.Edit.TheVariants.{Remove}
+use Rattle.sorted_pages.specs.declared.apply.Edit.TheVariants.{Remove}
 use Rattle.sorted_pages.specs.Changes.{with_change}
 use Rattle.sorted_pages.specs.Ranges.{first_within}
 use Rattle.filing_model.specs.Common.Text.{Text, text_cmp}

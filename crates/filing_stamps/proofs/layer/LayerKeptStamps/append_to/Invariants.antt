@@ -1,6 +1,0 @@
-use Rattle.std.proofs.Common.{◌≡◌, ◌++◌}
-use Rattle.filing_stamps.proofs.layer.LayerKeptStamps.append_to.Given as goal
-
--- the stamps so far, and those still to come
-abbrev pub invariant-loop-stamp : goal.invariant-loop-stamp
-invariant-loop-stamp l = l.all.items ++ l.stamp-iterator ≡ l.initial.all.items ++ l.self
