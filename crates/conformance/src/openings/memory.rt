@@ -5,7 +5,7 @@
 
 use crate::openings::rows::{bytes_of, show_bytes, show_title};
 use anyhow::{Result, anyhow};
-use journal::{Journal, MemoryFile, PutFault, are_entries, open, read_lines};
+use journal::{Journal, MemoryFile, PutFault, are_lines, open, read_lines};
 
 // The calls that open a file at rest: a cut, a write, and a sync after each.
 const OPENING_CALLS: u64 = 4;
@@ -32,7 +32,7 @@ fn show_batch(rt: &HostRuntime, bytes: &[u8], batch: &[u8]) -> Result<()> {
     let mut file = MemoryFile::new(alloc, bytes.to_vec(alloc)?);
     let lines = open(&mut file, bytes.to_vec(alloc)?)?;
     let mut journal = Journal::new(file, lines.len());
-    if !are_entries(batch) {
+    if !are_lines(batch) {
         return Err(anyhow!("no entries"));
     }
     journal.put(batch)?;
@@ -61,7 +61,7 @@ fn show_failure(rt: &HostRuntime, bytes: &[u8], batch: &[u8], call: u64) -> Resu
     let mut file = file.failing_at(OPENING_CALLS.saturating_add(call));
     let lines = open(&mut file, bytes.to_vec(alloc)?)?;
     let mut journal = Journal::new(file, lines.len());
-    if !are_entries(batch) {
+    if !are_lines(batch) {
         return Err(anyhow!("no entries"));
     }
     let first = word_of(journal.put(batch));
