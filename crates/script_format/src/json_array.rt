@@ -1,4 +1,5 @@
-//! `JsonArray`: the parts of a JSON array, in either form of value. `TextArray`: one whose texts are those of its line, so that no part is copied before it is used.
+//! `JsonArray`: the parts of a JSON array, in either form of value.
+//! `TextArray` is one whose texts are those of its line, so that no part is copied before it is used.
 ghost use Rattle.std.specs.Prelude.{◌≡◌, option_map, option_and_then};
 ghost use Rattle.serde_json.specs.Data.{Data};
 ghost use Rattle.serde_json.specs.View.{view};
