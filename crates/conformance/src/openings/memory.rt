@@ -10,8 +10,8 @@ use journal::{Journal, MemoryFile, PutFault, are_lines, open, read_lines};
 // The calls that open a file at rest: a cut, a write, and a sync after each.
 const OPENING_CALLS: u64 = 4;
 
-// The calls of one batch: three writes and a sync, a write and a sync.
-const PUT_CALLS: u64 = 6;
+// The calls of one batch: its second byte, its rest, three further pieces and the gate are written, with a sync; then its first byte, with a sync.
+const PUT_CALLS: u64 = 9;
 
 /// Prints the lines that a file opens to, or why it does not, what is in it then, and how often it was changed.
 fn show_opening(rt: &HostRuntime, bytes: &[u8]) -> Result<()> {
