@@ -8,6 +8,7 @@ pub mod Viewed
 pub mod Resumed
 pub mod Serial
 -- What a journal has, and what a run over a script leaves in one.
+pub mod Room
 pub mod Entered
 pub mod Recorded
 pub mod Journaled
