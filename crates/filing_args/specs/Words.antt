@@ -1,5 +1,6 @@
 -- What the words of the command line ask for.
-use Rattle.std.specs.Prelude.{◌≡◌, ◌⊎◌, Bool, true, false, List, [], ◌∷◌, Option, Some, None, codes, fold, option_map, unwrap_or}
+use Rattle.std.specs.Prelude.{◌≡◌, ◌⊎◌, Bool, true, false, List, [], ◌∷◌, Option, Some, None, ℕ, length, ◌&&◌, ◌||◌, ◌==◌, nat_le, codes, fold, option_map, unwrap_or}
+use Rattle.std.specs.List.{list_all}
 use Rattle.std.specs.Option.{option_map_or}
 use Rattle.std.specs.Str.{bytes_eq}
 use Rattle.std.specs.Borrow.{Bor}
@@ -14,10 +15,14 @@ use Rattle.filing_args.specs.declared.invocation.CheckWords.{CheckWords}
 use Rattle.filing_args.specs.declared.invocation.ShowWords.{ShowWords}
 use Rattle.filing_args.specs.declared.invocation.DiffWords.{DiffWords}
 use Rattle.filing_args.specs.declared.invocation.LogWords.{LogWords}
+use Rattle.filing_args.specs.declared.invocation.VerifyWords.{VerifyWords}
+use Rattle.filing_args.specs.declared.invocation.HistoryWords.{HistoryWords}
+use Rattle.filing_args.specs.declared.invocation.SealWords.{SealWords}
+use Rattle.filing_args.specs.declared.invocation.RepairWords.{RepairWords}
 use Rattle.filing_args.specs.declared.invocation.InspectWords.{InspectWords}
 use Rattle.filing_args.specs.declared.invocation.ThreadsWords.{ThreadsWords}
 use Rattle.filing_args.specs.declared.invocation.Invocation.{Invocation}
-use Rattle.filing_args.specs.declared.invocation.Invocation.TheVariants.{Run, Load, Check, Show, Diff, Log, Inspect, Threads, Explain, Shown}
+use Rattle.filing_args.specs.declared.invocation.Invocation.TheVariants.{Run, Load, Check, Show, Diff, Log, Verify, History, Seal, Repair, Inspect, Threads, Explain, Shown}
 
 -- ---- arguments, each by its identifier, and a flag or an option by its long word
 
@@ -49,8 +54,8 @@ abbrev pub numeric : Rule
 numeric = repeated_rule (codes "numeric") (codes "numeric")
 
 -- the files of a history that is written, of one to go on from, and of a journal
-abbrev pub history : Rule
-history = option_rule (codes "history") (codes "history")
+abbrev pub written : Rule
+written = option_rule (codes "history") (codes "history")
 
 abbrev pub from : Rule
 from = option_rule (codes "from") (codes "from")
@@ -103,6 +108,23 @@ svg = flag_rule (codes "svg") (codes "svg")
 abbrev pub first : Rule
 first = option_rule (codes "first") (codes "first")
 
+-- the changes of one fact, which has this identifier
+abbrev pub fact : Rule
+fact = flag_rule (codes "fact") (codes "fact")
+
+abbrev pub identifier : Rule
+identifier = optional_word_rule (codes "identifier")
+
+-- the journal that is read or repaired, the digits of a seal, and the number of the last batch that is kept
+abbrev pub stored : Rule
+stored = word_rule (codes "stored") Set
+
+abbrev pub sealed : Rule
+sealed = option_rule (codes "seal") (codes "seal")
+
+abbrev pub keep : Rule
+keep = needed_rule (codes "keep") (codes "keep")
+
 -- the files to inspect, the duplicates that are allowed in them, and lines for people
 abbrev pub reports : Rule
 reports = word_rule (codes "reports") Append
@@ -124,7 +146,7 @@ abbrev pub taking : Text → List Rule → App
 taking name rules = let bare = new_app name in record bare { top = record bare.top { rules = rules } }
 
 unfoldable pub run : App
-run = taking (codes "run") (numeric ∷ history ∷ from ∷ journal ∷ every_reply ∷ explain ∷ strict ∷ [])
+run = taking (codes "run") (numeric ∷ written ∷ from ∷ journal ∷ every_reply ∷ explain ∷ strict ∷ [])
 
 unfoldable pub load : App
 load = taking (codes "load") (numeric ∷ loaded ∷ keeping ∷ [])
@@ -139,13 +161,25 @@ unfoldable pub diff : App
 diff = taking (codes "diff") (numeric ∷ viewed ∷ earlier ∷ later ∷ report ∷ [])
 
 unfoldable pub log : App
-log = taking (codes "log") (numeric ∷ viewed ∷ svg ∷ first ∷ [])
+log = taking (codes "log") (numeric ∷ viewed ∷ report ∷ identifier ∷ fact ∷ svg ∷ first ∷ [])
+
+unfoldable pub verify : App
+verify = taking (codes "verify") (stored ∷ sealed ∷ explain ∷ [])
+
+unfoldable pub history : App
+history = taking (codes "history") (stored ∷ [])
+
+unfoldable pub seal : App
+seal = taking (codes "seal") (stored ∷ [])
+
+unfoldable pub repair : App
+repair = taking (codes "repair") (stored ∷ keep ∷ [])
 
 unfoldable pub inspect : App
 inspect = taking (codes "inspect") (numeric ∷ reports ∷ allowing ∷ plain ∷ [])
 
 unfoldable pub threads : App
-threads = taking (codes "threads") (numeric ∷ scripts ∷ history ∷ from ∷ journal ∷ explain ∷ strict ∷ [])
+threads = taking (codes "threads") (numeric ∷ scripts ∷ written ∷ from ∷ journal ∷ explain ∷ strict ∷ [])
 
 unfoldable pub words : App
 words = taking (codes "words") []
@@ -155,7 +189,17 @@ unfoldable pub program : App
 program = let bare = new_app (codes "filing") in
     let wanting = record bare { top = record bare.top { has_version = true; subcommand_required = true } } in
     fold (λ app below. with_subcommand app below.top) wanting
-    (run ∷ load ∷ threads ∷ check ∷ show ∷ diff ∷ log ∷ inspect ∷ words ∷ [])
+    (run ∷ load ∷ threads ∷ check ∷ show ∷ diff ∷ log ∷ verify ∷ history ∷ seal ∷ repair ∷ inspect ∷ words ∷ [])
+
+-- ---- seals
+
+-- a digit from 0 to 9 or from a to f
+abbrev pub is_seal_digit : ℕ → Bool
+is_seal_digit byte = (nat_le 48 byte && nat_le byte 57) || (nat_le 97 byte && nat_le byte 102)
+
+-- the word is a seal: it has 64 such digits, and nothing else
+abbrev pub is_seal : Text → Bool
+is_seal word = (length word == 64) && list_all is_seal_digit word
 
 -- ---- what a command is given, by the rows that were entered under it
 
@@ -206,8 +250,26 @@ pub record HoldsDiff (given : DiffWords) (rows : List Row) : Type 0 where
 pub record HoldsLog (given : LogWords) (rows : List Row) : Type 0 where
   pub numeric : texts given.numeric.items ≡ tables_of rows
   pub history : Some given.history.now ≡ first_of (codes "viewed") rows
+  pub report : text_of given.report ≡ first_of (codes "report") rows
+  pub identifier : text_of given.identifier ≡ first_of (codes "identifier") rows
+  pub fact : given.fact ≡ is_given (codes "fact") rows
   pub svg : given.svg ≡ is_given (codes "svg") rows
   pub first : text_of given.first ≡ first_of (codes "first") rows
+
+pub record HoldsVerify (given : VerifyWords) (rows : List Row) : Type 0 where
+  pub journal : Some given.journal.now ≡ first_of (codes "stored") rows
+  pub seal : text_of given.seal ≡ first_of (codes "seal") rows
+  pub explain : given.explain ≡ is_given (codes "explain") rows
+
+pub record HoldsHistory (given : HistoryWords) (rows : List Row) : Type 0 where
+  pub journal : Some given.journal.now ≡ first_of (codes "stored") rows
+
+pub record HoldsSeal (given : SealWords) (rows : List Row) : Type 0 where
+  pub journal : Some given.journal.now ≡ first_of (codes "stored") rows
+
+pub record HoldsRepair (given : RepairWords) (rows : List Row) : Type 0 where
+  pub journal : Some given.journal.now ≡ first_of (codes "stored") rows
+  pub keep : Some given.keep.now ≡ first_of (codes "keep") rows
 
 pub record HoldsInspect (given : InspectWords) (rows : List Row) : Type 0 where
   pub numeric : texts given.numeric.items ≡ tables_of rows
@@ -237,6 +299,10 @@ IsOrdered entered (Check given) = Enters (codes "check") (HoldsCheck given) ente
 IsOrdered entered (Show given) = Enters (codes "show") (HoldsShow given) entered
 IsOrdered entered (Diff given) = Enters (codes "diff") (HoldsDiff given) entered
 IsOrdered entered (Log given) = Enters (codes "log") (HoldsLog given) entered
+IsOrdered entered (Verify given) = Enters (codes "verify") (HoldsVerify given) entered
+IsOrdered entered (History given) = Enters (codes "history") (HoldsHistory given) entered
+IsOrdered entered (Seal given) = Enters (codes "seal") (HoldsSeal given) entered
+IsOrdered entered (Repair given) = Enters (codes "repair") (HoldsRepair given) entered
 IsOrdered entered (Inspect given) = Enters (codes "inspect") (HoldsInspect given) entered
 IsOrdered entered (Threads given) = Enters (codes "threads") (HoldsThreads given) entered
 IsOrdered entered Explain = Enters (codes "words") (λ rows. Unit {0}) entered

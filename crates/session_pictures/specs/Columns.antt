@@ -42,10 +42,14 @@ with_numbers (n ∷ ns) ms = with_numbers ns (with_number n ms)
 abbrev pub columns : List Told → List ℕ
 columns ts = with_numbers (flat_map versions_of ts) []
 
--- how many stand before a version: its column
+-- how many stand before a version: its column, where it is one of them
 abbrev pub count_below : ℕ → List ℕ → ℕ
 count_below n [] = 0
 count_below n (m ∷ ms) = cond (nat_lt m n) (suc (count_below n ms)) 0
 
 abbrev pub is_at : ℕ → ℕ → List ℕ → Bool
 is_at n k cs = option_map_or (λ m. m == n) (slice_get cs k) false
+
+-- the column of a version, if it has one
+abbrev pub column_of : List ℕ → ℕ → Option ℕ
+column_of cs n = cond (is_at n (count_below n cs) cs) (Some (count_below n cs)) None

@@ -1,12 +1,15 @@
 -- What a picture of sessions shows: versions along, a row for each session with a bar from the version of its opening
--- to that of its end, and an arrow into the bar of each that ended by a conflict. All of it is the project's own.
+-- to that of its end, an arrow into the bar of each that ended by a conflict, and a mark at each of these versions
+-- that a load made. All of it is the project's own.
 use Rattle.std.specs.Prelude.{◌≡◌, ℕ, ◌+◌, ◌-◌, max, Bool, cond, ◌&&◌, nat_lt, nat_le, List, [], ◌∷◌, take}
-use Rattle.std.specs.Prelude.{drop, length, Option, Some, None, option_map, string_bytes}
+use Rattle.std.specs.Prelude.{drop, length, map, Option, Some, None, option_map, string_bytes}
+use Rattle.std.specs.List.{filter_map}
 use Rattle.filing_model.specs.Common.Text.{Text}
 use Rattle.session_pictures.specs.Told.{End, Told}
-use Rattle.session_pictures.specs.Columns.{columns, count_below, touching_end}
+use Rattle.session_pictures.specs.Columns.{column_of, columns, count_below, touching_end}
 use Rattle.session_pictures.specs.declared.drawing.Drawing.{Drawing}
 use Rattle.session_pictures.specs.declared.picture.Arrow.{Arrow}
+use Rattle.session_pictures.specs.declared.picture.Label.{Label}
 use Rattle.session_pictures.specs.declared.picture.Picture.{Picture}
 use Rattle.session_pictures.specs.declared.picture.Row.{Row}
 use Rattle.session_pictures.specs.declared.picture.RowEnd.{RowEnd}
@@ -56,15 +59,25 @@ rows_of first many versions number [] = []
 rows_of first many versions number (t ∷ ts) =
     row_of first many versions number t ∷ rows_of first many versions (number + 1) ts
 
+-- what is known of its name and its time
+abbrev pub label_of : Told → Option Text × Option Text
+label_of t = (t.name, t.time)
+
+abbrev pub label_in : Label → Option Text × Option Text
+label_in l = (option_map string_bytes l.name, option_map string_bytes l.time)
+
 -- ---- the whole
 
 -- the picture shows at most 200 of these sessions, from the one of this number on: their versions, and a row of each
-pub record Shows (first : ℕ) (ts : List Told) (picture : Picture) : Type 0 where
+-- with its label; and those of the versions that loads made, where a session has one of these
+pub record Shows (first : ℕ) (ts : List Told) (loaded : List ℕ) (picture : Picture) : Type 0 where
   pub first_is : picture.first ≡ max first 1
   pub all_is : picture.all ≡ length ts
   pub versions_are : picture.versions.items ≡ columns (shown first ts)
   pub rows_are : picture.rows.items
       ≡ rows_of (max first 1) (length (shown first ts)) (columns (shown first ts)) (max first 1) (shown first ts)
+  pub labels_are : map label_in picture.labels.items ≡ map label_of (shown first ts)
+  pub loads_are : picture.loads.items ≡ filter_map (column_of (columns (shown first ts))) loaded
 
 -- what is drawn, and its text in SVG
 abbrev pub picture_in : Drawing → Picture

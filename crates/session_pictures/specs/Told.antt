@@ -13,13 +13,16 @@ pub record End : Type 0 where
   pub version : ℕ
 
 -- what a session may do; the number of the version at its opening; how many of its calls were staged; its end,
--- if it has ended; and the session whose commit touched what it read, where it ended by a conflict with one
+-- if it has ended; the session whose commit touched what it read, where it ended by a conflict with one; its name,
+-- where that is known; and when it ended, or was opened where it has not ended, where that is known
 pub record Told : Type 0 where
   pub kind : Kind
   pub opened_at : ℕ
   pub staged : ℕ
   pub ended : Option End
   pub touched_by : Option ℕ
+  pub name : Option Text
+  pub time : Option Text
 
 -- ---- as code holds it
 
@@ -33,4 +36,6 @@ told_in s = record {
   staged = s.staged;
   ended = option_map end_in s.ended;
   touched_by = s.touched_by;
+  name = option_map string_bytes s.name;
+  time = option_map string_bytes s.time;
 }
