@@ -14,7 +14,7 @@ use Rattle.filing_args.specs.declared.fault.WordsFault.{WordsFault}
 use Rattle.filing_args.specs.declared.fault.WordsFault.TheVariants as words
 use Rattle.filing.specs.declared.fault.Fault.{Fault}
 use Rattle.filing.specs.declared.fault.Fault.TheVariants.{Words, TooManyScripts, Read, Write, TableLine, TableNotText}
-use Rattle.filing.specs.declared.fault.Fault.TheVariants.{HistoryLine, JournalInUse, JournalLine, TooDeep, NoMemory}
+use Rattle.filing.specs.declared.fault.Fault.TheVariants.{HistoryLine, JournalInUse, JournalLine, JournalEntry, NotAJournal, OtherTable, TooDeep, NoMemory}
 use Rattle.filing.specs.declared.files.misplaced.Misplaced.{Misplaced}
 use Rattle.filing.specs.declared.files.misplaced.Misplaced.TheVariants as misplaced
 
@@ -77,6 +77,9 @@ IsTableOf bytes (Err Write) = ⊥
 IsTableOf bytes (Err (HistoryLine number)) = ⊥
 IsTableOf bytes (Err JournalInUse) = ⊥
 IsTableOf bytes (Err (JournalLine number)) = ⊥
+IsTableOf bytes (Err (JournalEntry number)) = ⊥
+IsTableOf bytes (Err NotAJournal) = ⊥
+IsTableOf bytes (Err OtherTable) = ⊥
 IsTableOf bytes (Err (TooDeep number)) = ⊥
 
 -- the lines of a table that is one stand after those of others, with a line feed after them; or the table has this fault
@@ -98,6 +101,9 @@ status_of (TooDeep number) = 1
 status_of NoMemory = 3
 status_of (HistoryLine number) = 4
 status_of (JournalLine number) = 4
+status_of (JournalEntry number) = 4
+status_of NotAJournal = 4
+status_of OtherTable = 2
 
 -- the status that the program ends with: that of what it did, or that of its fault
 abbrev pub status_after : Result ℕ Fault → ℕ

@@ -10,8 +10,7 @@ use Rattle.filing_model.specs.Reading.JsonText.{json_of}
 use Rattle.line_io.specs.Devices.{SinkState, SourceState, Took, new_sink, new_source}
 use Rattle.line_io.specs.Lines.{lines_of}
 use Rattle.script_format.specs.ScriptLines.{Load, line_of}
-use Rattle.journal.specs.Lines.{recovered}
-use Rattle.journal.specs.Standing.{device_of}
+use Rattle.journal_marks.specs.Standing.{device_of, kept}
 use Rattle.history_format.specs.JournalLines.{journal_text}
 use Rattle.filing_core.specs.Engines.{EngineState, IsEngineOf}
 use Rattle.script_runs.specs.JournaledRun.{IsJournaled}
@@ -42,7 +41,7 @@ pub record AreLoaded {D : Type 0} (seen : D → List ℕ) (table : Table) (h : H
   pub after : History
   pub after_is : after ≡ history_on table h (lines_of (load_script reports))
   pub took : Took sink sink' (output_on table h (lines_of (load_script reports))) 0
-  pub lines : recovered (seen device) ≡ journal_text after
+  pub lines : kept (seen device) ≡ journal_text after
   pub engine_is : IsEngineOf after engine
 
 -- So after `Ok`. Whatever the result, a crash at any moment leaves, in the device, a first part of what the lines

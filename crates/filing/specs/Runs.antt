@@ -11,9 +11,10 @@ use Rattle.line_io.specs.Devices.{SinkState, SourceState, new_sink, new_source}
 use Rattle.line_io.specs.Lines.{lines_of, spoken}
 use Rattle.line_io.specs.declared.fault.ScriptFault.{ScriptFault}
 use Rattle.journal.specs.Device.{Only}
-use Rattle.journal.specs.Lines.{damaged_line, is_damaged, recovered}
-use Rattle.journal.specs.Standing.{IsKept, device_of, has_stopped}
-use Rattle.journal.specs.declared.journal.Journal.{Journal}
+use Rattle.journal.specs.Lines.{recovered}
+use Rattle.journal_marks.specs.Standing.{IsKept, device_of, has_stopped}
+use Rattle.journal_marks.specs.Standing as standing
+use Rattle.journal_marks.specs.declared.marked.MarkedJournal.{MarkedJournal}
 use Rattle.history_format.specs.LinesRead.{AreLawful, LinesDepart, entries_on}
 use Rattle.filing_core.specs.Engines.{EngineState, IsEngineOf}
 use Rattle.filing_core.specs.States.{CoreState}
@@ -28,7 +29,9 @@ use Rattle.script_runs.specs.declared.history.reopen.OpenHistoryFault.{OpenHisto
 use Rattle.script_runs.specs.declared.history.reopen.OpenHistoryFault.TheVariants as opening
 use Rattle.filing_threads.specs.FoundHistories.{RunsAndWritesOn, ThreadsWriteOn}
 use Rattle.filing_threads.specs.declared.fault.ThreadsFault.{ThreadsFault}
-use Rattle.history_views.specs.Log.{sessions_of}
+use Rattle.history_views.specs.Batches.{Batches}
+use Rattle.history_views.specs.Log as log
+use Rattle.history_views.specs.Log.{loads_in, sessions_of}
 use Rattle.history_views.specs.Versions.{version_asked}
 use Rattle.history_views.specs.declared.shown.Shown.{Shown}
 use Rattle.history_views.specs.declared.shown.Shown.TheVariants.{Written, NoReport, NoVersion}
@@ -36,7 +39,8 @@ use Rattle.session_pictures.specs.Picture.{Shows, picture_in, text_in}
 use Rattle.session_pictures.specs.declared.drawing.Drawing.{Drawing}
 use Rattle.filing.specs.Faults.{fault_of, threads_fault_of}
 use Rattle.filing.specs.declared.fault.Fault.{Fault}
-use Rattle.filing.specs.declared.fault.Fault.TheVariants.{HistoryLine, JournalLine, NoMemory, Write}
+use Rattle.filing.specs.declared.fault.Fault.TheVariants.{HistoryLine, JournalEntry, NoMemory, OtherTable, Write}
+use Rattle.filing.specs.Journals.{HasOwnTable, IsOther, RefusesContents, second_line}
 use Rattle.filing.specs.declared.runs.opening.Kept.{Kept}
 
 -- ---- readers and writers
@@ -138,28 +142,30 @@ OpensAs is_of table bytes (Ok opened) = (h : History) × (AreLinesOf table bytes
 OpensAs is_of table bytes (Err (opening.Departs number)) = DepartsAt table bytes number
 OpensAs is_of table bytes (Err opening.NoMemory) = Unit {0}
 
--- why the file of a journal was not opened: it is damaged at the line of this number, or its lines depart there
-abbrev pub RefusesFile : Table → List ℕ → Fault → Type 0
-RefusesFile table file (JournalLine number) =
-    ((is_damaged file ≡ true) × (number ≡ damaged_line file)) ⊎ DepartsAt table (recovered file) number
-RefusesFile table file NoMemory = Unit {0}
-RefusesFile table file Write = Unit {0}
-RefusesFile table file other = ⊥
+-- why the file of a journal was not opened: it is no journal, or is damaged; or by its own table its entries depart at the one
+-- of this number; or rows of another were given; or what stands behind its lines could not be kept or cut off
+abbrev pub RefusesFile : Option (List Text) → List ℕ → Fault → Type 0
+RefusesFile given file NoMemory = Unit {0}
+RefusesFile given file Write = Unit {0}
+RefusesFile given file OtherTable = IsOther given (second_line (recovered file))
+RefusesFile given file (JournalEntry number) =
+    (table : Table) × (HasOwnTable (recovered file) table × DepartsAt table (standing.kept file) number)
+RefusesFile given file fault = RefusesContents file fault
 
 module _ {D : Type 0} (seen : D → List ℕ) (may_leave : D → List ℕ → Type 0) (has_failed : D → Bool) where
   -- a journal is kept and goes on, and has these lines
-  pub record GoesOnWith (lines : List ℕ) (journal : Journal D) : Type 0 where
+  pub record GoesOnWith (lines : List ℕ) (journal : MarkedJournal D) : Type 0 where
     pub kept : IsKept seen may_leave has_failed journal
     pub goes_on : has_stopped journal ≡ false
     pub lines_are : recovered (seen (device_of journal)) ≡ lines
 
   -- and by the table its lines are those of a history, which this is of
-  pub record HasOpened (table : Table) (is_of : History → Type 0) (journal : Journal D) : Type 0 where
+  pub record HasOpened (table : Table) (is_of : History → Type 0) (journal : MarkedJournal D) : Type 0 where
     pub kept : IsKept seen may_leave has_failed journal
     pub goes_on : has_stopped journal ≡ false
     pub history : History
     pub is : is_of history
-    pub lines : AreLinesOf table (recovered (seen (device_of journal))) history
+    pub lines : AreLinesOf table (standing.kept (seen (device_of journal))) history
 
 -- what stood after the lines of a journal is the file of another device, and on the disk, where it was more than a gate
 abbrev pub KeepsTail : {B : Type 0} → (B → List ℕ) → (B → List ℕ → Type 0) → List ℕ → Option (Kept B) → Type 0
@@ -208,12 +214,13 @@ AreShown table text_of rest rest' written written' =
     ShowsFound table (λ h. Some (Some (text_of h))) rest rest' written written' Written
 
 -- the reader was read to its end, its lines are a lawful history, and a drawing of at most 200 of its sessions,
--- from the one of this number on, is written
-pub record ShowsPicture (table : Table) (first : ℕ) (rest rest' written written' : Option (List ℕ)) : Type 0 where
+-- from the one of this number on, and of its loads is written
+pub record ShowsPicture (table : Table) (batches : Batches) (first : ℕ) (rest rest' written written' : Option (List ℕ)) : Type 0 where
   pub given : List ℕ
   pub gave : Consumes rest rest' given
   pub at_end : IsAtEnd rest'
   pub lawful : AreLawful table (spoken (lines_of given))
   pub drawing : Drawing
-  pub shows : Shows first (sessions_of (reverse (entries_on table (spoken (lines_of given))))) (picture_in drawing)
+  pub shows : Shows first (sessions_of batches (reverse (entries_on table (spoken (lines_of given)))))
+      (loads_in (log.lines_of batches (reverse (entries_on table (spoken (lines_of given)))))) (picture_in drawing)
   pub took : Appends written written' (text_in drawing)
