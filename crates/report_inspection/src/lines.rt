@@ -12,8 +12,8 @@ use crate::fault::Fault;
 use crate::inspection::Inspection;
 use crate::warning::Warning;
 use crate::words::{fault_word, kind_word};
-use oim_report::{ReportFault, push_comma, push_dims, push_quoted};
-use script_format::{class_word, push_word};
+use oim_report::{ReportFault, push_dims, push_quoted};
+use script_format::{class_word, push_texts, push_word};
 use std::alloc::{AllocError, Global};
 
 /// Appends what each line begins with.
@@ -138,20 +138,6 @@ fn push_fault(out: &mut String, file: &str, fault: &Fault) -> Result<(), AllocEr
     Ok(())
 }
 
-/// Appends an array of identifiers.
-fn push_ids(out: &mut String, ids: &[String]) -> Result<(), AllocError>
-    ensures { OnOk result (string_bytes out.new ≡ string_bytes out.old ++ texts_text (map string_bytes ids.now)) }
-{
-    out.push_str("[")?;
-    let mut later = false;
-    for id in ids {
-        push_comma(out, later)?;
-        push_quoted(out, id)?;
-        later = true;
-    }
-    out.push_str("]")
-}
-
 /// Appends `true` or `false`.
 fn push_bool(out: &mut String, value: bool) -> Result<(), AllocError>
     ensures { OnOk result (string_bytes out.new ≡ string_bytes out.old ++ bool_text value) }
@@ -175,7 +161,7 @@ fn push_cell_end(out: &mut String, cell: &Cell) -> Result<(), AllocError>
     ensures { OnOk result (string_bytes out.new ≡ string_bytes out.old ++ cell_end cell.now) }
 {
     out.push_str(",")?;
-    push_ids(out, cell.ids())?;
+    push_texts(out, cell.ids())?;
     out.push_str(",")?;
     push_bool(out, cell.is_allowed())?;
     out.push_str("]\n")

@@ -25,5 +25,5 @@ pub use line_value::json_value_in;
 pub use texts::{
     bad_fact_reply, bad_line_reply, bad_report_reply, class_word, exported_reply,
     exported_reply_of, name_in_use_reply, no_session_reply, push_asked, push_later, push_number,
-    push_reply, push_word, reply_text, trouble_word,
+    push_reply, push_texts, push_word, reply_text, trouble_word,
 };

@@ -28,7 +28,7 @@ pub fn push_number(out: &mut String, number: u64) -> Result<(), AllocError>
 }
 
 /// Appends an array of texts.
-fn push_texts(out: &mut String, texts: &[String]) -> Result<(), AllocError>
+pub fn push_texts(out: &mut String, texts: &[String]) -> Result<(), AllocError>
     ensures { OnOk result (string_bytes out.new ≡ string_bytes out.old ++ texts_text (map string_bytes texts.now)) }
 {
     out.push_str("[")?;
