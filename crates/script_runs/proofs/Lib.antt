@@ -16,7 +16,6 @@ pub mod JudgedLines
 pub mod HistoryRuns
 pub mod WrittenEntries
 -- ---- journals
-pub mod KeptOnce
 pub mod Entering
 pub mod Recordings
 pub mod Guarding

@@ -90,6 +90,7 @@ impl<T: TakesSteps + Drop> ScriptMachine<T> {
         let answer = self.take(alloc, None, Step::Open(kind))?;
         let name = String::from_str(alloc, session)?;
         let number = self.taker.as_engine().opened_count();
+        self.taker.note_name(alloc, number, session)?;
         self.names.insert(name, number)?;
         Ok(answer)
     }

@@ -30,6 +30,14 @@ pub(crate) trait TakesSteps {
             (λ answer. Tells (has_taken self.new) h session (step_of step) (string_bytes answer.text)) }
         ensures steps_on { steps_on self.old self.new };
 
+    /// Notes the name under which a step opened the session of this number. It changes nothing of what was taken.
+    fn note_name(&mut self, alloc: Global, number: u64, name: &str) -> Result<(), AllocError>
+        ensures taken { (h : History) → has_taken self.old h → has_taken self.new h }
+        ensures steps_on { (before : Self) → steps_on before self.old → steps_on before self.new }
+    {
+        Ok(())
+    }
+
     /// The engine that took them.
     fn as_engine(&self) -> &Engine
         ensures { (h : History) → has_taken self.now h → IsEngineOf h result.now };
