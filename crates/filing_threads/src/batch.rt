@@ -8,6 +8,7 @@ ghost use Rattle.filing_step.specs.Steps.{step_of};
 ghost use Rattle.history_format.specs.Nesting.{begins_shallow};
 ghost use Rattle.filing_threads.specs.Lines.{is_left_out};
 
+use crate::opened::name_opened;
 use filing_office::DeskStep;
 use filing_step::Step;
 use history_format::{is_too_deep, push_entry_start};
@@ -62,6 +63,8 @@ pub(crate) struct Batch {
     pub(crate) told: Vec<Option<String>>,
     /// The steps, in the order of their lines.
     pub(crate) steps: Vec<DeskStep>,
+    /// For each step the name of the session that it opens, and none where it opens none.
+    pub(crate) names: Vec<Option<String>>,
     /// Whether the next line is left out since the entry of its step would nest too deep for the journal.
     pub(crate) ends_deep: bool,
 }
@@ -75,6 +78,7 @@ impl Batch {
         Batch {
             told: Vec::new(alloc),
             steps: Vec::new(alloc),
+            names: Vec::new(alloc),
             ends_deep: false,
         }
     }
@@ -91,6 +95,7 @@ impl Batch {
                 Ok(self.told.push(Some(text))?)
             }
             LineOutcome::StepDue { name, step } => {
+                self.names.push(name_opened(alloc, &name, &step)?)?;
                 self.steps.push(DeskStep { name, step })?;
                 Ok(self.told.push(None)?)
             }

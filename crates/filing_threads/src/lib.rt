@@ -8,6 +8,7 @@
 //! - `replay`: takes the steps of a history again, at a desk.
 //! - `office`: opens an office over a history, which may be empty, runs each script, and ends it.
 //! - `replies`: the replies to the lines.
+//! - `opened`: the names under which a script opened sessions.
 //! - `written`: writes them, one script after the other, once all have ended.
 //! - `watch`: is called for each step, for whoever waits, and is given what is left at the end.
 //! - `threads`: the whole, on a history or on none.
@@ -29,6 +30,7 @@ mod fault;
 mod journaled;
 mod keeping;
 mod office;
+mod opened;
 mod replay;
 mod replies;
 mod script_task;

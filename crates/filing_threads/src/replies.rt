@@ -5,6 +5,7 @@ ghost use Rattle.std.specs.Slice.Iter.{iter_rest};
 ghost use Rattle.line_io.specs.Lines.{lines_text};
 ghost use Rattle.filing_threads.specs.Telling.{GrowsBy, NextReply, all_told, outcome_text, replies_of};
 
+use crate::opened::OpenedSessions;
 use filing_office::{Naming, Outcome};
 use script_format::{name_in_use_reply, no_session_reply, push_reply};
 use std::alloc::AllocError;
@@ -30,6 +31,7 @@ pub(crate) struct Replies {
     /// The replies in the order of the lines, each ended by a line feed.
     pub(crate) text: String,
     pub(crate) ending: Ending,
+    pub(crate) opened: OpenedSessions,
 }
 
 /// Appends the reply that an outcome is. Returns false, and appends nothing, where it is out of memory.

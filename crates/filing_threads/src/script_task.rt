@@ -8,6 +8,7 @@ ghost use Rattle.filing_threads.specs.FoundHistories.{IsScriptRunTo};
 ghost use Rattle.filing_threads.specs.UnderWay.{KeptBy, TakesBatch};
 
 use crate::batch::Batch;
+use crate::opened::OpenedSessions;
 use crate::replies::{Ending, Replies, push_replies};
 use filing_office::{Access, DeskTask, Gate, NamedDesk, Naming, Outcome, take_steps};
 use oim_fact::NumericTable;
@@ -34,7 +35,7 @@ fn drop_if_learnt<J: Naming>(learnt: Result<(), AllocError>, outcomes: &mut Vec<
     }
 }
 
-/// Runs a batch and appends its replies. Returns false if a step ran out of memory.
+/// Runs a batch, appends its replies, and notes the sessions that it opened. Returns false if a step ran out of memory.
 /// The receipts are learnt before the lock is given back:
 /// the reviewer then drops a version with pages that other threads asked for,
 /// and would hold these up while they have the lock.
@@ -46,6 +47,7 @@ fn take_batch<L: Ledger + Naming, M: Ledger, A: Access<L, M>, G: Gate>(
     named_desk: &mut NamedDesk<L, M>,
     outcomes: &mut Vec<Outcome<L>>,
     text: &mut String,
+    opened: &mut OpenedSessions,
 ) -> Result<bool, AllocError>
     requires { IsLearnt named_desk.old outcomes.old.items }
     ensures learnt { OnOk result (IsLearnt named_desk.new outcomes.new.items) }
@@ -57,13 +59,19 @@ fn take_batch<L: Ledger + Naming, M: Ledger, A: Access<L, M>, G: Gate>(
         drop(batch);
         return Err(error);
     }
-    let Batch { told, steps, .. } = batch;
+    let Batch {
+        told,
+        steps,
+        names,
+        ..
+    } = batch;
     take_steps(access, gate, place, named_desk, steps, outcomes);
     let learnt = named_desk.learn(outcomes);
     access.leave();
     let whole = push_replies(text, &told, &outcomes[before..]);
     drop(told);
     let whole = whole?;
+    opened.note(names, &outcomes[before..])?;
     drop_if_learnt(learnt, outcomes);
     Ok(whole)
 }
@@ -87,6 +95,7 @@ fn take_lines<L: Ledger + Naming, M: Ledger, A: Access<L, M>, G: Gate>(
 {
     let mut outcomes = Vec::new(alloc);
     let mut text = String::new(alloc);
+    let mut opened = OpenedSessions::new(alloc);
     let mut rest = script;
     let mut answered = 0usize;
     let ending = loop {
@@ -107,6 +116,7 @@ fn take_lines<L: Ledger + Naming, M: Ledger, A: Access<L, M>, G: Gate>(
             named_desk,
             &mut outcomes,
             &mut text,
+            &mut opened,
         )? {
             break Ending::StepStarved;
         }
@@ -114,7 +124,11 @@ fn take_lines<L: Ledger + Naming, M: Ledger, A: Access<L, M>, G: Gate>(
             break Ending::TooDeep(answered + 1);
         }
     };
-    Ok(Replies { text, ending })
+    Ok(Replies {
+        text,
+        ending,
+        opened,
+    })
 }
 
 impl<'a, L: Ledger + Naming, M: Ledger> DeskTask<L, M, Result<Replies, AllocError>>

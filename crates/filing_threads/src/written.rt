@@ -17,7 +17,7 @@ pub(crate) fn write_replies<W: Sink>(
 {
     let mut whole = true;
     for replies in all_replies {
-        let Replies { text, ending } = replies?;
+        let Replies { text, ending, .. } = replies?;
         let Ok(()) = write_all(output, text.as_bytes()) else {
             return Err(ThreadsFault::Write);
         };

@@ -7,5 +7,10 @@ pub returns-in_ok-push-in-Export : goal.returns-in_ok-push-in-Export
 returns-in_ok-push-in-Export c =
     let bad : string_bytes c.in_ok-text-in-Export.text ≡ bad_line_text = search rules in
     subst (λ j. AddsOutcome j c.args.self.now
-    (record { told = c.push-in-Export.new.self; steps = c.args.self.now.steps; ends_deep = c.args.self.now.ends_deep })) (sym c.in-Export.is)
+    (record {
+      told = c.push-in-Export.new.self;
+      steps = c.args.self.now.steps;
+      names = c.args.self.now.names;
+      ends_deep = c.args.self.now.ends_deep;
+    })) (sym c.in-Export.is)
     ((c.in_ok-text-in-Export.text, bad, c.in_ok-push-in-Export.ensures.items, refl), refl)
