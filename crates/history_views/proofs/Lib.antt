@@ -5,8 +5,10 @@ pub mod Listings
 pub mod FoundVersions
 -- ---- sessions
 pub mod Logs
+pub mod UpdatedRows
 pub mod StagedCalls
 pub mod FoundLogs
+pub mod FactLogs
 -- ---- differences
 pub mod PlacesKept
 pub mod PlacesCover

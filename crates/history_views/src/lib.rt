@@ -5,8 +5,10 @@
 //! - `report`: writes a report of a version that was found.
 //! - `named`: the view that looks for a version, and keeps the names of reports.
 //! - `listing`: lists the reports of a version.
-//! - `session_log`: the view that keeps what is reported of sessions.
-//! - `log`: reports the sessions of a history, a line each.
+//! - `batches`: what the marks of a journal say of the entries of a history.
+//! - `session_log`: the view that keeps what is reported of sessions and of loads.
+//! - `log`: reports the sessions and the loads of a history, a line each.
+//! - `fact_log`: reports the changes of one fact, a line each.
 //! - `placed`: the view that looks for two versions, and keeps the places where they may differ.
 //! - `differing`: what differs between two versions.
 //! - `shown`: what came of what was asked for.
@@ -19,7 +21,9 @@
 //! - how two versions are compared (`version_differences`).
 #![tactic(auto)]
 
+mod batches;
 mod differing;
+mod fact_log;
 mod found;
 mod listing;
 mod log;
@@ -30,8 +34,11 @@ mod session_log;
 mod shown;
 mod sought;
 
+pub use batches::Batches;
 pub use differing::{FoundDifference, difference_of_history};
+pub use fact_log::{FoundFactLog, fact_log_of_history};
 pub use found::{FoundVersion, version_of_history};
 pub use listing::{FoundListing, listing_of_history};
 pub use log::{FoundLog, log_of_history};
+pub use session_log::LogLine;
 pub use shown::Shown;

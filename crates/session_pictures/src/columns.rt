@@ -1,7 +1,8 @@
 //! The versions that a picture shows, and where each stands among them.
 
 ghost use Rattle.std.specs.Prelude.{◌≡◌, map, option_map, IfOk, OnOk};
-ghost use Rattle.session_pictures.specs.Columns.{columns, count_below, is_at, touching_end, versions_of, versions_of_end, with_number, with_numbers};
+ghost use Rattle.std.specs.List.{filter_map};
+ghost use Rattle.session_pictures.specs.Columns.{column_of, columns, count_below, is_at, touching_end, versions_of, versions_of_end, with_number, with_numbers};
 ghost use Rattle.session_pictures.specs.Told.{end_in, told_in};
 
 use crate::told::{SessionEnd, ToldSession};
@@ -38,6 +39,35 @@ fn add_number(columns: &mut Vec<u64>, number: u64) -> Result<(), AllocError>
     }
     columns.insert(place, number)?;
     Ok(())
+}
+
+/// The column of the version of this number, if it has one.
+fn column_of(columns: &[u64], number: u64) -> Option<usize>
+    ensures { result ≡ column_of columns.now number }
+{
+    let place = count_below(number, columns);
+    if is_at(number, place, columns) {
+        Some(place)
+    } else {
+        None
+    }
+}
+
+/// The columns of those of the versions of these numbers that have one.
+pub(crate) fn columns_among(
+    alloc: Global,
+    numbers: &[u64],
+    columns: &[u64],
+) -> Result<Vec<usize>, AllocError>
+    ensures { IfOk result (λ found. found.items ≡ filter_map (column_of columns.now) numbers.now) }
+{
+    let mut found = Vec::new(alloc);
+    for number in numbers {
+        if let Some(column) = column_of(columns, *number) {
+            found.push(column)?;
+        }
+    }
+    Ok(found)
 }
 
 /// The number of the version that touched what a session had read, where it ended so.

@@ -4,8 +4,8 @@ ghost use Rattle.std.specs.Prelude.{◌≡◌, IfOk};
 ghost use Rattle.session_pictures.specs.Picture.{picture_in, text_in};
 
 use crate::arrows::push_arrows_group;
-use crate::elements::{CELL, ROW, column_x, push_group, push_group_end};
-use crate::legend::{push_arrows_legend, push_ends, push_kinds};
+use crate::elements::{CELL, LOADED, ROW, column_x, push_group, push_group_end};
+use crate::legend::{push_arrows_legend, push_ends, push_kinds, push_loaded};
 use crate::picture::Picture;
 use crate::rows::push_rows;
 use std::alloc::{AllocError, Global};
@@ -62,6 +62,7 @@ fn push_above(out: &mut String, picture: &Picture) -> Result<(), AllocError> {
     push_title(out, picture.first, many as u64, picture.all as u64)?;
     push_kinds(out)?;
     push_ends(out)?;
+    push_loaded(out)?;
     push_arrows_legend(out)
 }
 
@@ -79,6 +80,16 @@ fn push_column(
     )
 }
 
+/// Appends the marks of the versions that loads made.
+fn push_loads(out: &mut String, picture: &Picture) -> Result<(), AllocError> {
+    for column in &picture.loads {
+        push_group(out, column_x(*column), 0)?;
+        out.push_str(LOADED)?;
+        push_group_end(out)?;
+    }
+    Ok(())
+}
+
 /// Appends the lines of all versions.
 fn push_columns(out: &mut String, picture: &Picture) -> Result<(), AllocError> {
     out.push_str("<text x=\"-8\" y=\"-10\" text-anchor=\"end\">version</text>\n")?;
@@ -93,6 +104,7 @@ fn push_columns(out: &mut String, picture: &Picture) -> Result<(), AllocError> {
 fn push_grid(out: &mut String, picture: &Picture) -> Result<(), AllocError> {
     push_group(out, LEFT, ABOVE)?;
     push_columns(out, picture)?;
+    push_loads(out, picture)?;
     push_arrows_group(out, picture)?;
     push_rows(out, picture)?;
     push_group_end(out)

@@ -75,6 +75,9 @@ pub(crate) fn mark(ending: Ending) -> &'static str {
     }
 }
 
+/// The mark of a version that a load made.
+pub(crate) const LOADED: &str = "<circle cy=\"-3\" r=\"3\"/>";
+
 /// An arrow's head alone.
 pub(crate) const FROM_NOWHERE: &str =
     "<polygon points=\"-4,-14 4,-14 0,-6\" fill=\"#ffffff\" stroke=\"#000000\"/>";

@@ -1,7 +1,7 @@
 //! What the elements mean.
 
 use crate::elements::{
-    FROM_NOWHERE, kind_style, kind_word, mark, push_from_above, push_group, push_group_end,
+    FROM_NOWHERE, LOADED, kind_style, kind_word, mark, push_from_above, push_group, push_group_end,
 };
 use crate::told::Ending;
 use filing_model::Kind;
@@ -73,6 +73,15 @@ fn push_arrow_from_nowhere(out: &mut String) -> Result<(), AllocError> {
     out.push_str(FROM_NOWHERE)?;
     out.push_str("</g>")?;
     push_meaning(out, "the same by a load, or by a session that is not shown")
+}
+
+/// Appends what the mark of a version means.
+pub(crate) fn push_loaded(out: &mut String) -> Result<(), AllocError> {
+    push_group(out, 374, 34)?;
+    out.push_str("<g transform=\"translate(0,13)\">")?;
+    out.push_str(LOADED)?;
+    out.push_str("</g>")?;
+    push_meaning(out, "load")
 }
 
 /// Appends what arrows mean, and what is left out.

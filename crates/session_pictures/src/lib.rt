@@ -5,6 +5,7 @@
 //! - `picture`: what a picture shows.
 //! - `drawing`: draws it.
 //! - `elements`: groups of elements, and the marks of ends.
+//! - `labels`: names and times, as parts of an XML text.
 //! - `rows`: draws the row of a session.
 //! - `arrows`: draws the arrow into the bar of a session that ended by a conflict.
 //! - `legend`: says what the elements mean.
@@ -17,11 +18,12 @@ mod arrows;
 mod columns;
 mod drawing;
 mod elements;
+mod labels;
 mod legend;
 mod picture;
 mod rows;
 mod told;
 
 pub use drawing::{Drawing, draw};
-pub use picture::{Arrow, Picture, Row, RowEnd, picture_of_sessions};
+pub use picture::{Arrow, Label, Picture, Row, RowEnd, picture_of_sessions};
 pub use told::{Ending, SessionEnd, ToldSession};

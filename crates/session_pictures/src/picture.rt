@@ -1,11 +1,11 @@
 //! `Picture`: which sessions and versions a picture shows, and what goes from where to where.
 
-ghost use Rattle.std.specs.Prelude.{◌≡◌, ◌+◌, ◌<◌, ◌^◌, length, map, max, option_map, IfOk};
+ghost use Rattle.std.specs.Prelude.{◌≡◌, ◌+◌, ◌<◌, ◌^◌, length, map, max, option_map, string_bytes, IfOk};
 ghost use Rattle.session_pictures.specs.Columns.{touching_end};
-ghost use Rattle.session_pictures.specs.Picture.{Shows, arrow_from, arrow_of, end_of, is_shown, row_of, rows_of, shown};
+ghost use Rattle.session_pictures.specs.Picture.{Shows, arrow_from, arrow_of, end_of, is_shown, label_in, label_of, row_of, rows_of, shown};
 ghost use Rattle.session_pictures.specs.Told.{end_in, told_in};
 
-use crate::columns::{columns_of, count_below, touching_end};
+use crate::columns::{columns_among, columns_of, count_below, touching_end};
 use crate::told::{Ending, SessionEnd, ToldSession};
 use filing_model::Kind;
 use std::alloc::{AllocError, Global};
@@ -48,6 +48,13 @@ pub struct Row {
     pub arrow: Option<Arrow>,
 }
 
+/// What is known of a session beside its row.
+#[derive(Drop)]
+pub struct Label {
+    pub name: Option<String>,
+    pub time: Option<String>,
+}
+
 /// What a picture shows.
 #[derive(Drop)]
 pub struct Picture {
@@ -58,6 +65,10 @@ pub struct Picture {
     /// The versions along, rising, each once. The column of a version is its place here.
     pub versions: Vec<u64>,
     pub rows: Vec<Row>,
+    /// The label of each row.
+    pub labels: Vec<Label>,
+    /// The columns of those of the versions that loads made.
+    pub loads: Vec<usize>,
 }
 
 /// At most so many sessions, from the one of this number on. Each has a number of 64 bits, and so has the next one.
@@ -153,21 +164,57 @@ fn rows_of(
     Ok(rows)
 }
 
+/// A text once more, where there is one.
+fn copy_of(alloc: Global, text: &Option<String>) -> Result<Option<String>, AllocError>
+    ensures { IfOk result (λ copy. option_map string_bytes copy ≡ option_map string_bytes text.now) }
+{
+    match text {
+        Some(text) => Ok(Some(String::from_str(alloc, text)?)),
+        None => Ok(None),
+    }
+}
+
+/// The label of a session.
+fn label_of(alloc: Global, session: &ToldSession) -> Result<Label, AllocError>
+    ensures { IfOk result (λ label. label_in label ≡ label_of (told_in session.now)) }
+{
+    let name = copy_of(alloc, &session.name)?;
+    let time = copy_of(alloc, &session.time)?;
+    Ok(Label { name, time })
+}
+
+/// The labels of sessions.
+fn labels_of(alloc: Global, sessions: &[ToldSession]) -> Result<Vec<Label>, AllocError>
+    ensures { IfOk result (λ labels. map label_in labels.items ≡ map label_of (map told_in sessions.now)) }
+{
+    let mut labels = Vec::new(alloc);
+    for session in sessions {
+        labels.push(label_of(alloc, session)?)?;
+    }
+    Ok(labels)
+}
+
 /// The picture of at most 200 sessions, from the one of this number on, where the first has number 1.
+/// Loads made the versions of these numbers.
 pub fn picture_of_sessions(
     alloc: Global,
     sessions: &[ToldSession],
+    loaded: &[u64],
     first: u64,
 ) -> Result<Picture, AllocError>
-    ensures { IfOk result (Shows first (map told_in sessions.now)) }
+    ensures { IfOk result (Shows first (map told_in sessions.now) loaded.now) }
 {
     let some = shown(sessions, first);
     let versions = columns_of(alloc, some)?;
     let rows = rows_of(alloc, first.max(1), &versions, some)?;
+    let labels = labels_of(alloc, some)?;
+    let loads = columns_among(alloc, loaded, &versions)?;
     Ok(Picture {
         first: first.max(1),
         all: sessions.len(),
         versions,
         rows,
+        labels,
+        loads,
     })
 }

@@ -1,9 +1,10 @@
-//! The row of a session: its label, its bar, and what is reported about its end.
+//! The row of a session: its number and its name, its bar, and what is reported about its end.
 
 use crate::elements::{
     column_x, end_inset, kind_style, kind_word, mark, push_group, push_group_end, row_y,
 };
-use crate::picture::{Picture, Row, RowEnd};
+use crate::labels::{push_short_name, push_title};
+use crate::picture::{Label, Picture, Row, RowEnd};
 use crate::told::Ending;
 use std::alloc::AllocError;
 
@@ -18,10 +19,11 @@ fn bar_end(versions: usize, end: &Option<RowEnd>) -> u128 {
     }
 }
 
-/// Appends the label of a row.
-fn push_label(out: &mut String, row: &Row) -> Result<(), AllocError> {
+/// Appends what stands to the left of a row.
+fn push_left(out: &mut String, row: &Row, label: Option<&Label>) -> Result<(), AllocError> {
     let (number, staged) = (row.number, row.staged);
     write!(out, "<text x=\"-8\" y=\"14\" text-anchor=\"end\">{number} ")?;
+    push_short_name(out, label)?;
     out.push_str(kind_word(row.kind))?;
     write!(out, ", {staged} staged</text>")
 }
@@ -80,9 +82,16 @@ fn push_end(out: &mut String, versions: usize, row: &Row) -> Result<(), AllocErr
 }
 
 /// Appends the row of a session.
-fn push_row(out: &mut String, first: u64, versions: usize, row: &Row) -> Result<(), AllocError> {
+fn push_row(
+    out: &mut String,
+    first: u64,
+    versions: usize,
+    row: &Row,
+    label: Option<&Label>,
+) -> Result<(), AllocError> {
     push_group(out, 0, row_y(first, row.number))?;
-    push_label(out, row)?;
+    push_title(out, label)?;
+    push_left(out, row, label)?;
     push_bar(out, versions, row)?;
     push_end(out, versions, row)?;
     push_group_end(out)
@@ -90,8 +99,9 @@ fn push_row(out: &mut String, first: u64, versions: usize, row: &Row) -> Result<
 
 /// Appends the rows of a picture.
 pub(crate) fn push_rows(out: &mut String, picture: &Picture) -> Result<(), AllocError> {
-    for row in &picture.rows {
-        push_row(out, picture.first, picture.versions.len(), row)?;
+    for (place, row) in picture.rows.iter().enumerate() {
+        let label = picture.labels.get(place);
+        push_row(out, picture.first, picture.versions.len(), row, label)?;
     }
     Ok(())
 }

@@ -49,4 +49,8 @@ pub struct ToldSession {
     pub ended: Option<SessionEnd>,
     /// The session whose commit touched what it had read, where it ended by a conflict with one.
     pub touched_by: Option<u64>,
+    /// Its name, where that is known.
+    pub name: Option<String>,
+    /// When it ended, or was opened where it has not ended; none where that is not known.
+    pub time: Option<String>,
 }

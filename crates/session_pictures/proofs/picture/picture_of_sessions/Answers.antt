@@ -1,7 +1,8 @@
 use Rattle.std.proofs.Common.{◌≡◌, ◌∙◌, ap, sym, length, map}
 use Rattle.std.proofs.lemmas.List.{length-map}
-use Rattle.session_pictures.specs.Columns.{columns}
-use Rattle.session_pictures.specs.Picture.{rows_of, shown}
+use Rattle.std.specs.List.{filter_map}
+use Rattle.session_pictures.specs.Columns.{column_of, columns}
+use Rattle.session_pictures.specs.Picture.{label_of, rows_of, shown}
 use Rattle.session_pictures.specs.Told.{told_in}
 use Rattle.session_pictures.proofs.picture.picture_of_sessions.Goals as goal
 
@@ -16,4 +17,6 @@ returns c =
       all_is = sym (length-map c.args.sessions.now told_in);
       versions_are = versions;
       rows_are = c.in_ok-rows.ensures ∙ (λ i. rows_of (c.max.ensures i) (many i) (along i) (c.max.ensures i) (are i));
+      labels_are = c.in_ok-labels.ensures ∙ ap (map label_of) are;
+      loads_are = c.in_ok-loads.ensures ∙ ap (λ cs. filter_map (column_of cs) c.args.loaded.now) (c.deref-2.ensures.value ∙ versions);
     }
