@@ -3,7 +3,7 @@ use Rattle.std.proofs.Common.{◌≡◌, refl, codes, Bool, true, false, List, [
 use Rattle.clap.specs.Words.{Row, Text, all_of, fault_of, first_of, subcommand_of, takes}
 use Rattle.clap.specs.declared.error.kind.ErrorKind.TheVariants.{DisplayVersion}
 use Rattle.filing_args.proofs.OnLiterals.{filing_args_on_literals}
-use Rattle.filing_args.specs.Words.{Enters, is_given, program, tables_of}
+use Rattle.filing_args.specs.Words.{Enters, is_given, is_seal, program, tables_of}
 
 -- these words enter the command of this name, with such rows
 abbrev AreWordsOf : List Text → Text → (List Row → Type 0) → Type 0
@@ -73,6 +73,50 @@ sessions_drawn : AreWordsOf (codes "log" ∷ codes "h.jsonl" ∷ codes "--svg" �
     × (is_given (codes "svg") rows ≡ true) × (first_of (codes "first") rows ≡ Some (codes "201")))
 unfolding filing_args_on_literals
 sessions_drawn = (refl, (refl, refl, refl, refl))
+
+-- `filing log --fact j.jsonl r1 f1`
+changes_told : AreWordsOf (codes "log" ∷ codes "--fact" ∷ codes "j.jsonl" ∷ codes "r1" ∷ codes "f1" ∷ [])
+    (codes "log") (λ rows. (first_of (codes "viewed") rows ≡ Some (codes "j.jsonl")) × (first_of (codes "report") rows ≡ Some (codes "r1"))
+    × (first_of (codes "identifier") rows ≡ Some (codes "f1")) × (is_given (codes "fact") rows ≡ true))
+unfolding filing_args_on_literals
+changes_told = (refl, (refl, refl, refl, refl))
+
+-- `filing verify --explain --seal 0f j.jsonl`
+journal_verified : AreWordsOf (codes "verify" ∷ codes "--explain" ∷ codes "--seal" ∷ codes "0f" ∷ codes "j.jsonl" ∷ [])
+    (codes "verify") (λ rows. (first_of (codes "stored") rows ≡ Some (codes "j.jsonl")) × (first_of (codes "seal") rows ≡ Some (codes "0f"))
+    × (is_given (codes "explain") rows ≡ true))
+unfolding filing_args_on_literals
+journal_verified = (refl, (refl, refl, refl))
+
+-- `filing history j.jsonl`
+history_written : AreWordsOf (codes "history" ∷ codes "j.jsonl" ∷ []) (codes "history") (λ rows. first_of (codes "stored") rows ≡ Some (codes "j.jsonl"))
+unfolding filing_args_on_literals
+history_written = (refl, refl)
+
+-- `filing seal j.jsonl`
+journal_sealed : AreWordsOf (codes "seal" ∷ codes "j.jsonl" ∷ []) (codes "seal") (λ rows. first_of (codes "stored") rows ≡ Some (codes "j.jsonl"))
+unfolding filing_args_on_literals
+journal_sealed = (refl, refl)
+
+-- `filing repair j.jsonl --keep 12`, and without a number
+journal_repaired : AreWordsOf (codes "repair" ∷ codes "j.jsonl" ∷ codes "--keep" ∷ codes "12" ∷ [])
+    (codes "repair") (λ rows. (first_of (codes "stored") rows ≡ Some (codes "j.jsonl")) × (first_of (codes "keep") rows ≡ Some (codes "12")))
+unfolding filing_args_on_literals
+journal_repaired = (refl, (refl, refl))
+
+repaired_by_number : is_taken (codes "repair" ∷ codes "j.jsonl" ∷ []) ≡ false
+unfolding filing_args_on_literals
+repaired_by_number = refl
+
+-- 64 digits are a seal; a digit more, or a capital among them, is none
+digits_of_a_seal : is_seal (codes "00112233445566778899aabbccddeeff00112233445566778899aabbccddeeff") ≡ true
+digits_of_a_seal = refl
+
+longer_than_a_seal : is_seal (codes "00112233445566778899aabbccddeeff00112233445566778899aabbccddeeff0") ≡ false
+longer_than_a_seal = refl
+
+capital_in_a_seal : is_seal (codes "00112233445566778899aabbccddeeff00112233445566778899aabbccddeefF") ≡ false
+capital_in_a_seal = refl
 
 -- `filing inspect --as none a.json b.json`
 reports_inspected : AreWordsOf (codes "inspect" ∷ codes "--as" ∷ codes "none" ∷ codes "a.json" ∷ codes "b.json" ∷ [])

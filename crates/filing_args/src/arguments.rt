@@ -75,7 +75,7 @@ pub(crate) const HISTORY: Argument = Argument {
 pub(crate) const FROM: Argument = Argument {
     id: "from",
     form: Form::Optional("from", "HISTORY"),
-    help: "A history to go on from, which stays as it is",
+    help: "A history or journal to go on from, which stays as it is",
 };
 
 /// The file of a journal.
@@ -97,6 +97,27 @@ pub(crate) const LOADED: Argument = Argument {
     id: "loaded",
     form: Form::Words("NAME=REPORT"),
     help: "A name and the file of a report, - for standard input; or a folder",
+};
+
+/// The file of a journal that is read, or repaired.
+pub(crate) const STORED: Argument = Argument {
+    id: "stored",
+    form: Form::Word("JOURNAL"),
+    help: "A journal, as `run --journal` keeps it",
+};
+
+/// The digits of a seal.
+pub(crate) const SEAL: Argument = Argument {
+    id: "seal",
+    form: Form::Optional("seal", "HEX"),
+    help: "The 64 digits of a seal that the journal has to go on from",
+};
+
+/// The number of the last batch that is kept.
+pub(crate) const KEEP: Argument = Argument {
+    id: "keep",
+    form: Form::Needed("keep", "N"),
+    help: "The number of the last batch that is kept",
 };
 
 /// Each reply waits until its entry is in the journal.
@@ -160,6 +181,20 @@ pub(crate) const LATER: Argument = Argument {
     id: "later",
     form: Form::Word("TO"),
     help: "The number of a version that it is compared with",
+};
+
+/// The changes of one fact are printed.
+pub(crate) const FACT: Argument = Argument {
+    id: "fact",
+    form: Form::Flag("fact"),
+    help: "Prints each change of one fact, and not the sessions",
+};
+
+/// The identifier of that fact.
+pub(crate) const IDENTIFIER: Argument = Argument {
+    id: "identifier",
+    form: Form::OptionalWord("ID"),
+    help: "The identifier of a fact in the report",
 };
 
 /// The log of sessions is drawn.

@@ -3,22 +3,8 @@
 use crate::fault::WordsFault;
 use crate::invocation::{InspectWords, LoadWords, LogWords, RunWords, ThreadsWords};
 
-/// What is wrong with words that do not go together, in `clap`'s words.
-fn journal_misfit(has_journal: bool, has_history: bool, has_from: bool) -> Option<&'static str> {
-    if has_journal && has_history {
-        Some("the argument '--history <FILE>' cannot be used with '--journal <FILE>'")
-    } else if has_journal && has_from {
-        Some("the argument '--from <HISTORY>' cannot be used with '--journal <FILE>'")
-    } else {
-        None
-    }
-}
-
-/// Refuses words for a reason, and tells it.
-fn refuse(rt: &impl Eprint, reason: Option<&str>) -> Result<(), WordsFault> {
-    let Some(reason) = reason else {
-        return Ok(());
-    };
+/// Refuses words for a reason, and says it as `clap` does.
+fn refuse(rt: &impl Eprint, reason: &str) -> Result<(), WordsFault> {
     let _ = eprintln!(rt; "error: {reason}\n\nFor more information, try '--help'.");
     Err(WordsFault::Refused)
 }
@@ -46,7 +32,22 @@ fn refuse_table(rt: &impl Eprint, tables: &[&str], is_taken: bool) -> Result<(),
     let reason =
         "the argument '--numeric -' cannot be used: standard input is read as something else";
     if is_taken && has_input(tables) {
-        return refuse(rt, Some(reason));
+        return refuse(rt, reason);
+    }
+    Ok(())
+}
+
+/// Refuses a history that is to be written beside a journal.
+fn refuse_history(
+    rt: &impl Eprint,
+    journal: Option<&str>,
+    history: Option<&str>,
+) -> Result<(), WordsFault> {
+    if journal.is_some() && history.is_some() {
+        return refuse(
+            rt,
+            "the argument '--history <FILE>' cannot be used with '--journal <FILE>'",
+        );
     }
     Ok(())
 }
@@ -55,17 +56,9 @@ fn refuse_table(rt: &impl Eprint, tables: &[&str], is_taken: bool) -> Result<(),
 pub fn refuse_misfit(rt: &impl Eprint, given: &RunWords<'_>) -> Result<(), WordsFault> {
     refuse_table(rt, given.numeric.as_slice(), true)?;
     if given.journal.is_none() && given.every_reply {
-        return refuse(
-            rt,
-            Some("the argument '--every-reply' wants '--journal <FILE>'"),
-        );
+        return refuse(rt, "the argument '--every-reply' wants '--journal <FILE>'");
     }
-    let reason = journal_misfit(
-        given.journal.is_some(),
-        given.history.is_some(),
-        given.from.is_some(),
-    );
-    refuse(rt, reason)
+    refuse_history(rt, given.journal, given.history)
 }
 
 /// Refuses words of scripts in threads that do not go together.
@@ -73,18 +66,35 @@ pub fn refuse_misfit_of_threads(
     rt: &impl Eprint,
     given: &ThreadsWords<'_>,
 ) -> Result<(), WordsFault> {
-    let reason = journal_misfit(
-        given.journal.is_some(),
-        given.history.is_some(),
-        given.from.is_some(),
-    );
-    refuse(rt, reason)
+    refuse_history(rt, given.journal, given.history)?;
+    if given.journal.is_some() && given.from.is_some() {
+        return refuse(
+            rt,
+            "the argument '--from <HISTORY>' cannot be used with '--journal <FILE>'",
+        );
+    }
+    Ok(())
+}
+
+/// Refuses a fact that is named without its argument, or in part.
+fn refuse_part_of_fact(rt: &impl Eprint, given: &LogWords<'_>) -> Result<(), WordsFault> {
+    if given.fact && given.identifier.is_none() {
+        return refuse(rt, "the argument '--fact' wants 'HISTORY REPORT ID'");
+    }
+    if !given.fact && given.report.is_some() {
+        return refuse(rt, "the arguments '[REPORT] [ID]' want '--fact'");
+    }
+    Ok(())
 }
 
 /// Refuses words of a log that do not go together.
 pub fn refuse_misfit_of_log(rt: &impl Eprint, given: &LogWords<'_>) -> Result<(), WordsFault> {
+    refuse_part_of_fact(rt, given)?;
+    if given.fact && given.svg {
+        return refuse(rt, "the argument '--fact' cannot be used with '--svg'");
+    }
     if given.first.is_some() && !given.svg {
-        return refuse(rt, Some("the argument '--first <SESSION>' wants '--svg'"));
+        return refuse(rt, "the argument '--first <SESSION>' wants '--svg'");
     }
     Ok(())
 }
@@ -101,7 +111,7 @@ pub fn refuse_misfit_of_inspect(
 /// Refuses words of reports to load that do not go together.
 pub fn refuse_misfit_of_load(rt: &impl Eprint, given: &LoadWords<'_>) -> Result<(), WordsFault> {
     if has_input(given.reports.as_slice()) {
-        return refuse(rt, Some("standard input has no name: write 'NAME=-'"));
+        return refuse(rt, "standard input has no name: write 'NAME=-'");
     }
     let is_taken = given.reports.iter().any(|word| loads_input(word));
     refuse_table(rt, given.numeric.as_slice(), is_taken)

@@ -4,22 +4,22 @@
 ghost use Rattle.std.specs.Prelude.{◌≡◌, IfOk, IsOkAnd, map};
 ghost use Rattle.clap.specs.Words.{AddsSubcommand, app_of};
 ghost use Rattle.filing_args.specs.Arguments.{rule_for};
-ghost use Rattle.filing_args.specs.Words.{taking, run, load, check, show, diff, log, inspect, threads, words, program};
+ghost use Rattle.filing_args.specs.Words.{taking, run, load, check, show, diff, log, verify, history, seal, repair, inspect, threads, words, program};
 
 use crate::arguments::{
-    ALLOWING, AT, Argument, EARLIER, EVERY_REPLY, EXPLAIN, FIRST, FROM, HISTORY, JOURNAL, JUDGED,
-    KEEPING, LATER, LOADED, NUMERIC, PLAIN, REPORT, REPORTS, SCRIPTS, STRICT, SVG, VIEWED,
-    clap_arg,
+    ALLOWING, AT, Argument, EARLIER, EVERY_REPLY, EXPLAIN, FACT, FIRST, FROM, HISTORY, IDENTIFIER,
+    JOURNAL, JUDGED, KEEP, KEEPING, LATER, LOADED, NUMERIC, PLAIN, REPORT, REPORTS, SCRIPTS, SEAL,
+    STORED, STRICT, SVG, VIEWED, clap_arg,
 };
 use crate::help::{
-    BEGINNING, DIFFERENCES, INSPECTIONS, LINES, LOADS, REFUSALS, SESSIONS, THREADS, VERDICTS,
-    VERSIONS,
+    BEGINNING, DIFFERENCES, INSPECTIONS, JOURNAL_VERDICTS, KEPT_HISTORIES, LINES, LOADS, REFUSALS,
+    REPAIRS, SEALS, SESSIONS, THREADS, VERDICTS, VERSIONS,
 };
 use clap::Command;
 use std::alloc::{AllocError, Global};
 
-/// What `filing --version` tells. There was no release yet.
-const VERSION: &str = "0.1.0";
+/// What `filing --version` tells, and what is written into each new journal. There was no release yet.
+pub const VERSION: &str = "0.1.0";
 
 /// A command that takes these arguments.
 fn command_of<'a>(
@@ -93,9 +93,42 @@ fn diff_command<'a>(alloc: Global) -> Result<Command<'a>, AllocError>
 fn log_command<'a>(alloc: Global) -> Result<Command<'a>, AllocError>
     ensures { IfOk result (λ c. app_of c ≡ log) }
 {
-    let about = "Prints each session of a history, and who met whom";
-    let arguments = [NUMERIC, VIEWED, SVG, FIRST];
+    let about = "Prints each session of a history, or each change of a fact";
+    let arguments = [NUMERIC, VIEWED, REPORT, IDENTIFIER, FACT, SVG, FIRST];
     command_of(alloc, "log", about, SESSIONS, &arguments)
+}
+
+/// The command that judges a journal.
+fn verify_command<'a>(alloc: Global) -> Result<Command<'a>, AllocError>
+    ensures { IfOk result (λ c. app_of c ≡ verify) }
+{
+    let about = "Judges a journal: whether it is whole, and its history lawful";
+    let arguments = [STORED, SEAL, EXPLAIN];
+    command_of(alloc, "verify", about, JOURNAL_VERDICTS, &arguments)
+}
+
+/// The command that writes out the history of a journal.
+fn history_command<'a>(alloc: Global) -> Result<Command<'a>, AllocError>
+    ensures { IfOk result (λ c. app_of c ≡ history) }
+{
+    let about = "Writes out the history that a journal keeps";
+    command_of(alloc, "history", about, KEPT_HISTORIES, &[STORED])
+}
+
+/// The command that seals a journal.
+fn seal_command<'a>(alloc: Global) -> Result<Command<'a>, AllocError>
+    ensures { IfOk result (λ c. app_of c ≡ seal) }
+{
+    let about = "Seals a journal: prints digits by which a later change is noticed";
+    command_of(alloc, "seal", about, SEALS, &[STORED])
+}
+
+/// The command that repairs a journal.
+fn repair_command<'a>(alloc: Global) -> Result<Command<'a>, AllocError>
+    ensures { IfOk result (λ c. app_of c ≡ repair) }
+{
+    let about = "Keeps the first batches of a journal, and puts the rest beside it";
+    command_of(alloc, "repair", about, REPAIRS, &[STORED, KEEP])
 }
 
 /// The command that inspects reports.
@@ -157,6 +190,10 @@ pub(crate) fn command<'a>(alloc: Global) -> Result<Command<'a>, AllocError>
     let with_show = with_below(with_check, show_command(alloc))?;
     let with_diff = with_below(with_show, diff_command(alloc))?;
     let with_log = with_below(with_diff, log_command(alloc))?;
-    let with_inspect = with_below(with_log, inspect_command(alloc))?;
+    let with_verify = with_below(with_log, verify_command(alloc))?;
+    let with_history = with_below(with_verify, history_command(alloc))?;
+    let with_seal = with_below(with_history, seal_command(alloc))?;
+    let with_repair = with_below(with_seal, repair_command(alloc))?;
+    let with_inspect = with_below(with_repair, inspect_command(alloc))?;
     with_below(with_inspect, words_command(alloc))
 }

@@ -3,12 +3,12 @@
 ghost use Rattle.std.specs.Prelude.{◌≡◌, IfOk, Some};
 ghost use Rattle.clap.specs.Walk.{texts};
 ghost use Rattle.clap.specs.Words.{all_of, first_of, found_of, rows_of, subcommand_rows_of};
-ghost use Rattle.filing_args.specs.Words.{HoldsRun, HoldsLoad, HoldsCheck, HoldsShow, HoldsDiff, HoldsLog, HoldsInspect, HoldsThreads, IsOrdered, is_given, tables_of, text_of};
+ghost use Rattle.filing_args.specs.Words.{HoldsRun, HoldsLoad, HoldsCheck, HoldsShow, HoldsDiff, HoldsLog, HoldsVerify, HoldsHistory, HoldsSeal, HoldsRepair, HoldsInspect, HoldsThreads, IsOrdered, is_given, tables_of, text_of};
 
 use crate::fault::WordsFault;
 use crate::invocation::{
-    CheckWords, DiffWords, InspectWords, Invocation, LoadWords, LogWords, RunWords, ShowWords,
-    ThreadsWords,
+    CheckWords, DiffWords, HistoryWords, InspectWords, Invocation, LoadWords, LogWords,
+    RepairWords, RunWords, SealWords, ShowWords, ThreadsWords, VerifyWords,
 };
 use clap::ArgMatches;
 use std::alloc::{AllocError, Global};
@@ -133,8 +133,50 @@ fn log_words<'a>(alloc: Global, log: &ArgMatches<'a>) -> Result<LogWords<'a>, Wo
     Ok(LogWords {
         numeric: tables_given(alloc, log)?,
         history: needed_value(log, "viewed")?,
+        report: value_of(log, "report"),
+        identifier: value_of(log, "identifier"),
+        fact: is_given(log, "fact"),
         svg: is_given(log, "svg"),
         first: value_of(log, "first"),
+    })
+}
+
+/// What `verify` was given.
+fn verify_words<'a>(verify: &ArgMatches<'a>) -> Result<VerifyWords<'a>, WordsFault>
+    ensures { IfOk result (λ given. HoldsVerify given (rows_of (found_of verify.now))) }
+{
+    Ok(VerifyWords {
+        journal: needed_value(verify, "stored")?,
+        seal: value_of(verify, "seal"),
+        explain: is_given(verify, "explain"),
+    })
+}
+
+/// What `history` was given.
+fn history_words<'a>(history: &ArgMatches<'a>) -> Result<HistoryWords<'a>, WordsFault>
+    ensures { IfOk result (λ given. HoldsHistory given (rows_of (found_of history.now))) }
+{
+    Ok(HistoryWords {
+        journal: needed_value(history, "stored")?,
+    })
+}
+
+/// What `seal` was given.
+fn seal_words<'a>(seal: &ArgMatches<'a>) -> Result<SealWords<'a>, WordsFault>
+    ensures { IfOk result (λ given. HoldsSeal given (rows_of (found_of seal.now))) }
+{
+    Ok(SealWords {
+        journal: needed_value(seal, "stored")?,
+    })
+}
+
+/// What `repair` was given.
+fn repair_words<'a>(repair: &ArgMatches<'a>) -> Result<RepairWords<'a>, WordsFault>
+    ensures { IfOk result (λ given. HoldsRepair given (rows_of (found_of repair.now))) }
+{
+    Ok(RepairWords {
+        journal: needed_value(repair, "stored")?,
+        keep: needed_value(repair, "keep")?,
     })
 }
 
@@ -186,6 +228,10 @@ fn command_given<'a>(
         "show" => Ok(Invocation::Show(show_words(alloc, command)?)),
         "diff" => Ok(Invocation::Diff(diff_words(alloc, command)?)),
         "log" => Ok(Invocation::Log(log_words(alloc, command)?)),
+        "verify" => Ok(Invocation::Verify(verify_words(command)?)),
+        "history" => Ok(Invocation::History(history_words(command)?)),
+        "seal" => Ok(Invocation::Seal(seal_words(command)?)),
+        "repair" => Ok(Invocation::Repair(repair_words(command)?)),
         "inspect" => Ok(Invocation::Inspect(inspect_words(alloc, command)?)),
         "threads" => Ok(Invocation::Threads(threads_words(alloc, command)?)),
         "words" => Ok(Invocation::Explain),

@@ -13,16 +13,19 @@ pub(crate) const BEGINNING: &str = r#"A script goes in, and a reply comes out fo
 
 With a journal, what is loaded and committed is kept from run to run:
   filing load --numeric concepts.txt --journal office.jsonl r1=report.json
-  filing run --numeric concepts.txt --journal office.jsonl < script.jsonl
+  filing run --journal office.jsonl < script.jsonl
+  filing verify office.jsonl
+  filing seal office.jsonl
 
 `filing run --help` has every line by an example, `filing words` every word by
 which a line is refused.
 
 The status is 0 where the script was read to its end, also where lines were
 refused; 1 after a fault in reading or writing; 2 where the words or the numeric
-table are wrong; 3 where memory ran out; 4 where a history or a journal departs,
-or a report that is loaded or inspected is refused; 5 where `--strict` was given
-and a line was malformed or out of place."#;
+table are wrong; 3 where memory ran out; 4 where a history or a journal departs
+or is damaged, a seal is not met, or a report that is loaded or inspected is
+refused; 5 where `--strict` was given and a line was malformed or out of
+place."#;
 
 /// Every line by an example, and how reports and replies go in and out.
 pub(crate) const LINES: &str =
@@ -97,11 +100,33 @@ files has it. - is standard input, where that is not the script.
 A journal is a file from which a run goes on, and in which it keeps its steps.
 The reply to a load or a commit that passed is written once it is in the file,
 on the disk; with --every-reply so is every reply. Where the run was cut short,
-the file has at least what was answered. One process at a time has it open, and
-the numeric table has to be the same each time. `filing check` judges it as any
-history.
+the file has at least what was answered. One run at a time has it open. `filing
+verify`, `history`, `seal`, `show`, `diff` and `log` read it also while a run
+writes it, up to the last whole batch.
 
-To go on from a history:
+A journal is a file of its own kind, and stands alone:
+  {"journal":1,"made":TIME,"program":VERSION}
+                              the first line
+  {"table":["URI NAME",..]}   the numeric table
+  [1,["open","amend"],["opened"]]
+                              then batches of entries, which are those of a
+                              history
+  {"batch":1,"entries":1,"time":TIME,"opened":{..},"sha256":HEX}
+                              each batch ends with a mark: its number, how many
+                              entries it has, when it was put, the names of the
+                              sessions that it opened, and a SHA-256 over all
+                              that comes before
+
+A new journal is made only where nothing is at its path. It has the table that
+--numeric gives then. Later --numeric may be left out: where it differs, it is
+refused, with status 2. `filing verify` judges a journal, and `filing history`
+writes out its history.
+
+To make a journal of a history:
+  filing run --numeric concepts.txt --journal new --from old < /dev/null
+An old journal, which has no such first line and no marks, is a history.
+
+To go on from a history, or from a journal:
   filing run --from old.jsonl --history new.jsonl < script.jsonl
 which leaves old.jsonl as it is, and writes the whole history to new.jsonl.
 
@@ -135,10 +160,11 @@ reply is written once the report is in the journal, on the disk:
 Standard error has the reasons of each refusal, after the path of its file, and
 on a terminal how many reports were read.
 
-The journal is one of `filing run --help`, and is made where there is none. The
-status is 4 where a report was refused: the others are loaded all the same. All
-files are read first: where one cannot be read, or is not UTF-8, nothing is
-loaded, and the status is 1."#;
+The journal is one of `filing run --help`, and is made where nothing is at its
+path. It has the numeric table with which it was made: --numeric may be left out
+then. The status is 4 where a report was refused: the others are loaded all the
+same. All files are read first: where one cannot be read, or is not UTF-8,
+nothing is loaded, and the status is 1."#;
 
 /// What `filing check --help` says of histories and verdicts.
 pub(crate) const VERDICTS: &str =
@@ -159,7 +185,7 @@ With --explain, and on a terminal always, standard error has the number of the
 entries and the version that they make, or why the history departs.
 
 The numeric table has to be that of the run. The spaces in a line and the order
-of members are free."#;
+of members are free. A journal is no history: `filing verify` judges it."#;
 
 /// What `filing show --help` says of versions.
 pub(crate) const VERSIONS: &str =
@@ -178,9 +204,11 @@ it allows:
   ["report","r1",120,"consistent"]
 
 The history is judged first: where it departs, nothing is shown, and the status
-is 4. It may be a journal. The numeric table has to be that of the run. The
-status is 2 where the history has no such version, or the version no such
-report."#;
+is 4. The numeric table has to be that of the run. The status is 2 where the
+history has no such version, or the version no such report.
+
+A journal is read as its history, by the table in it, also while a run writes
+it: up to the last whole batch."#;
 
 /// What `filing diff --help` says of differences.
 pub(crate) const DIFFERENCES: &str =
@@ -201,28 +229,104 @@ Nothing is written where nothing differs:
                               of one report alone
 
 The history is judged first: where it departs, nothing is shown, and the status
-is 4. It may be a journal. The numeric table has to be that of the run. The
-status is 2 where the history has no such version, or neither version has that
-report."#;
+is 4. The numeric table has to be that of the run. The status is 2 where the
+history has no such version, or neither version has that report.
+
+A journal is read as its history, by the table in it, also while a run writes
+it: up to the last whole batch."#;
 
 /// What `filing log --help` says of sessions.
-pub(crate) const SESSIONS: &str = r#"Each session has a line, in the order of their openings:
-  [1,"amend",4,["committed",6],2,null]
-  [2,"amend",4,["conflict",6,["id","r1","f1"]],1,1]
-  [3,"review",6,null,0,null]
-its number, what it was opened for, the version at its opening, the reply by
-which it ended (null: it did not), how many of its changes were staged, and of a
-conflict the session whose commit touched what it had read (null: a load did).
+pub(crate) const SESSIONS: &str =
+    r#"Each session and each load has a line, in the order of openings and loads:
+  [null,"load","r1",["loaded",4],"2026-12-01T12:00:00.123Z"]
+  [1,"amend",4,["committed",6],2,null,"anna","2026-12-01T12:00:07.009Z"]
+  [2,"amend",4,["conflict",6,["id","r1","f1"]],1,1,null,null]
+  [3,"review",6,null,0,null,null,null]
+a session's number, what it was opened for, the version at its opening, the
+reply by which it ended (null: it did not), how many of its changes were staged,
+of a conflict the session whose commit touched what it had read (null: a load
+did), its name, and when it ended or, where it did not, was opened. Names and
+times are those of a journal; null: there is none.
 
-With --svg the same comes as a picture: versions along, a bar for each session
-from its opening to its end, and an arrow from a commit to each session that it
-made conflict. A picture has at most 200 sessions; --first gives the number of
-the first one:
+With --fact each version in which a fact is another has a line:
+  filing log --fact journal.jsonl r1 f1
+  [4,null,null,"2026-12-01T12:00:00.123Z",null,{"value":"Acme","dimensions":..}]
+  [6,1,"anna","2026-12-01T12:00:07.009Z",{"value":"Acme","dimensions":..},null]
+its number, the session whose commit made it (null: a load did), the name and
+the time, and the fact before and after (null: it is not there).
+
+With --svg the sessions come as a picture: versions along, a bar for each
+session from its opening to its end, and an arrow from a commit to each session
+that it made conflict. A picture has at most 200 sessions; --first gives the
+number of the first one:
   filing log --svg history.jsonl > sessions.svg
   filing log --svg --first 201 history.jsonl > more.svg
 
 The history is judged first: where it departs, nothing is shown, and the status
-is 4. It may be a journal. The numeric table has to be that of the run."#;
+is 4. The numeric table has to be that of the run.
+
+A journal is read as its history, by the table in it, also while a run writes
+it: up to the last whole batch."#;
+
+/// What `filing verify --help` says of journals and verdicts.
+pub(crate) const JOURNAL_VERDICTS: &str =
+    r#"A journal is lawful where its marks are those of the lines before them, and its
+history is lawful by the numeric table in it. `filing run --help` says what a
+journal has, and `filing check --help` which histories are lawful. The verdict
+is one line:
+  ["lawful"]         status 0
+  ["departs",2]      status 4: the history departs at the third entry
+  ["damaged",7]      status 4: the file is damaged at its seventh line. Where an
+                     entry was changed, that is the mark of its batch
+
+A journal is judged up to the last whole batch, also while a run writes it.
+
+With the 64 digits of `filing seal` the status is 4 also where the journal does
+not go on from what was sealed. Standard error says so:
+  filing verify --seal HEX office.jsonl
+
+With --explain, and on a terminal always, standard error has why the history
+departs."#;
+
+/// What `filing history --help` says of histories that journals keep.
+pub(crate) const KEPT_HISTORIES: &str =
+    r#"The entries of a journal come out as a history, as they are in it:
+  filing history office.jsonl > history.jsonl
+  filing check --numeric concepts.txt history.jsonl
+
+They come up to the last whole batch, also while a run writes the journal. The
+check wants the numeric table that the journal has. Where the journal is
+damaged, nothing is written, and the status is 4."#;
+
+/// What `filing seal --help` says of seals.
+pub(crate) const SEALS: &str = r#"The seal of a journal is one line:
+  ["sealed",3,40,12,HEX]      how many batches and entries the journal has, the
+                              version that they make, and the 64 digits of its
+                              last mark
+
+Keep the digits, and keep them elsewhere. With them `filing verify` notices
+every later change of what is in the journal now, and the journal still grows:
+  filing seal office.jsonl | jq -r '.[4]' > office.seal
+  filing verify --seal "$(cat office.seal)" office.jsonl
+
+What is sealed goes up to the last whole batch, also while a run writes the
+journal. The journal is judged first: where it departs or is damaged, nothing is
+written, and the status is 4."#;
+
+/// What `filing repair --help` says of batches that are kept.
+pub(crate) const REPAIRS: &str =
+    r#"A run opens no journal that is damaged. It says at which line that is, and the
+number of the last whole batch before it. To keep the batches up to that one:
+  filing repair --keep 12 office.jsonl
+
+What is behind them is put into a file beside the journal, and then cut off. The
+file is office.jsonl.cut-1, or has the next number that is free. Standard error
+has its name and its size. No run may have the journal open meanwhile.
+
+The number is that in the mark of a batch, as in {"batch":12,..}. Batch 0 has no
+entries: each new journal begins with it. The status is 2 where there is no
+batch of that number, and 4 where what is to be kept is damaged itself. Nothing
+is changed then."#;
 
 /// What `filing inspect --help` says of inspections.
 pub(crate) const INSPECTIONS: &str =
@@ -275,9 +379,9 @@ With --explain, and on a terminal always, standard error has a reason for each
 line that was refused, script by script; --strict is that of `filing run`.
 
 With --journal the scripts go on from a journal, and what they made is in it
-before the first reply is written. With --from they go on from a history, which
-stays as it is, and with --history the whole history is written to a file once
-they have ended."#;
+before the first reply is written. With --from they go on from a history or a
+journal, which stays as it is, and with --history the whole history is written
+to a file once they have ended."#;
 
 /// Every word by which a line is refused.
 pub const REFUSALS: &str = r#"A line of a script is refused by

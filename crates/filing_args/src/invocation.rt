@@ -76,10 +76,50 @@ pub struct LogWords<'a> {
     pub numeric: Vec<&'a str>,
     /// The file of the history.
     pub history: &'a str,
+    /// The report of the fact whose changes are printed.
+    pub report: Option<&'a str>,
+    /// The identifier of that fact.
+    pub identifier: Option<&'a str>,
+    /// Whether the changes of a fact are printed.
+    pub fact: bool,
     /// Whether the log is drawn.
     pub svg: bool,
     /// The number of the first session that is drawn, as it was written.
     pub first: Option<&'a str>,
+}
+
+/// What `verify` was given.
+#[derive(Drop)]
+pub struct VerifyWords<'a> {
+    /// The file of the journal.
+    pub journal: &'a str,
+    /// The digits of a seal from which the journal has to go on, as they were written.
+    pub seal: Option<&'a str>,
+    /// Whether to print why the journal departs.
+    pub explain: bool,
+}
+
+/// What `history` was given.
+#[derive(Drop)]
+pub struct HistoryWords<'a> {
+    /// The file of the journal.
+    pub journal: &'a str,
+}
+
+/// What `seal` was given.
+#[derive(Drop)]
+pub struct SealWords<'a> {
+    /// The file of the journal.
+    pub journal: &'a str,
+}
+
+/// What `repair` was given.
+#[derive(Drop)]
+pub struct RepairWords<'a> {
+    /// The file of the journal.
+    pub journal: &'a str,
+    /// The number of the last batch that is kept, as it was written.
+    pub keep: &'a str,
 }
 
 /// What `inspect` was given.
@@ -129,6 +169,14 @@ pub enum Invocation<'a> {
     Diff(DiffWords<'a>),
     /// Print the sessions of a history.
     Log(LogWords<'a>),
+    /// Judge the journal in a file.
+    Verify(VerifyWords<'a>),
+    /// Write out the history that a journal keeps.
+    History(HistoryWords<'a>),
+    /// Print by what a journal is known again.
+    Seal(SealWords<'a>),
+    /// Keep the first batches of a journal alone.
+    Repair(RepairWords<'a>),
     /// Tell all that is wrong with reports, and their duplicates.
     Inspect(InspectWords<'a>),
     /// Run the scripts in some files, each in a thread of its own.

@@ -7,6 +7,7 @@
 //! - `given`: what each command was given.
 //! - `combined`: words that do not go together.
 //! - `numbers`: numbers among the words.
+//! - `seals`: seals among the words.
 //! - `stray`: a word after `run` that it does not take.
 //! - `help`: shows people what there is.
 //! - `fault`: why words ask for nothing that can be done.
@@ -23,17 +24,20 @@ mod help;
 mod invocation;
 mod numbers;
 mod reading;
+mod seals;
 mod stray;
 
 pub use combined::{
     refuse_misfit, refuse_misfit_of_inspect, refuse_misfit_of_load, refuse_misfit_of_log,
     refuse_misfit_of_threads,
 };
+pub use commands::VERSION;
 pub use fault::WordsFault;
 pub use help::REFUSALS;
 pub use invocation::{
-    CheckWords, DiffWords, InspectWords, Invocation, LoadWords, LogWords, RunWords, ShowWords,
-    ThreadsWords,
+    CheckWords, DiffWords, HistoryWords, InspectWords, Invocation, LoadWords, LogWords,
+    RepairWords, RunWords, SealWords, ShowWords, ThreadsWords, VerifyWords,
 };
 pub use numbers::{number_given, number_of};
 pub use reading::{given_words, read_words};
+pub use seals::seal_given;
