@@ -3,3 +3,4 @@ mod NotedMistakes
 mod HistoryRuns
 mod ThreadRuns
 mod LoadedReports
+mod RefusedJournals

@@ -17,7 +17,7 @@ use Rattle.filing_model.proofs.Reading.JsonTexts.{json_of-Some}
 use Rattle.filing_model.proofs.Reading.WrittenValues.{read_written}
 use Rattle.line_io.specs.Devices.{Gave, SinkState, SourceState, Took, new_sink, new_source}
 use Rattle.line_io.specs.Lines.{lines_of}
-use Rattle.journal.specs.Standing.{device_of}
+use Rattle.journal_marks.specs.Standing.{device_of}
 use Rattle.script_format.specs.ScriptLines.{Load, line_of}
 use Rattle.filing_core.specs.Engines.{EngineState}
 use Rattle.script_runs.specs.Resumed.{history_on, output_on}

@@ -29,8 +29,14 @@ pub(crate) enum Fault {
     HistoryLine(u128),
     /// Another process has the journal open.
     JournalInUse,
-    /// The line of the journal, counted from 1, that is none of a lawful history.
+    /// The line of the journal, counted from 1, at which it is damaged.
     JournalLine(u128),
+    /// The entry of the journal, counted from 1, that is none of a lawful history.
+    JournalEntry(u128),
+    /// The file is not a journal: it does not begin as one.
+    NotAJournal,
+    /// The numeric table that was given has other rows than that of the journal.
+    OtherTable,
     /// The line of the script, counted from 1, that nests too deep for the journal.
     TooDeep(u128),
     NoMemory,
@@ -43,9 +49,16 @@ impl Fault {
     {
         match self {
             Fault::Read | Fault::Write | Fault::JournalInUse | Fault::TooDeep(_) => 1,
-            Fault::Words | Fault::TooManyScripts | Fault::TableLine(_) | Fault::TableNotText => 2,
+            Fault::Words
+            | Fault::TooManyScripts
+            | Fault::TableLine(_)
+            | Fault::TableNotText
+            | Fault::OtherTable => 2,
             Fault::NoMemory => 3,
-            Fault::HistoryLine(_) | Fault::JournalLine(_) => 4,
+            Fault::HistoryLine(_)
+            | Fault::JournalLine(_)
+            | Fault::JournalEntry(_)
+            | Fault::NotAJournal => 4,
         }
     }
 
@@ -63,6 +76,9 @@ impl Fault {
             Fault::HistoryLine(number) => eprintln!(rt; "filing: history, line {number}"),
             Fault::JournalInUse => rt.eprintln("filing: journal in use"),
             Fault::JournalLine(number) => eprintln!(rt; "filing: journal, line {number}"),
+            Fault::JournalEntry(number) => eprintln!(rt; "filing: journal, entry {number}"),
+            Fault::NotAJournal => rt.eprintln("filing: not a journal"),
+            Fault::OtherTable => rt.eprintln("filing: the journal has another numeric table"),
             Fault::TooDeep(number) => {
                 eprintln!(rt; "filing: line {number} nests too deep for the journal")
             }

@@ -2,6 +2,7 @@
 //!
 //! - `beginning`: histories to begin with.
 //! - `between`: what runs and commands give back.
+//! - `new_journal`: journals that are made.
 //! - `opening`: journals that are opened.
 //! - `plain`: scripts that begin with an empty repository, or go on from a history.
 //! - `threads`: scripts in threads.
@@ -10,6 +11,7 @@
 
 pub(crate) mod beginning;
 pub(crate) mod between;
+pub(crate) mod new_journal;
 pub(crate) mod opening;
 pub(crate) mod plain;
 pub(crate) mod threads;

@@ -22,9 +22,9 @@ use std::sync::Arc;
 
 /// The status of a verdict, and the engine that followed the history.
 #[derive(Drop)]
-struct JudgedHistory {
-    status: u8,
-    engine: Engine,
+pub(crate) struct JudgedHistory {
+    pub(crate) status: u8,
+    pub(crate) engine: Engine,
 }
 
 /// Judges the history in a file, tells the verdict, and gives its status.
@@ -59,7 +59,7 @@ pub(crate) fn check_file(rt: &HostRuntime, given: &CheckWords<'_>) -> Result<u8,
 
 /// Judges a history from a reader by a numeric table, and writes the verdict to a writer.
 /// It gives both back.
-fn check<R: Read + Drop, W: Write + Drop>(
+pub(crate) fn check<R: Read + Drop, W: Write + Drop>(
     alloc: Global,
     keys: HashKeys,
     reader: R,
@@ -102,6 +102,6 @@ fn explain_verdict(
             engine.current().number()
         );
     } else {
-        explain_departure(rt, path, reasons, table);
+        explain_departure(rt, path, reasons, "line", table);
     }
 }

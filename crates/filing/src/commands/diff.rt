@@ -6,9 +6,8 @@ ghost use Rattle.history_views.specs.Differing.{difference_asked};
 ghost use Rattle.filing.specs.Runs.{ShowsFound};
 
 use crate::fault::Fault;
-use crate::files::history::open_history;
+use crate::files::history::open_source;
 use crate::files::named::{Named, OUTPUT, Reasons};
-use crate::files::table::numeric_table;
 use crate::keys::drawn_keys;
 use crate::reasons::departure::explain_fault;
 use crate::runs::beginning::departure_fault;
@@ -102,14 +101,11 @@ pub(crate) fn show_difference(rt: &HostRuntime, given: &DiffWords<'_>) -> Result
     let from = number_of(rt, "<FROM>", given.from)?;
     let to = number_of(rt, "<TO>", given.to)?;
     let reasons = Reasons::new(rt, false);
-    let table = Arc::new(
-        rt.alloc(),
-        numeric_table(rt, given.numeric.as_slice(), reasons)?,
-    )?;
+    let (reader, table) = open_source(rt, given.history, given.numeric.as_slice(), reasons)?;
     let found = write_difference(
         rt.alloc(),
         drawn_keys(rt, reasons)?,
-        open_history(rt, given.history, reasons)?,
+        reader,
         Named::new(rt.stdout(), OUTPUT, reasons),
         &table,
         from,

@@ -3,8 +3,7 @@
 ghost use Rattle.std.specs.Prelude.{◌≡◌, ◌++◌, false, IfOk, OnOk, string_bytes};
 ghost use Rattle.std.specs.Arc.{arc_value};
 ghost use Rattle.filing_model.specs.Histories.History.{History};
-ghost use Rattle.journal.specs.Lines.{recovered};
-ghost use Rattle.journal.specs.Standing.{IsKept, device_of, has_stopped};
+ghost use Rattle.journal_marks.specs.Standing.{IsKept, device_of, has_stopped, kept};
 ghost use Rattle.filing_core.specs.Engines.{IsEngineOf};
 ghost use Rattle.history_format.specs.JournalLines.{journal_text};
 ghost use Rattle.filing.specs.Loads.{LoadsAndKeeps, MeansLoad, load_line, load_script, report_line};
@@ -12,16 +11,16 @@ ghost use Rattle.filing.specs.Loads.{LoadsAndKeeps, MeansLoad, load_line, load_s
 use crate::fault::Fault;
 use crate::files::named::{Named, OUTPUT, Reasons};
 use crate::files::reports::{paths_of, read_reports, reports_given};
-use crate::files::table::numeric_table;
 use crate::keys::drawn_keys;
 use crate::reasons::echo::{Echo, Echoed};
 use crate::reasons::explainer::Explainer;
 use crate::runs::between::{Between, ExplainedRun};
-use crate::runs::opening::journal_at;
+use crate::runs::opening::{OpenedJournal, journal_at};
 use crate::runs::with_journal::{run_with_journal, status_after};
 use filing_args::{LoadWords, refuse_misfit_of_load};
 use filing_core::Engine;
-use journal::{Device, Journal};
+use journal::Device;
+use journal_marks::MarkedJournal;
 use oim_fact::NumericTable;
 use oim_report::push_quoted;
 use std::alloc::{AllocError, Global};
@@ -80,7 +79,7 @@ fn script_of(alloc: Global, reports: &[NamedText]) -> Result<String, AllocError>
 fn load_reports<D: Device + Drop, W: Write + Drop>(
     alloc: Global,
     engine: Engine,
-    journal: Journal<D>,
+    journal: MarkedJournal<D>,
     explainer: Explainer,
     reports: Vec<NamedText>,
     writer: W,
@@ -88,7 +87,7 @@ fn load_reports<D: Device + Drop, W: Write + Drop>(
 ) -> Result<(W, ExplainedRun<D>), Fault>
     requires kept { IsKept D.seen D.may_leave D.has_failed journal }
     requires goes_on { has_stopped journal ≡ false }
-    ensures loaded { (h : History) → IsEngineOf h engine → recovered (D.seen (device_of journal)) ≡ journal_text h
+    ensures loaded { (h : History) → IsEngineOf h engine → kept (D.seen (device_of journal)) ≡ journal_text h
         → IfOk result (λ back. LoadsAndKeeps D.seen D.may_leave D.moment D.left_since (arc_value table.now) h
         reports.items (device_of journal) back.1.run (W.contents writer) (W.contents back.0)) }
     ensures kept { IfOk result (λ back. IsKept D.seen D.may_leave D.has_failed back.1.run.journal) }
@@ -126,15 +125,22 @@ fn status_of(replies: &[u8]) -> u8 {
 pub(crate) fn load_files(rt: &HostRuntime, given: &LoadWords<'_>) -> Result<u8, Fault> {
     refuse_misfit_of_load(rt, given)?;
     let reasons = Reasons::new(rt, true);
-    let table = Arc::new(
-        rt.alloc(),
-        numeric_table(rt, given.numeric.as_slice(), reasons)?,
-    )?;
     let files = reports_given(rt, given.reports.as_slice(), reasons)?;
     let reports = read_reports(rt, &files, reasons)?;
-    let explainer = Explainer::of_reports(rt, &table, paths_of(rt.alloc(), files)?)?;
     let keys = drawn_keys(rt, reasons)?;
-    let (engine, journal) = journal_at::<Engine>(rt, keys, given.journal, &table, reasons)?;
+    let OpenedJournal {
+        opened: engine,
+        journal,
+        table,
+    } = journal_at::<Engine>(
+        rt,
+        keys,
+        given.journal,
+        given.numeric.as_slice(),
+        None,
+        reasons,
+    )?;
+    let explainer = Explainer::of_reports(rt, &table, paths_of(rt.alloc(), files)?)?;
     let mut echo = Echo::new(rt.alloc(), true);
     let writer = Echoed::new(Named::new(rt.stdout(), OUTPUT, reasons), &mut echo);
     let (_, ran) = load_reports(

@@ -7,9 +7,8 @@ ghost use Rattle.history_views.specs.Shown.{report_shown};
 ghost use Rattle.filing.specs.Runs.{ShowsVersion};
 
 use crate::fault::Fault;
-use crate::files::history::open_history;
+use crate::files::history::open_source;
 use crate::files::named::{Named, OUTPUT, Reasons};
-use crate::files::table::numeric_table;
 use crate::keys::drawn_keys;
 use crate::reasons::departure::explain_fault;
 use crate::runs::beginning::departure_fault;
@@ -111,12 +110,8 @@ fn tell_missing(rt: &impl Eprint, given: &ShowWords<'_>, shown: Shown) -> Result
 pub(crate) fn show_version(rt: &HostRuntime, given: &ShowWords<'_>) -> Result<u8, Fault> {
     let number = number_given(rt, "--at <VERSION>", given.version)?;
     let reasons = Reasons::new(rt, false);
-    let table = Arc::new(
-        rt.alloc(),
-        numeric_table(rt, given.numeric.as_slice(), reasons)?,
-    )?;
     let keys = drawn_keys(rt, reasons)?;
-    let reader = open_history(rt, given.history, reasons)?;
+    let (reader, table) = open_source(rt, given.history, given.numeric.as_slice(), reasons)?;
     let found = match given.report {
         Some(name) => write_report(
             rt.alloc(),

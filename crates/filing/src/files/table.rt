@@ -105,6 +105,38 @@ fn add_file(
     added
 }
 
+/// The rows of the lines of a numeric table, in byte order, each once.
+fn rows_of(alloc: Global, lines: &[u8]) -> Result<Vec<String>, Fault> {
+    let Ok(text) = str::from_utf8(lines) else {
+        return Err(Fault::TableNotText);
+    };
+    let mut rows = Vec::new(alloc);
+    for line in text.lines() {
+        if !line.is_empty() {
+            rows.push(String::from_str(alloc, line)?)?;
+        }
+    }
+    rows.sort_unstable();
+    rows.dedup();
+    Ok(rows)
+}
+
+/// The rows of the numeric tables in the files at these paths, in byte order, each once; none where no path is given.
+pub(crate) fn rows_given(
+    rt: &HostRuntime,
+    paths: &[&str],
+    reasons: Reasons,
+) -> Result<Option<Vec<String>>, Fault> {
+    if paths.is_empty() {
+        return Ok(None);
+    }
+    let mut lines = Vec::new(rt.alloc());
+    for path in paths {
+        add_file(rt, &mut lines, path, reasons)?;
+    }
+    Ok(Some(rows_of(rt.alloc(), &lines)?))
+}
+
 /// The numeric table of all lines of the files at these paths; without one, the empty table.
 pub(crate) fn numeric_table(
     rt: &HostRuntime,

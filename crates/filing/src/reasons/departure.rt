@@ -3,10 +3,11 @@
 ghost use Rattle.std.specs.Prelude.{◌≡◌, ◌≤◌};
 
 use crate::fault::Fault;
-use crate::files::history::open_history;
+use crate::files::history::open_source;
 use crate::files::named::Reasons;
 use crate::keys::drawn_keys;
 use crate::progress::length_in;
+use crate::reasons::damage::explain_damage;
 use filing_cli::{FromReader, Machine, Nowhere, READS, entry_of, run};
 use filing_core::{Engine, EngineFault, HashKeys};
 use filing_step::{Entry, Reply, Step};
@@ -23,6 +24,8 @@ use std::sync::Arc;
 /// Follows the lines of a history, and keeps in words why the first that departs does.
 #[derive(Drop)]
 struct Follower {
+    /// What is counted: the lines of a history, or the entries of a journal.
+    word: &'static str,
     table: Arc<NumericTable>,
     engine: Engine,
     /// The number of the last line that was followed.
@@ -59,6 +62,7 @@ fn number_fault(
 /// What is reported where another reply was due.
 fn other_reply(
     alloc: Global,
+    word: &str,
     number: u128,
     due: &Reply,
     stands: &Reply,
@@ -69,7 +73,7 @@ fn other_reply(
         return Ok(None);
     }
     let told = format!(in alloc;
-        "line {number}: the reply that is due is {due}, and {stands} stands there"
+        "{word} {number}: the reply that is due is {due}, and {stands} stands there"
     )?;
     Ok(Some(told))
 }
@@ -89,9 +93,11 @@ impl Follower {
     fn new(
         alloc: Global,
         keys: HashKeys,
+        word: &'static str,
         table: &Arc<NumericTable>,
     ) -> Result<Follower, AllocError> {
         Ok(Follower {
+            word,
             table: table.clone()?,
             engine: Engine::with_keys(alloc, keys)?,
             last: 0,
@@ -106,8 +112,9 @@ impl Follower {
         number: u128,
         entry: Entry,
     ) -> Result<Option<String>, AllocError> {
+        let word = self.word;
         if let Some(told) = number_fault(alloc, &self.engine, &entry)? {
-            return Ok(Some(format!(in alloc; "line {number}: {told}")?));
+            return Ok(Some(format!(in alloc; "{word} {number}: {told}")?));
         }
         let Entry {
             session,
@@ -115,9 +122,9 @@ impl Follower {
             reply,
         } = entry;
         match self.engine.step(alloc, session, step) {
-            Ok(due) => other_reply(alloc, number, &due, &reply),
+            Ok(due) => other_reply(alloc, word, number, &due, &reply),
             Err(EngineFault::NoSession) => {
-                let told = format!(in alloc; "line {number}: its session is not open")?;
+                let told = format!(in alloc; "{word} {number}: its session is not open")?;
                 Ok(Some(told))
             }
             Err(EngineFault::NoMemory | EngineFault::Full) => Err(AllocError),
@@ -126,13 +133,16 @@ impl Follower {
 
     /// What is reported of a line that is no entry.
     fn no_entry(&self, alloc: Global, number: u128, line: &[u8]) -> Result<String, AllocError> {
+        let word = self.word;
         match reading_stop(alloc, line)? {
-            Some((column, said)) => { format!(in alloc; "line {number}, column {column}: {said}") }
+            Some((column, said)) => {
+                format!(in alloc; "{word} {number}, column {column}: {said}")
+            }
             None if is_load(alloc, line)? => format!(in alloc;
-                "line {number}: its report is refused, or is not as a run writes it: is the numeric table that of the run?"
+                "{word} {number}: its report is refused, or is not as a run writes it: is the numeric table that of the run?"
             ),
             None => format!(in alloc;
-                "line {number}: it is no entry, which is [session,step,reply] as a run writes it"
+                "{word} {number}: it is no entry, which is [session,step,reply] as a run writes it"
             ),
         }
     }
@@ -165,10 +175,11 @@ fn reason_of<R: Read + Drop>(
     alloc: Global,
     keys: HashKeys,
     reader: R,
+    word: &'static str,
     table: &Arc<NumericTable>,
 ) -> Result<Option<String>, AllocError> {
     let mut source = FromReader::new(reader);
-    let mut follower = Follower::new(alloc, keys, table)?;
+    let mut follower = Follower::new(alloc, keys, word, table)?;
     let ended = run(alloc, &mut follower, &mut source, &mut Nowhere, READS);
     let Follower { engine, reason, .. } = follower;
     forget(engine);
@@ -184,6 +195,7 @@ pub(crate) fn explain_departure(
     rt: &HostRuntime,
     path: &str,
     reasons: Reasons,
+    word: &'static str,
     table: &Arc<NumericTable>,
 ) {
     if length_in(&fs::metadata(rt, path)).is_none() {
@@ -192,10 +204,10 @@ pub(crate) fn explain_departure(
     let Ok(keys) = drawn_keys(rt, reasons) else {
         return;
     };
-    let Ok(reader) = open_history(rt, path, reasons) else {
+    let Ok((reader, _)) = open_source(rt, path, &[], reasons) else {
         return;
     };
-    if let Ok(Some(reason)) = reason_of(rt.alloc(), keys, reader, table) {
+    if let Ok(Some(reason)) = reason_of(rt.alloc(), keys, reader, word, table) {
         let _ = eprintln!(rt; "{reason}");
     }
 }
@@ -211,10 +223,39 @@ pub(crate) fn explain_fault(
     ensures { result ≡ fault }
 {
     match fault {
-        Fault::HistoryLine(_) | Fault::JournalLine(_) if reasons.are_told() => {
-            explain_departure(rt, path, reasons, table);
+        Fault::HistoryLine(_) if reasons.are_told() => {
+            explain_departure(rt, path, reasons, "line", table);
+        }
+        Fault::JournalEntry(_) if reasons.are_told() => {
+            explain_departure(rt, path, reasons, "entry", table);
         }
         _ => {}
     }
     fault
+}
+
+/// Reads the entries of the journal at a path once more, and tells why they depart.
+fn explain_entries(rt: &HostRuntime, path: &str, reasons: Reasons) {
+    if let Ok((_, table)) = open_source(rt, path, &[], reasons) {
+        explain_departure(rt, path, reasons, "entry", &table);
+    }
+}
+
+/// Tells why the journal at a path, which has these bytes, is refused, and gives the fault back.
+pub(crate) fn explain_refusal(
+    rt: &HostRuntime,
+    path: &str,
+    reasons: Reasons,
+    bytes: &[u8],
+    fault: Fault,
+) -> Fault
+    ensures { result ≡ fault }
+{
+    match fault {
+        Fault::JournalEntry(_) if reasons.are_told() => {
+            explain_entries(rt, path, reasons);
+            fault
+        }
+        _ => explain_damage(rt, path, bytes, fault),
+    }
 }

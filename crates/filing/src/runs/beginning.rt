@@ -6,8 +6,9 @@ ghost use Rattle.line_io.specs.Devices.{new_source};
 ghost use Rattle.filing.specs.Runs.{BeginsOn, IsNotBegun};
 
 use crate::fault::Fault;
-use crate::files::history::{HistoryFile, open_history};
+use crate::files::history::{HistorySource, open_source};
 use crate::files::named::Reasons;
+use crate::files::table::numeric_table;
 use crate::reasons::departure::explain_fault;
 use filing_cli::{FromReader, Source, view_history};
 use filing_core::{Engine, HashKeys, Verdict};
@@ -72,17 +73,24 @@ pub(crate) fn source_of<H: Read + Drop>(reader: Option<H>) -> Option<FromReader<
     }
 }
 
-/// The file of the history to begin with, if one is given.
+/// The history to begin with, if one is given, and the numeric table by which all is read.
 pub(crate) fn history_given<'a>(
     rt: &HostRuntime,
     from: Option<&'a str>,
+    numeric: &[&str],
     reasons: Reasons,
-) -> Result<Option<HistoryFile<'a>>, Fault>
-    ensures { IfOk result (λ file. is_some file ≡ is_some from.entry) }
+) -> Result<(Option<HistorySource<'a>>, Arc<NumericTable>), Fault>
+    ensures { IfOk result (λ given. is_some given.0 ≡ is_some from.entry) }
 {
     match from {
-        Some(path) => Ok(Some(open_history(rt, path, reasons)?)),
-        None => Ok(None),
+        Some(path) => {
+            let (source, table) = open_source(rt, path, numeric, reasons)?;
+            Ok((Some(source), table))
+        }
+        None => {
+            let table = Arc::new(rt.alloc(), numeric_table(rt, numeric, reasons)?)?;
+            Ok((None, table))
+        }
     }
 }
 

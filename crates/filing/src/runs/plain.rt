@@ -106,15 +106,16 @@ fn resume_between<H: Read + Drop, R: Read + Drop, W: Write + Drop>(
 /// Runs the script on standard input, and keeps no step.
 pub(crate) fn run_alone(
     rt: &HostRuntime,
-    table: &Arc<NumericTable>,
     given: &RunWords<'_>,
     reasons: Reasons,
 ) -> Result<u8, Fault> {
+    let (from, table) = history_given(rt, given.from, given.numeric.as_slice(), reasons)?;
+    let table = &table;
     let explainer = Explainer::new(rt, table, reasons.are_told())?;
     let Between { left, .. } = resume_between(
         rt.alloc(),
         drawn_keys(rt, reasons)?,
-        history_given(rt, given.from, reasons)?,
+        from,
         explainer,
         Watched::new(rt, Named::new(rt.stdin(), INPUT, reasons), input_length(rt)),
         Named::new(rt.stdout(), OUTPUT, reasons),

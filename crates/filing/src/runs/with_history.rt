@@ -10,7 +10,7 @@ ghost use Rattle.filing.specs.Runs.{Over, RunsFrom};
 
 use crate::fault::Fault;
 use crate::files::errors::FileErrors;
-use crate::files::history::begin_history;
+use crate::files::history::{HistorySource, begin_history};
 use crate::files::named::{INPUT, Named, OUTPUT, Reasons};
 use crate::keys::drawn_keys;
 use crate::progress::{Watched, input_length};
@@ -130,9 +130,10 @@ fn record_between<D: Device + Drop, H: Read + Drop, R: Read + Drop, W: Write + D
 /// Runs the script on standard input, and gives the file with the whole history, and the status. That a write to it failed is a fault at the end.
 fn history_of_input(
     rt: &HostRuntime,
-    table: &Arc<NumericTable>,
     given: &RunWords<'_>,
     reasons: Reasons,
+    from: Option<HistorySource<'_>>,
+    table: &Arc<NumericTable>,
     device: JournalFile<FileErrors>,
 ) -> Result<(JournalFile<FileErrors>, u8), Fault>
     requires empty { ⟦<JournalFile<FileErrors> as Device>⟧.seen device ≡ [] }
@@ -140,7 +141,6 @@ fn history_of_input(
 {
     let keys = drawn_keys(rt, reasons)?;
     let explainer = Explainer::new(rt, table, reasons.are_told())?;
-    let from = history_given(rt, given.from, reasons)?;
     let Between { left, .. } = record_between(
         rt.alloc(),
         keys,
@@ -171,13 +171,13 @@ fn history_of_input(
 /// Runs the script on standard input, from a history or from nothing, and puts the whole history to where a path leads once it has ended.
 pub(crate) fn run_to_history(
     rt: &HostRuntime,
-    table: &Arc<NumericTable>,
     given: &RunWords<'_>,
     path: &str,
     reasons: Reasons,
 ) -> Result<u8, Fault> {
+    let (from, table) = history_given(rt, given.from, given.numeric.as_slice(), reasons)?;
     let (draft, device) = begin_history(rt, path, reasons)?;
-    match history_of_input(rt, table, given, reasons, device) {
+    match history_of_input(rt, given, reasons, from, &table, device) {
         Ok((device, status)) => {
             draft.keep(rt, device.into_file())?;
             Ok(status)
