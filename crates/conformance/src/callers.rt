@@ -2,16 +2,14 @@
 
 use anyhow::{Result, anyhow};
 use embedding::core_by_hand::{add_and_commit, entries_of, load, open};
-use embedding::journal_in_memory::put_and_crash;
 use embedding::judged_history::{is_lawful, judge_core};
 use embedding::lone_session::{run_alone, version_of};
-use embedding::marked_journal;
+use embedding::marked_journal::{new_file, put_and_crash};
 use embedding::sample::{NAME, addition, name_fact, report, text};
 use embedding::two_desks::run_office;
 use filing_core::{Core, Entry, Reply, Step};
 use filing_office::{Blanks, Review};
 use filing_session::Call;
-use journal::are_lines;
 use journal_marks::are_entries;
 use script_format::reply_text;
 use std::alloc::Global;
@@ -88,24 +86,13 @@ fn show_history<R: Print + AllocGlobal>(rt: &R) -> Result<()> {
 
 fn show_journal<R: Print + AllocGlobal>(rt: &R) -> Result<()> {
     let batch = b"[\"two\"]\n[\"three\"]\n".as_slice();
-    if !are_lines(batch) {
-        return Err(anyhow!("the lines are no entries"));
-    }
-    let lines = put_and_crash(rt.alloc(), b"[\"one\"]\n\n", batch)?;
-    let kept = lines.as_slice() == b"[\"one\"]\n[\"two\"]\n[\"three\"]\n".as_slice();
-    println!(rt; "journal: the lines are there after a crash: {kept}")?;
-    Ok(())
-}
-
-fn show_marked_journal<R: Print + AllocGlobal>(rt: &R) -> Result<()> {
-    let batch = b"[\"two\"]\n[\"three\"]\n".as_slice();
     if !are_entries(batch) {
         return Err(anyhow!("the lines are no entries"));
     }
-    let file = marked_journal::new_file(rt.alloc())?;
-    let entries = marked_journal::put_and_crash(rt.alloc(), &file, batch)?;
+    let file = new_file(rt.alloc())?;
+    let entries = put_and_crash(rt.alloc(), &file, batch)?;
     let is_kept = entries.as_slice() == batch;
-    println!(rt; "journal with marks: the entries are there after a crash: {is_kept}")?;
+    println!(rt; "journal: the entries are there after a crash: {is_kept}")?;
     Ok(())
 }
 
@@ -121,6 +108,5 @@ pub(crate) fn show_callers<R: Wait + RandomSource + Print + AllocGlobal>(rt: &R)
     show_session(rt)?;
     show_desks(rt)?;
     show_history(rt)?;
-    show_journal(rt)?;
-    show_marked_journal(rt)
+    show_journal(rt)
 }

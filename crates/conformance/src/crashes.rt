@@ -2,14 +2,16 @@
 //!
 //! The script is stopped at each change and each sync. At a change the file is as it was, or has all of the change. At a sync it
 //! may be torn since the sync before, as a device may tear it: that is each file which a crash at those changes may leave too. Each opens to a
-//! prefix of the history that has all that was answered, and so does what a crash leaves while it is opened.
+//! prefix of the history that has all that was answered, under marks that are as they must be, and so does what a crash leaves while it is opened.
 
 use crate::devices::{Done, Ended, Trial, Work, do_work};
-use crate::journals::{Keeping, engine_of};
+use crate::journals::{Keeping, engine_of, marked_entries};
 use crate::lines::{ends_in, is_end, read_data, read_numeric};
 use crate::scripts::stored_script;
 use anyhow::{Result, anyhow};
+use embedding::marked_journal::new_file;
 use journal::{MemoryFile, OpenFault, open, read_lines};
+use journal_marks::entries_of;
 use line_io::ScriptFault;
 use oim_fact::NumericTable;
 use std::alloc::{AllocError, Global};
@@ -35,10 +37,11 @@ const PIECE: usize = 1;
 // No script makes so many calls.
 const CALLS: u64 = 1000;
 
-/// A script that keeps a journal, its replies and its history, and a script that goes on after it.
+/// A script that keeps a journal, the file that it opens, its replies and its history, and a script that goes on after it.
 #[derive(Clone, Copy)]
 struct Course<'a> {
     table: &'a Arc<NumericTable>,
+    found: &'a [u8],
     script: &'a [u8],
     replies: &'a [u8],
     history: &'a [u8],
@@ -56,11 +59,12 @@ struct Stop {
     is_whole: bool,
 }
 
-/// A file that was opened, and its lines.
+/// A file that was opened, its lines, and the entries among them.
 #[derive(Drop)]
 struct Opened {
     file: MemoryFile,
     lines: Vec<u8>,
+    entries: Vec<u8>,
 }
 
 /// How many stops and files were looked at, from how many a script went on, and how many were not as they are to be.
@@ -131,7 +135,7 @@ fn end_of_run(
 /// Runs a script until the call of its file that has this number, from 1.
 fn stopped_at(alloc: Global, course: Course<'_>, call: u64) -> Result<Stop> {
     let keeping = Keeping {
-        found: b"",
+        found: course.found,
         failing: call,
         every_reply: course.every_reply,
     };
@@ -201,11 +205,27 @@ fn overwritten(
     Ok(torn)
 }
 
-/// Opens a file of these bytes. None where it is refused.
+/// What was opened, where its marks are as they must be.
+fn with_marks(
+    alloc: Global,
+    file: MemoryFile,
+    lines: Vec<u8>,
+) -> Result<Option<Opened>, AllocError> {
+    match marked_entries(alloc, &lines)? {
+        Some(entries) => Ok(Some(Opened {
+            file,
+            lines,
+            entries,
+        })),
+        None => Ok(None),
+    }
+}
+
+/// Opens a file of these bytes. None where it is refused, or its marks are not as they must be.
 fn reopen(alloc: Global, bytes: &[u8]) -> Result<Option<Opened>, AllocError> {
     let mut file = MemoryFile::new(alloc, bytes.to_vec(alloc)?);
     match open(&mut file, bytes.to_vec(alloc)?) {
-        Ok(lines) => Ok(Some(Opened { file, lines })),
+        Ok(lines) => with_marks(alloc, file, lines),
         Err(fault) => {
             drop(file);
             match fault {
@@ -216,7 +236,8 @@ fn reopen(alloc: Global, bytes: &[u8]) -> Result<Option<Opened>, AllocError> {
     }
 }
 
-/// Whether a file has these lines and then, for each reply to the script that went on, its entry, and all of it is a history.
+/// Whether a file has these lines and then, for each reply to the script that went on, its entry, and all its entries are a history.
+/// All its marks are as they must be.
 fn has_gone_on(
     alloc: Global,
     course: Course<'_>,
@@ -225,13 +246,16 @@ fn has_gone_on(
     replies: &[u8],
 ) -> Result<bool> {
     let all = read_lines(file.to_vec(alloc)?)?;
-    let added = all.get(lines.len()..).unwrap_or(&[]);
+    let Some(entries) = marked_entries(alloc, &all)? else {
+        return Ok(false);
+    };
+    let added = entries_of(alloc, all.get(lines.len()..).unwrap_or(&[]))?;
     let count = ends_in(course.going_on);
     let has_all = is_at_rest(file, &all)
         && all.starts_with(lines)
-        && ends_in(added) == count
-        && entries_due(added, replies, true) == count;
-    let engine = engine_of(alloc, course.table, &all)?;
+        && ends_in(&added) == count
+        && entries_due(&added, replies, true) == count;
+    let engine = engine_of(alloc, course.table, &entries)?;
     let is_history = engine.is_some();
     drop(engine);
     Ok(has_all && is_history)
@@ -280,8 +304,8 @@ impl Crashes<'_> {
 
     /// Whether a file was opened as it is to be.
     fn is_sound(&mut self, bytes: &[u8], opened: &Opened) -> Result<bool> {
-        let lines = opened.lines.as_slice();
-        let has_due = self.course.history.starts_with(lines) && ends_in(lines) >= self.least;
+        let (lines, entries) = (opened.lines.as_slice(), opened.entries.as_slice());
+        let has_due = self.course.history.starts_with(entries) && ends_in(entries) >= self.least;
         let is_at_rest = is_at_rest(opened.file.bytes(), lines);
         Ok(has_due && is_at_rest && self.goes_on(bytes, lines)?)
     }
@@ -343,10 +367,18 @@ impl Crashes<'_> {
 
     /// Has the opening of a file crash too.
     fn crash_opening(&mut self, bytes: &[u8]) -> Result<()> {
-        let Some(Opened { file, lines }) = reopen(self.alloc, bytes)? else {
+        let Some(
+            Opened {
+                file,
+                lines,
+                entries,
+            },
+        ) = reopen(self.alloc, bytes)?
+        else {
             return Ok(());
         };
         drop(lines);
+        drop(entries);
         let mut old = bytes;
         for past in file.past() {
             self.tear(old, past.as_slice())?;
@@ -369,7 +401,8 @@ impl Crashes<'_> {
         }
         let sure = mem::replace(&mut self.sure, stop.bytes.to_vec(self.alloc)?);
         let lines = read_lines(sure.to_vec(self.alloc)?)?;
-        self.least = self.least.max(ends_in(&lines));
+        let entries = entries_of(self.alloc, &lines)?;
+        self.least = self.least.max(ends_in(&entries));
         self.tear(&sure, &stop.bytes)?;
         self.crash_opening(&stop.bytes)
     }
@@ -387,7 +420,7 @@ fn try_each(alloc: Global, course: Course<'_>) -> Result<Tally> {
     let mut crashes = Crashes {
         alloc,
         course,
-        sure: Vec::new(alloc),
+        sure: course.found.to_vec(alloc)?,
         least: 0,
         gone_on: None,
         tally: Tally::NOTHING,
@@ -407,12 +440,14 @@ fn try_each(alloc: Global, course: Course<'_>) -> Result<Tally> {
 /// Tries the crashes of each script, both ways, and tells how many files were looked at.
 pub(crate) fn try_crashes<R: Files + Print + AllocGlobal>(rt: &R) -> Result<()> {
     let table = &read_numeric(rt, "numeric")?;
+    let found = new_file(rt.alloc())?;
     let going_on = read_data(rt, GOING_ON, "jsonl")?;
     for name in STOPPED {
         let sheet = stored_script(rt, name)?;
         for (waiting, every_reply) in WAITING {
             let course = Course {
                 table,
+                found: &found,
                 script: sheet.script(),
                 replies: &sheet.replies,
                 history: &sheet.history,

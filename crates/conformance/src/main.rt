@@ -2,13 +2,13 @@
 //!
 //! - `scripts`: worked scripts, their histories, and histories of others.
 //! - `in_parts`: the steps of a history, loads and commits in two parts.
-//! - `journals`: scripts that keep a journal in memory.
+//! - `journals`: scripts that keep a journal in memory, and its marks.
 //! - `calls`: worked rows of calls that no script makes, or makes only through others.
 //! - `pages`: worked rows of lists in pages and of the pages of reports, and both beside plain lists.
 //! - `trials`: has each call of a device go wrong.
 //! - `crashes`: opens what a crash may leave of a journal.
 //! - `offices`: takes steps at desks, and opens reviews beside them.
-//! - `threads`: runs stored scripts in threads.
+//! - `threads`: runs stored scripts in threads, alone and with a journal.
 //! - `openings`: opens journals, in memory and in files.
 //! - `callers`: runs the worked callers of `embedding`.
 //! - `lines`: what they need of lines.
@@ -41,6 +41,7 @@ use anyhow::{Result, anyhow};
 use callers::show_callers;
 use calls::compare_calls;
 use crashes::try_crashes;
+use journals::show_marks;
 use offices::show_offices;
 use openings::show_openings;
 use pages::{Kind, compare_pages, compare_rounds};
@@ -54,7 +55,7 @@ use std::thread::Threads;
 use threads::compare_in_threads;
 use trials::try_devices;
 
-const PARTS: [&str; 13] = [
+const PARTS: [&str; 14] = [
     "sheets",
     "calls",
     "pages",
@@ -63,6 +64,7 @@ const PARTS: [&str; 13] = [
     "scripts",
     "histories",
     "devices",
+    "marks",
     "crashes",
     "offices",
     "threads",
@@ -79,6 +81,7 @@ fn compare_alone<R: Print + Files + AllocGlobal>(rt: &R, part: &str) -> Result<(
         "rounds" => compare_rounds(rt, Kind::Report),
         "scripts" => compare_stored(rt),
         "devices" => try_devices(rt),
+        "marks" => show_marks(rt),
         "crashes" => try_crashes(rt),
         _ => Err(anyhow!("there is no part {part}")),
     }

@@ -9,7 +9,7 @@ mod memory;
 mod rows;
 
 use anyhow::Result;
-use files::{log_errors, make_journal, show_files};
+use files::{log_errors, make_journal, show_files, show_losses};
 use memory::show_journals;
 use rows::read_rows;
 
@@ -19,6 +19,7 @@ pub(crate) fn show_openings(rt: &HostRuntime) -> Result<()> {
     println!(rt; "journal: {journals} rows")?;
     make_journal(rt)?;
     let files = show_files(rt, &read_rows(rt, "journal_file")?)?;
+    show_losses(rt)?;
     log_errors(rt)?;
     println!(rt; "journal_file: {files} rows")?;
     Ok(())

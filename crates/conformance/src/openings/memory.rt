@@ -3,9 +3,11 @@
 //! The bytes of a file stand with escapes after `> `, or there are none after `>`: it is opened. `+ ` puts a batch into a journal
 //! of that file, and `! ` does so with each call of the device failing in turn, and puts it again.
 
+ghost use Rattle.journal.specs.Standing.{IsKept};
+
 use crate::openings::rows::{bytes_of, show_bytes, show_title};
 use anyhow::{Result, anyhow};
-use journal::{Journal, MemoryFile, PutFault, are_lines, open, read_lines};
+use journal::{Device, Journal, MemoryFile, PutFault, are_lines, open, read_lines};
 
 // The calls that open a file at rest: a cut, a write, and a sync after each.
 const OPENING_CALLS: u64 = 4;
@@ -26,25 +28,6 @@ fn show_opening(rt: &HostRuntime, bytes: &[u8]) -> Result<()> {
     Ok(())
 }
 
-/// Puts a batch, and prints what is in the file then, and the lines of each content before.
-fn show_batch(rt: &HostRuntime, bytes: &[u8], batch: &[u8]) -> Result<()> {
-    let alloc = rt.alloc();
-    let mut file = MemoryFile::new(alloc, bytes.to_vec(alloc)?);
-    let lines = open(&mut file, bytes.to_vec(alloc)?)?;
-    let mut journal = Journal::new(file, lines.len());
-    if !are_lines(batch) {
-        return Err(anyhow!("no entries"));
-    }
-    journal.put(batch)?;
-    show_bytes(rt, "file", journal.device().bytes())?;
-    // The last write opens the gate, so no earlier content has any of the batch.
-    for past in journal.device().past() {
-        let lines = read_lines(past.to_vec(alloc)?)?;
-        show_bytes(rt, "before it", &lines)?;
-    }
-    Ok(())
-}
-
 /// How a put ended.
 fn word_of(ended: Result<(), PutFault>) -> &'static str {
     match ended {
@@ -54,6 +37,33 @@ fn word_of(ended: Result<(), PutFault>) -> &'static str {
     }
 }
 
+/// Puts whole lines in one piece, and says how that ended.
+fn put<D: Device>(journal: &mut Journal<D>, batch: &[u8]) -> Result<&'static str>
+    requires { IsKept D.seen D.may_leave D.has_failed journal.old }
+    ensures { IsKept D.seen D.may_leave D.has_failed journal.new }
+{
+    if batch.len() < 2 || !are_lines(batch) {
+        return Err(anyhow!("no lines"));
+    }
+    Ok(word_of(journal.put(batch, &[], &[], &[])))
+}
+
+/// Puts a batch, and prints what is in the file then, and the lines of each content before.
+fn show_batch(rt: &HostRuntime, bytes: &[u8], batch: &[u8]) -> Result<()> {
+    let alloc = rt.alloc();
+    let mut file = MemoryFile::new(alloc, bytes.to_vec(alloc)?);
+    let lines = open(&mut file, bytes.to_vec(alloc)?)?;
+    let mut journal = Journal::new(file, lines.len());
+    println!(rt; "{}", put(&mut journal, batch)?)?;
+    show_bytes(rt, "file", journal.device().bytes())?;
+    // The last write opens the gate, so no earlier content has any of the batch.
+    for past in journal.device().past() {
+        let lines = read_lines(past.to_vec(alloc)?)?;
+        show_bytes(rt, "before it", &lines)?;
+    }
+    Ok(())
+}
+
 /// Puts a batch while the call of the device with this number fails, and then again.
 fn show_failure(rt: &HostRuntime, bytes: &[u8], batch: &[u8], call: u64) -> Result<()> {
     let alloc = rt.alloc();
@@ -61,13 +71,10 @@ fn show_failure(rt: &HostRuntime, bytes: &[u8], batch: &[u8], call: u64) -> Resu
     let mut file = file.failing_at(OPENING_CALLS.saturating_add(call));
     let lines = open(&mut file, bytes.to_vec(alloc)?)?;
     let mut journal = Journal::new(file, lines.len());
-    if !are_lines(batch) {
-        return Err(anyhow!("no entries"));
-    }
-    let first = word_of(journal.put(batch));
+    let first = put(&mut journal, batch)?;
     let (stopped, changes) = (journal.has_stopped(), journal.device().past().len());
     println!(rt; "call {call}: {first}, stopped {stopped}, {changes} changes")?;
-    let again = word_of(journal.put(batch));
+    let again = put(&mut journal, batch)?;
     let changes = journal.device().past().len();
     println!(rt; "again: {again}, {changes} changes")?;
     Ok(())
