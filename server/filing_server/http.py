@@ -333,16 +333,16 @@ class Interface:
         return response
 
     async def get_seal(self, request: web.Request) -> web.Response:
-        """The length and the digest of the acknowledged journal: who compares them with others sees the same journal."""
+        """What `filing seal` prints of the journal: `filing verify --seal` finds it in each that goes on from this one."""
         self.office.catch_up()
         ledger = self.office.ledger
         follower = ledger.follower
         return json_response(
             {
+                "batches": follower.batches,
+                "entries": follower.entries,
                 "version": ledger.version,
-                "entries": follower.lines,
-                "bytes": follower.bytes,
-                "sha256": follower.digest.hexdigest(),
+                "sha256": follower.seal,
             }
         )
 

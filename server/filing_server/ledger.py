@@ -1,4 +1,4 @@
-"""What the journal says of versions and facts: which session made a version, and which versions changed a fact.
+"""What the journal says of versions and facts: which session made a version and when, and which versions changed a fact.
 
 It reads the acknowledged lines as they come, and keeps where a fact stands in the journal rather than the fact.
 """
@@ -11,7 +11,8 @@ from dataclasses import dataclass, field
 from pathlib import Path
 from typing import Collection
 
-from .journal import Follower
+from .journal import MARK, Follower
+from .notes import Who
 
 ENTRY = re.compile(rb'\[(?:(\d+)|null),\["([a-z]+)"(?:,("[^"\\]*+(?:\\.[^"\\]*+)*+"))?')
 MADE = re.compile(rb'\["(?:loaded|committed)",(\d+)\]\]$')
@@ -75,6 +76,8 @@ class Ledger:
         self.changes: dict[tuple[str, str], list[Change]] = {}
         self.ends: dict[int, bytes] = {}
         self.open: dict[int, Open] = {}
+        self.openings: dict[int, Who] = {}
+        self.times: list[str] = []
 
     @property
     def version(self) -> int:
@@ -95,6 +98,8 @@ class Ledger:
     def _take(self, line: bytes) -> None:
         entry = ENTRY.match(line)
         if entry is None:
+            if line.startswith(MARK):
+                self._take_mark(line)
             return
         word = entry[2]
         if entry[1] is None:
@@ -108,6 +113,13 @@ class Ledger:
             self._take_change(session, word, line)
         elif word in (b"commit", b"close"):
             self._take_end(session, line)
+
+    def _take_mark(self, line: bytes) -> None:
+        """The mark of a batch says when that was put, and by which names its sessions were opened: `user/number` from here."""
+        mark = json.loads(line)
+        for number, name in mark["opened"].items():
+            self.openings[int(number)] = Who(name.removesuffix(f"/{number}"), mark["time"])
+        self.times += [mark["time"]] * (len(self.versions) - len(self.times))
 
     def _take_load(self, line: bytes, name: bytes | None) -> None:
         if name is not None and (made := MADE.search(line, len(line) - 64)):

@@ -13,7 +13,7 @@ from pathlib import Path
 from .events import Hub
 from .ledger import Ledger, Version
 from .lines import BAD
-from .notes import Notes
+from .notes import Notes, Who
 from .process import Program, Told
 from .sessions import Client
 from .settings import Settings
@@ -184,17 +184,21 @@ class Office:
         for version in self.ledger.catch_up():
             self.hub.tell(version.number, self.described(version))
 
+    def opener(self, session: int | None) -> Who | None:
+        """Who opened a session, and when: as it was noted, or else as the journal has it."""
+        if session is None:
+            return None
+        return self.notes.sessions.get(session) or self.ledger.openings.get(session)
+
     def described(self, version: Version) -> dict[str, object]:
         """A version as it is told: what the journal says, with who and when."""
-        who = self.notes.versions.get(version.number)
-        if who is None and version.session is not None:
-            who = self.notes.sessions.get(version.session)
+        who = self.notes.versions.get(version.number) or self.opener(version.session)
         return {
             "version": version.number,
             "kind": "load" if version.session is None else "commit",
             "session": version.session,
             "user": who.user if who else None,
-            "time": who.time if who else None,
+            "time": who.time if who else self.ledger.times[version.number - 1] or None,
             "reports": list(version.reports),
             "changes": version.changes,
         }

@@ -85,7 +85,7 @@ SCHEMAS: dict[str, Part] = {
     },
     "Committed": members(outcome=TEXT, version=WHOLE, session=WHOLE),
     "Loaded": members(outcome=TEXT, version=WHOLE),
-    "Seal": members(version=WHOLE, entries=WHOLE, bytes=WHOLE, sha256=TEXT),
+    "Seal": members(batches=WHOLE, entries=WHOLE, version=WHOLE, sha256=TEXT),
     "Problem": {
         "type": "object",
         "description": "Problem details: `word` is the program's for a refusal or the server's own, `reply` the program's reply.",
@@ -229,7 +229,9 @@ def paths() -> dict[str, Part]:
                 query("from", WHOLE, "an offset"),
             )
         },
-        "/seal": {"get": operation("length and digest of the acknowledged journal", content(ref("Seal")))},
+        "/seal": {
+            "get": operation("the seal of the acknowledged journal: its last mark's digest", content(ref("Seal")))
+        },
         "/events": {
             "get": operation(
                 "each version as it comes, by server-sent events named version", content(TEXT, "text/event-stream")

@@ -38,14 +38,11 @@ class Settings:
         return self.journal.with_name(self.journal.name + ".notes")
 
     @property
-    def with_numeric(self) -> list[str]:
-        return ["--numeric", str(self.numeric)] if self.numeric else []
-
-    @property
     def program(self) -> list[str]:
         """The words that start the program on the journal."""
+        numeric = ["--numeric", str(self.numeric)] if self.numeric else []
         every = ["--every-reply"] if self.every_reply else []
-        return [self.filing, "run", *self.with_numeric, *every, "--journal", str(self.journal)]
+        return [self.filing, "run", *numeric, *every, "--journal", str(self.journal)]
 
 
 def find_filing() -> str | None:
@@ -73,7 +70,7 @@ def parser() -> argparse.ArgumentParser:
     )
     words.add_argument("--user-header", metavar="NAME", help="the header in which a proxy says who asks")
     words.add_argument("--unix", type=Path, metavar="PATH", help="a Unix socket that takes lines")
-    words.add_argument("--numeric", type=Path, metavar="FILE", help="the numeric table of the journal")
+    words.add_argument("--numeric", type=Path, metavar="FILE", help="the numeric table of a new journal")
     words.add_argument("--every-reply", action="store_true", help="each reply waits until its entry is kept")
     words.add_argument("--clients", type=int, default=1024, help="connections at once, at most")
     words.add_argument("--sessions", type=int, default=1000, help="open sessions of a client, at most")

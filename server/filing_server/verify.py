@@ -1,14 +1,14 @@
 """Looks in a journal for what a client was told: its sessions with their steps and replies, and its loads.
 
-    server/verify [--numeric FILE] [--crashed] JOURNAL TRANSCRIPT..
+    server/verify [--crashed] JOURNAL TRANSCRIPT..
 
 A transcript has each line that was sent, blank ones aside, and behind it the line of its reply; the last reply may be missing.
-First `filing check` has to find the journal lawful. Then each session of a transcript has to be a session of the journal, with
+First `filing verify` has to find the journal lawful. Then each session of a transcript has to be a session of the journal, with
 the same steps and replies in their order and no two for one, and each load an entry. What is not found is printed.
 
 Where the program was killed, sessions that committed nothing may be missing, since only loads and commits are kept before their
 replies: with --crashed these are counted, and are no faults. The status is 1 where something is not found, and 4 where the
-journal is not lawful. At the end stand length and digest of the journal, which clients compare with each other's.
+journal is not lawful. At the end stands the seal of the journal, which clients look for in each other's: `filing verify --seal`.
 """
 
 from __future__ import annotations
@@ -18,7 +18,6 @@ import collections
 import json
 import subprocess
 import sys
-import tempfile
 from dataclasses import dataclass, field
 from pathlib import Path
 from typing import Any, Iterator
@@ -173,13 +172,9 @@ def shortened(text: str) -> str:
     return text if len(text) <= 300 else f"{text[:140]} .. {text[-140:]}"
 
 
-def judge(filing: str, numeric: Path | None, lines: list[bytes]) -> str:
-    """The verdict of `filing check`, on a copy of the acknowledged lines."""
-    with tempfile.NamedTemporaryFile() as copy:
-        copy.writelines(line + b"\n" for line in lines)
-        copy.flush()
-        words = [filing, "check", *(["--numeric", str(numeric)] if numeric else []), copy.name]
-        return subprocess.run(words, capture_output=True, text=True).stdout.strip()
+def judge(filing: str, journal: Path) -> str:
+    """The verdict of `filing verify`."""
+    return subprocess.run([filing, "verify", "--", str(journal)], capture_output=True, text=True).stdout.strip()
 
 
 def main(arguments: list[str] | None = None) -> int:
@@ -192,7 +187,6 @@ def main(arguments: list[str] | None = None) -> int:
         metavar="TRANSCRIPT",
         help="each line that was sent, and its reply behind it",
     )
-    words.add_argument("--numeric", type=Path, metavar="FILE", help="the numeric table of the journal")
     words.add_argument(
         "--crashed", action="store_true", help="the program was killed: sessions without a commit may be missing"
     )
@@ -201,21 +195,21 @@ def main(arguments: list[str] | None = None) -> int:
     if filing is None:
         words.error("there is no program filing: build it, or name it in $FILING")
     follower = Follower(given.journal)
-    lines = list(follower.new_lines())
-    verdict = judge(filing, given.numeric, lines)
+    entries = [line for line in follower.new_lines() if line.startswith(b"[")]
+    verdict = judge(filing, given.journal)
     if verdict != '["lawful"]':
-        print(f"{given.journal} is no lawful history: {verdict}")
+        print(f"{given.journal} is no lawful journal: {verdict}")
         return 4
     told = [read_transcript(path.read_bytes()) for path in given.transcripts]
     faults = unkept = 0
-    for what, is_fault in missing(Journal(lines), told, given.crashed):
+    for what, is_fault in missing(Journal(entries), told, given.crashed):
         faults, unkept = faults + is_fault, unkept + (not is_fault)
         if is_fault:
             print(what)
     count = sum(len(it.loads) + len(it.ended) + len(it.begun) for it in told)
     crashed = f", {unkept} without a commit not kept" if given.crashed else ""
     print(f"{count} sessions and loads looked for, {faults} not found{crashed}")
-    print(f"journal: {follower.lines} entries, {follower.bytes} bytes, sha256 {follower.digest.hexdigest()}")
+    print(f"journal: {follower.batches} batches, {follower.entries} entries, seal {follower.seal}")
     return 1 if faults else 0
 
 

@@ -1,4 +1,4 @@
-"""What `filing show`, `diff` and `log` say of the acknowledged lines, and the facts of reports.
+"""What `filing show`, `diff` and `log` say of the journal while it is written, and the facts of reports.
 
 A version never changes, so what was computed of one is kept while there is room.
 """
@@ -8,8 +8,6 @@ from __future__ import annotations
 import asyncio
 import collections
 import json
-import os
-import tempfile
 from dataclasses import dataclass
 from typing import Any, Awaitable, Callable, Hashable
 
@@ -149,12 +147,12 @@ class Views:
         return result
 
     async def log(self) -> list[dict[str, object]]:
-        """A line for each session, in the order of their openings."""
+        """What `filing log` says of each session, in the order of their openings; the ledger knows who, when and each load."""
         bytes_read = self.office.ledger.follower.bytes
 
         async def make() -> tuple[list[dict[str, object]], int]:
             lines = await self._lines("log", [], [])
-            return [self._session(*line) for line in lines], 400 * len(lines)
+            return [self._session(*line[:6]) for line in lines if line[0] is not None], 400 * len(lines)
 
         result: list[dict[str, object]] = await self.kept.get(("log", bytes_read), make)
         return result
@@ -162,7 +160,7 @@ class Views:
     def _session(
         self, number: int, kind: str, opened: int, end: list[object] | None, staged: int, met: int | None
     ) -> dict[str, object]:
-        who = self.office.notes.sessions.get(number)
+        who = self.office.opener(number)
         return {
             "session": number,
             "user": who.user if who else None,
@@ -189,7 +187,7 @@ class Views:
         return [json.loads(line) for line in (await self._output(command, options, rest)).splitlines()]
 
     async def _output(self, command: str, options: list[str], rest: list[str]) -> bytes:
-        """What `filing COMMAND OPTIONS JOURNAL REST` prints of the acknowledged lines."""
+        """What `filing COMMAND OPTIONS JOURNAL REST` prints."""
         if self.queued >= MOST_QUEUED:
             raise Problem("busy")
         self.queued += 1
@@ -203,33 +201,21 @@ class Views:
         settings = self.office.settings
         if any("\0" in word for word in rest):
             raise Problem("no-report", "no command takes a name with a null; ask for the current version")
-        with tempfile.TemporaryFile() as copy:
-            await asyncio.get_running_loop().run_in_executor(
-                None, self._copy, copy.fileno(), self.office.ledger.follower.bytes
-            )
-            path = f"/proc/self/fd/{copy.fileno()}"
-            words = [settings.filing, command, *settings.with_numeric, *options, "--", path, *rest]
-            process = await asyncio.create_subprocess_exec(
-                *words,
-                stdin=asyncio.subprocess.DEVNULL,
-                stdout=asyncio.subprocess.PIPE,
-                stderr=asyncio.subprocess.PIPE,
-                pass_fds=[copy.fileno()],
-            )
-            try:
-                output, fault = await asyncio.wait_for(process.communicate(), TIMEOUT)
-            except asyncio.TimeoutError:
-                process.kill()
-                await process.wait()
-                raise Problem("too-slow") from None
+        process = await asyncio.create_subprocess_exec(
+            *[settings.filing, command, *options, "--", str(settings.journal), *rest],
+            stdin=asyncio.subprocess.DEVNULL,
+            stdout=asyncio.subprocess.PIPE,
+            stderr=asyncio.subprocess.PIPE,
+        )
+        try:
+            output, fault = await asyncio.wait_for(process.communicate(), TIMEOUT)
+        except asyncio.TimeoutError:
+            process.kill()
+            await process.wait()
+            raise Problem("too-slow") from None
         if process.returncode:
             raise view_problem(fault.decode("utf-8", "replace").strip())
         return output
-
-    def _copy(self, to: int, end: int) -> None:
-        for data in self.office.ledger.follower.copy(0, end):
-            while data:
-                data = data[os.write(to, data) :]
 
 
 def view_problem(fault: str) -> Problem:

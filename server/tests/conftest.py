@@ -177,7 +177,7 @@ class Office:
         return found
 
     def entries(self) -> list[Any]:
-        return [json.loads(line) for line in self.get("/journal").body.splitlines()]
+        return [json.loads(line) for line in self.get("/journal").body.splitlines() if line.startswith(b"[")]
 
 
 def answered(response: HTTPResponse) -> Answer:

@@ -59,24 +59,36 @@ def test_a_day_of_one_report(start: Callable[..., Office], tmp_path: Any) -> Non
     assert b"<svg" in office.get("/log.svg").body and office.get("/log.svg").headers["content-type"] == "image/svg+xml"
     journal = office.get("/journal").body
     seal = office.get("/seal").json
-    assert seal == {
-        "version": 2,
-        "entries": len(journal.splitlines()),
-        "bytes": len(journal),
-        "sha256": hashlib.sha256(journal).hexdigest(),
-    }
     assert office.get(f"/journal?from={len(journal) - 5}").body == journal[-5:]
     assert office.get(f"/journal?from={len(journal) + 5}").body == b""
     copy = tmp_path / "copy"
     copy.write_bytes(journal)
-    assert run_filing("check", copy) == '["lawful"]'
+    told = [seal[name] for name in ("batches", "entries", "version", "sha256")]
+    assert json.loads(run_filing("seal", copy)) == ["sealed", *told]
     assert office.stop() == 0
     kept = (tmp_path / "journal").read_bytes()  # the session that met a conflict is kept at the end
-    assert kept.startswith(journal) and kept.endswith(b'[2,["close"],["closed"]]\n\n')
+    assert kept.startswith(journal) and b'\n[2,["close"],["closed"]]\n' in kept[len(journal) :]
+    assert run_filing("verify", "--seal", seal["sha256"], office.journal) == '["lawful"]'
     again = start()
-    assert again.get("/seal").json["bytes"] == len(kept) - 1
+    assert again.get("/journal").body == kept[:-1]
     assert again.get("/versions").json["versions"][0] == version
     assert again.get("/reports/r1").json["facts"]["f4"]["value"] == "d"
+
+
+def test_the_journal_has_names_and_times_too(start: Callable[..., Office], tmp_path: Any) -> None:
+    office = start()
+    client = office.client()
+    client.ask(
+        ["load", "r1", report()], ["open", "s", "amend"], ["add", "s", "r1", "f", fact("A", "a")], ["commit", "s"]
+    )
+    noted = office.get("/versions").json["versions"]
+    assert office.stop() == 0
+    (tmp_path / "journal.notes").unlink()
+    again = start()
+    commit, load = again.get("/versions").json["versions"]
+    assert (commit["user"], load["user"]) == (noted[0]["user"], None)
+    assert commit["time"][:10] == load["time"][:10] == noted[0]["time"][:10]
+    assert [it["user"] for it in again.log()] == [commit["user"]]
 
 
 def test_facts_are_searched(shared: Office) -> None:

@@ -2,37 +2,47 @@
 
 from __future__ import annotations
 
-import hashlib
 import json
 from pathlib import Path
 from typing import Any
 
 from filing_server.journal import Follower
 from filing_server.ledger import Ledger
-from filing_server.notes import Keyed, Notes, NotesInUse
+from filing_server.notes import Keyed, Notes, NotesInUse, Who
 
 import pytest
+
+
+BEGIN = b'{"journal":1}\n{"table":[]}\n'
+
+
+def mark(batch: int, time: str = "", **opened: str) -> bytes:
+    """A mark with a digest that is its number again and again. Who follows a journal believes the program."""
+    said = {"batch": batch, "entries": 9, "time": time, "opened": opened, "sha256": str(batch) * 64}
+    return json.dumps(said, separators=(",", ":")).encode() + b"\n"
 
 
 def test_lines_count_up_to_the_gate(tmp_path: Path) -> None:
     """The states of a batch that is put: only what stands before the gate counts."""
     path = tmp_path / "journal"
-    path.write_bytes(b"[a]\n\n")
+    first, second = BEGIN + mark(0) + b"[a]\n" + mark(1), b"[b]\n[c]\n" + mark(2)
+    path.write_bytes(first + b"\n")
     follower = Follower(path)
-    assert list(follower.new_lines()) == [b"[a]"]
-    path.write_bytes(b"[a]\n\nb]\n[c]\n\n")  # the batch is there but for its first byte
+    assert list(follower.new_lines()) == first.splitlines()
+    assert (follower.batches, follower.entries, follower.seal) == (2, 1, "1" * 64)
+    path.write_bytes(first + b"\n" + second[1:] + b"\n")  # the batch is there but for its first byte
     assert list(follower.new_lines()) == []
-    path.write_bytes(b"[a]\n\nb]\n[c")  # torn
+    path.write_bytes(first + b"\n" + second[1:9])  # torn
     assert list(follower.new_lines()) == []
-    path.write_bytes(b"[a]\n[b]\n[c]\n\n")
-    assert list(follower.new_lines()) == [b"[b]", b"[c]"]
-    assert (follower.bytes, follower.lines) == (12, 3)
-    assert follower.digest.hexdigest() == hashlib.sha256(b"[a]\n[b]\n[c]\n").hexdigest()
-    assert b"".join(follower.copy(4, 100)) == b"[b]\n[c]\n"
-    assert b"".join(follower.copy(50, 100)) == b""
+    path.write_bytes(first + second + b"\n")
+    assert list(follower.new_lines()) == second.splitlines()
+    assert (follower.bytes, follower.batches, follower.entries) == (len(first + second), 3, 3)
+    assert follower.seal == "2" * 64
+    assert b"".join(follower.copy(len(first), 10_000)) == second
+    assert b"".join(follower.copy(10_000, 20_000)) == b""
 
 
-@pytest.mark.parametrize("content", [b"", b"\n", b"\n[a]\n", b"a]\n", b"[a"])
+@pytest.mark.parametrize("content", [b"", b"\n", b"\n[a]\n", b"a]\n", b"[a", b"{a"])
 def test_files_without_a_line_that_counts(tmp_path: Path, content: bytes) -> None:
     path = tmp_path / "journal"
     path.write_bytes(content)
@@ -41,7 +51,8 @@ def test_files_without_a_line_that_counts(tmp_path: Path, content: bytes) -> Non
 
 def test_long_lines_and_many(tmp_path: Path) -> None:
     path = tmp_path / "journal"
-    lines = [b"[" + b"x" * size + b"]" for size in (3_000_000, 1, 1 << 20, (1 << 20) - 3, 0)] + [b"[y]"] * 100_000
+    lines = [b"[" + b"x" * size + b"]" for size in (3_000_000, 1, 1 << 20, (1 << 20) - 3, 0)]
+    lines += [b"{" + b"x" * (2 << 20)] + [b"[y]"] * 100_000
     path.write_bytes(b"\n".join(lines) + b"\n\n")
     follower = Follower(path)
     assert list(follower.new_lines()) == lines
@@ -60,7 +71,9 @@ STAGED, OPENED = ["staged"], ["opened"]
 def test_what_versions_changed(tmp_path: Path) -> None:
     path = tmp_path / "journal"
     path.write_bytes(
-        entry(None, "load", "r1", {"facts": {}}, ["loaded", 1])
+        BEGIN
+        + mark(0)
+        + entry(None, "load", "r1", {"facts": {}}, ["loaded", 1])
         + entry(None, "load", "r1", {"facts": {"a": '["loaded",9]]'}}, ["name-taken"])
         + entry(1, "open", "amend", OPENED)
         + entry(2, "open", "amend", OPENED)
@@ -71,6 +84,7 @@ def test_what_versions_changed(tmp_path: Path) -> None:
         + entry(2, "add", "r1", "never", FACT, STAGED)
         + entry(1, "commit", ["committed", 2])
         + entry(2, "commit", ["conflict", 2, ["id", "r1", "f1"]])
+        + mark(1, "early", **{"1": "anna/1", "2": "ben/2"})
         + entry(3, "open", "amend", OPENED)
         + entry(3, "remove", "r1", "f1", STAGED)
         + entry(3, "add", "r1", "f1", FACT | {"value": "y"}, STAGED)
@@ -79,6 +93,7 @@ def test_what_versions_changed(tmp_path: Path) -> None:
         + entry(4, "open", "amend", OPENED)
         + entry(4, "remove", "r1", "f1", STAGED)
         + entry(4, "commit", ["committed", 4])
+        + mark(2, "later", **{"3": "ben/3", "4": "s"})
         + b"\n"
     )
     ledger = Ledger(path, {2})
@@ -95,6 +110,9 @@ def test_what_versions_changed(tmp_path: Path) -> None:
     assert [ledger.fact_at(it) for it in changes[:2]] == [FACT, FACT | {"value": "y"}]
     assert ("r1", "gone") not in ledger.changes and ("r1", "never") not in ledger.changes
     assert ledger.ends == {2: b'["conflict",2,["id","r1","f1"]]'}
+    assert ledger.times == ["early", "early", "later", "later"]
+    ben = {2: Who("ben", "early"), 3: Who("ben", "later")}
+    assert ledger.openings == {1: Who("anna", "early"), **ben, 4: Who("s", "later")}
 
 
 def test_notes_are_read_again(tmp_path: Path) -> None:

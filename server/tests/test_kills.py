@@ -126,7 +126,7 @@ def test_nothing_acknowledged_is_lost(start: Callable[..., Office], tmp_path: Pa
     versions = offices[-1].get("/versions?limit=1000").json["versions"]
     assert all(it["user"] for it in versions)
     assert offices[-1].stop() == 0
-    assert run_filing("check", offices[-1].journal) == '["lawful"]'
+    assert run_filing("verify", offices[-1].journal) == '["lawful"]'
     transcripts = [path for clerk in clerks for path in clerk.transcripts if path.stat().st_size]
     status, said = verify(offices[-1].journal, tmp_path / "first", *transcripts, options=("--crashed",))
     assert status == 0, said

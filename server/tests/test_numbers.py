@@ -79,6 +79,6 @@ def test_numbers_are_those_of_the_journal(start: Callable[..., Office], tmp_path
     assert "guest" not in {it["user"] for it in sessions.values() if it["kind"] == "review"}
     assert sum(it["user"] == "guest" for it in sessions.values()) == len(told) + 1
     assert office.stop() == 0
-    assert run_filing("check", office.journal) == '["lawful"]'
+    assert run_filing("verify", office.journal) == '["lawful"]'
     status, said = verify(office.journal, *transcripts)
     assert status == 0, said

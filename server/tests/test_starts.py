@@ -2,6 +2,7 @@
 
 from __future__ import annotations
 
+import json
 import os
 import signal
 import subprocess
@@ -9,7 +10,7 @@ from pathlib import Path
 from typing import Callable
 
 import pytest
-from conftest import SERVER, WAIT, Office, fact, report, until
+from conftest import SERVER, WAIT, Office, fact, report, run_filing, until
 from filing_server.settings import find_filing
 
 
@@ -25,7 +26,7 @@ def test_a_signal_stops_both(start: Callable[..., Office], by: signal.Signals) -
     assert office.stop(by) == 0
     assert [client.reply() for _ in range(3)] == [["opened"], ["staged"], ["committed", 2]]
     assert not Path(f"/proc/{program}").exists() and not office.unix.exists()
-    assert office.journal.read_bytes().endswith(b"]\n\n")
+    assert office.journal.read_bytes().endswith(b'"}\n\n')
 
 
 def test_a_signal_of_the_terminal_reaches_the_server_alone(office: Office) -> None:
@@ -48,13 +49,15 @@ def test_a_port_in_use_is_told_and_leaves_the_journal(office: Office, tmp_path: 
     words = [str(SERVER / "run"), "--port", str(office.port), str(tmp_path / "other")]
     done = subprocess.run(words, capture_output=True, text=True, timeout=60)
     assert done.returncode == 1 and "address already in use" in done.stderr
-    assert (tmp_path / "other").read_bytes() == b"\n"
+    assert json.loads(run_filing("seal", tmp_path / "other"))[1:4] == [1, 0, 0]
 
 
-def test_a_journal_that_departs_is_not_served(office: Office, tmp_path: Path) -> None:
+def test_a_journal_that_is_damaged_is_not_served(office: Office, tmp_path: Path) -> None:
     bad = tmp_path / "bad"
+    bad.write_bytes(office.journal.read_bytes().replace(b'"batch":0', b'"batch":1'))
+    assert "filing: journal, line 3" in refused(office, str(bad))
     bad.write_bytes(b'[1,["open","amend"],["closed"]]\n\n')
-    assert "filing: journal, line 1" in refused(office, str(bad))
+    assert "filing: not a journal" in refused(office, str(bad))
     assert "write fault" in refused(office, str(tmp_path))
 
 

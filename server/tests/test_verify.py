@@ -47,7 +47,7 @@ def test_what_was_told_is_found(office: Office, tmp_path: Path) -> None:
     transcripts = a_day(office, tmp_path)
     status, said = verify(office.journal, *transcripts)
     assert status == 0, said
-    assert said.startswith("7 sessions and loads looked for, 0 not found\n") and "sha256" in said
+    assert said.startswith("7 sessions and loads looked for, 0 not found\n") and "seal" in said
     assert verify(office.journal, *transcripts, transcripts[0])[0] == 1  # nothing is found twice
     lines = transcripts[0].read_bytes().splitlines(keepends=True)
     transcripts[0].write_bytes(b"".join(lines[:-1]))  # a reply that did not come
@@ -117,7 +117,7 @@ def test_a_forged_journal_is_refused(told: tuple[Path, list[Path]], tmp_path: Pa
     forged = tmp_path / "forged"
     forged.write_bytes(journal.read_bytes().replace(b'["committed",2]', b'["committed",3]'))
     status, said = verify(forged, *transcripts)
-    assert status == 4 and "departs" in said
+    assert status == 4 and "damaged" in said
 
 
 def test_the_command(told: tuple[Path, list[Path]]) -> None:
