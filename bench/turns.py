@@ -116,6 +116,36 @@ class OneScript(NamedTuple):
         )
 
 
+class Opening(NamedTuple):
+    """A history judged by `check`, the journal of its entries verified and opened, with ratios to the judging."""
+
+    says: str
+    script: Callable[[], Iterable[str]]
+
+    def rows(self, setting: Setting) -> Iterator[Row]:
+        nothing, replies = setting.written("nothing", ()), setting.room / "replies"
+        history, journal = str(setting.room / "history"), str(setting.room / "journal")
+        run = [setting.program, "run", *setting.table()]
+        taken([*run, "--history", history], setting.written("script", self.script()), replies)
+        taken([*run, "--journal", journal, "--from", history], nothing, replies)
+        commands = {
+            "judged by `check`": [setting.program, "check", *setting.table(), history],
+            "its journal by `verify`": [setting.program, "verify", journal],
+            "its journal opened": [setting.program, "run", "--journal", journal],
+        }
+        runs: dict[str, list[Taken]] = {says: [] for says in commands}
+        for _ in range(setting.turns + 1):
+            for says, command in commands.items():
+                runs[says].append(taken(command, nothing, replies))
+        found = dict(zip(commands, medians([its[1:] for its in runs.values()])))
+        counted = {it: instructions(commands[it], nothing, replies) for it in commands} if setting.counts else {}
+        first = next(iter(commands))
+        for says in commands:
+            (_, mine, memory), (_, its, held) = found[says], found[first]
+            pair = Pair(counted[says], counted[first]) if counted else None
+            yield Row(f"{self.says}, {says}", Pair(mine, its), "s", Pair(memory, held), pair)
+
+
 class Waiting:
     """A program that holds a report and waits for lines."""
 

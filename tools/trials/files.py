@@ -1,73 +1,126 @@
 """Cases of files: what is taken as a journal, what is cut off, what is refused, and paths."""
 import json
 import os
+import re
 import stat
 import subprocess
 from pathlib import Path
 
+from model import journals
 from trials.starts import (
     AS_NOBODY,
+    BEGUN,
     FACT,
     GATE,
     IS_ROOT,
     LINES,
     MORE,
     MORE_LINES,
+    MORE_REPLIES,
+    NO_JOURNAL,
     PATIENCE,
     READ_FAULT,
     REPLIES,
+    ROWS,
     SCRIPT,
     TRIED,
+    WHOLE,
     WRITE_FAULT,
     PassedOver,
     Run,
     alone,
+    at_entry,
     at_line,
     begins_anew,
     begun,
     cannot_be_written,
     case,
     content,
+    counted,
     expect,
     goes_on,
     holds,
+    journal_of,
     judged,
+    keeps,
     made,
     on_small_disk,
     refused,
+    without_warning,
     words_of,
 )
 
+TIME = re.compile(r"\d{4}-\d\d-\d\dT\d\d:\d\d:\d\d\.\d{3}Z")
 DATA = Path(__file__).resolve().parent.parent.parent / "crates/conformance/data"
 
 
 # ---- journals that go on
 
 
-@case("a new journal is made, and is what `--history` writes and a gate")
+def said(*words, **how):
+    """The status of the program, what it writes and what it tells."""
+    done = subprocess.run([TRIED.program, *map(str, words)], capture_output=True, timeout=PATIENCE, **how)
+    return done.returncode, done.stdout, done.stderr
+
+
+@case("a new journal is made, which is told, and has the entries that `--history` writes")
 def _(folder):
-    begun(folder / "j")
-    run = [TRIED.program, "run", "--numeric", TRIED.table, "--history", str(folder / "h")]
-    subprocess.run(run, input=SCRIPT, stdout=subprocess.DEVNULL, check=True)
-    holds(folder / "j", content(folder / "h") + GATE)
-    judged(content(folder / "j"), folder)
+    run = Run(folder / "j", SCRIPT)
+    run.ends(0, REPLIES)
+    expect("what is told", run.warned, f'filing: a new journal "{folder / "j"}"\n'.encode())
+    said("run", "--numeric", TRIED.table, "--history", folder / "h", input=SCRIPT)
+    keeps(folder / "j", content(folder / "h"))
+    judged(folder / "j")
+    expect("its entries", said("history", folder / "j"), (0, content(folder / "h"), b""))
     alone(folder, "h", "j")
+
+
+@case("a journal has its table and its marks: when each batch was put, and who opened which session")
+def _(folder):
+    found = journals.read(content(begun(folder / "j")))
+    expect("the table", found.rows, ROWS)
+    expect("batches", [mark.entries for mark in found.marks][0], 0)
+    expect("entries", sum(mark.entries for mark in found.marks), LINES.count(b"\n"))
+    expect("names", {number: name for mark in found.marks for number, name in mark.opened.items()}, {"1": "s"})
+    times = [mark.time for mark in found.marks]
+    expect("times", times == sorted(times) and all(TIME.fullmatch(time) for time in times), True)
+    expect("its last digest", said("seal", folder / "j")[1], sealed(found, 4, 2))
+    made(folder / "tables", b"http://e.org/u B\nhttp://e.org/t Assets\nhttp://e.org/u B\n")
+    done = subprocess.run(words_of(folder / "k", table=folder / "tables"), input=b"", capture_output=True)
+    expect("the status", done.returncode, 0)
+    expect("rows in their order, each once", journals.read(content(folder / "k")).rows, [*ROWS, "http://e.org/u B"])
+
+
+def sealed(found, entries, version):
+    told = f'["sealed",{len(found.marks)},{entries},{version},"{found.marks[-1].digest}"]\n'
+    return told.encode()
+
+
+@case("a seal is that of a journal which goes on from it, and of no other")
+def _(folder):
+    seal = journals.read(content(begun(folder / "j"))).marks[-1].digest
+    goes_on(folder / "j")
+    for digest in (seal, journals.read(content(folder / "j")).marks[-1].digest):
+        expect("its own", said("verify", "--seal", digest, folder / "j"), (0, b'["lawful"]\n', b""))
+    for digest in ("0" * 64, journals.read(content(begun(folder / "other"))).marks[-1].digest):
+        expect("another's", said("verify", "--seal", digest, folder / "j")[:2], (4, b'["lawful"]\n'))
 
 
 @case("it goes on from the history in it, with the next numbers")
 def _(folder):
     goes_on(begun(folder / "j"))
     Run(folder / "j", SCRIPT).ends(0, b'["name-taken"]\n["opened"]\n["taken"]\n["committed",3]\n')
-    judged(content(folder / "j"), folder)
+    judged(folder / "j")
     alone(folder, "j")
 
 
-@case("a script without a line leaves it as it is, and a new one empty")
+@case("a script without a line leaves it as it is, and a new one without an entry")
 def _(folder):
-    Run(begun(folder / "j")).ends()
-    holds(folder / "j", LINES + GATE)
+    before = content(begun(folder / "j"))
+    Run(folder / "j").ends()
+    holds(folder / "j", before)
     Run(folder / "new", b"\n \n").ends()
-    holds(folder / "new", GATE)
+    keeps(folder / "new", b"")
     begins_anew(folder / "new")
 
 
@@ -79,16 +132,19 @@ def _(folder):
     goes_on(folder / "j")
     after = os.stat(folder / "other")
     expect("mode and number", (after.st_mode, after.st_ino), (before.st_mode, before.st_ino))
-    holds(folder / "other", LINES + MORE_LINES + GATE)
+    keeps(folder / "other", LINES + MORE_LINES)
 
 
-@case("a new journal is its owner's alone")
+@case("a new journal is its owner's alone, and what stands beside it stays")
 def _(folder):
+    made(folder / "j.new-1", b"other")
     expect("its rights", stat.S_IMODE(begun(folder / "j").stat().st_mode), 0o600)
+    holds(folder / "j.new-1", b"other")
+    alone(folder, "j", "j.new-1")
 
 
 def replace(journal):
-    made(journal.with_name("new"), LINES + GATE).rename(journal)
+    made(journal.with_name("new"), BEGUN + GATE).rename(journal)
 
 
 for _way in (replace, Path.unlink):
@@ -103,7 +159,7 @@ for _way in (replace, Path.unlink):
             expect("the replies before", b"".join(run.stdout.readline() for _ in REPLIES.splitlines()), REPLIES)
             way(folder / "j")
             written, told = run.communicate(SCRIPT.replace(b"r1", b"r2"), timeout=PATIENCE)
-        expect("status and standard error", (run.returncode, told), (1, WRITE_FAULT))
+        expect("status and standard error", (run.returncode, without_warning(told)), (1, WRITE_FAULT))
         expect("the replies after", written, b"")
 
 
@@ -116,10 +172,10 @@ def _(folder):
     script = b'["commit","s"]\n["open","s","review"]\n["get","s","r1","f2"]\n'
     Run(folder / "j", script).ends(0, b'["no-session"]\n["opened"]\n["none"]\n')
     lines = f'[2,["open","amend"],["opened"]]\n[2,["add","r1","f2",{FACT}],["staged"]]\n'.encode()
-    holds(folder / "j", LINES + lines + b'[3,["open","review"],["opened"]]\n[3,["get","r1","f2"],["none"]]\n' + GATE)
+    keeps(folder / "j", LINES + lines + b'[3,["open","review"],["opened"]]\n[3,["get","r1","f2"],["none"]]\n')
 
 
-@case("the stored scripts: their replies, and their histories with a gate, which are opened again")
+@case("the stored scripts: their replies, and their histories as entries, which are opened again")
 def _(folder):
     for script in sorted(DATA.glob("*.jsonl")):
         if not script.with_suffix(".history").exists():
@@ -130,46 +186,58 @@ def _(folder):
             for given, replies in ((script.read_bytes(), script.with_suffix(".replies").read_bytes()), (b"", b"")):
                 words = [*words_of(journal, table=DATA / "numeric.txt"), *every]
                 done = subprocess.run(words, input=given, capture_output=True, timeout=PATIENCE)
-                expect(script.name, (done.returncode, done.stderr, done.stdout), (0, b"", replies))
-                holds(journal, lines + GATE)
+                expect(script.name, (done.returncode, without_warning(done.stderr), done.stdout), (0, b"", replies))
+                keeps(journal, lines)
     if not list(folder.iterdir()):
         raise PassedOver("there are none")
 
 
-@case("a history without a gate is taken as a journal")
+@case("a journal without a gate goes on")
 def _(folder):
-    goes_on(made(folder / "j", LINES))
+    goes_on(made(folder / "j", BEGUN))
 
 
-@case("a link to a journal is followed and stays; so is one to what is not there")
+@case("a history is no journal, and is the beginning of a new one")
+def _(folder):
+    refused(made(folder / "h", LINES), NO_JOURNAL)
+    refused(made(folder / "old", LINES + GATE), NO_JOURNAL)
+    run = Run(folder / "j", words=["--from", str(folder / "h")])
+    run.ends()
+    keeps(folder / "j", LINES)
+    goes_on(folder / "j")
+
+
+@case("a link to a journal is followed and stays; where it leads to nothing, no journal is made")
 def _(folder):
     (folder / "sub").mkdir()
     (folder / "link").symlink_to("sub/j")
-    begun(folder / "sub" / "j").rename(folder / "sub" / "old")
-    begun_by_link = Run(folder / "link", SCRIPT)
-    begun_by_link.ends(0, REPLIES)
+    cannot_be_written(folder / "link")
+    alone(folder / "sub")
+    begun(folder / "sub" / "j")
     goes_on(folder / "link")
-    holds(folder / "sub" / "j", LINES + MORE_LINES + GATE)
+    keeps(folder / "sub" / "j", LINES + MORE_LINES)
     expect("the link", os.readlink(folder / "link"), "sub/j")
     alone(folder, "link", "sub")
-    alone(folder / "sub", "j", "old")
+    alone(folder / "sub", "j")
 
 
 @case("a path without a folder is in the current one, and names may be long and no ASCII")
 def _(folder):
     Run("j", SCRIPT, cwd=folder).ends(0, REPLIES)
-    holds(folder / "j", LINES + GATE)
+    keeps(folder / "j", LINES)
     goes_on(begun(folder / "Geschäft 2024 ☂.jsonl"))
-    goes_on(begun(folder / ("j" * 255)))
-    cannot_be_written(folder / ("j" * 256))
-    alone(folder, "j", "Geschäft 2024 ☂.jsonl", "j" * 255)
+    goes_on(begun(folder / ("j" * 249)))
+    for length in (250, 256):
+        cannot_be_written(folder / ("j" * length))
+    alone(folder, "j", "Geschäft 2024 ☂.jsonl", "j" * 249)
 
 
 # ---- what stands behind the lines
 
 
 TAILS = {
-    "a staged batch": GATE + b'2,["open","review"],["opened"]]\n\n',
+    "a staged batch": GATE + WHOLE[len(BEGUN) + 1 :] + GATE,
+    "a staged batch without its mark": GATE + b'2,["open","review"],["opened"]]\n\n',
     "a part of a staged batch": GATE + b'2,["open","rev',
     "zeros behind the gate": GATE + bytes(4096),
     "bytes that are no text": GATE + bytes(range(256)) * 50,
@@ -184,25 +252,25 @@ def kept(path, tail, number=1):
     beside = path.with_name(f"{path.name}.cut-{number}")
     holds(beside, tail)
     expect("its rights", stat.S_IMODE(beside.stat().st_mode), 0o600)
-    told = 'filing: warning: journal, line %d: %d bytes of a put that was under way were cut off, and kept in "%s"\n'
-    return (told % (LINES.count(b"\n") + 1, len(tail), beside)).encode()
+    told = "filing: warning: journal: %d bytes of a put that was under way after 4 entries were cut off, and kept in "
+    return f'{told % len(tail)}"{beside}"\n'.encode()
 
 
 for _name, _tail in TAILS.items():
 
     @case(f"what a put left behind the lines is cut off, and kept where it is more than a gate: {_name}")
     def _(folder, tail=_tail):
-        run = Run(made(folder / "j", LINES + tail))
+        run = Run(made(folder / "j", BEGUN + tail))
         run.ends()
         expect("the warning", run.warned, kept(folder / "j", tail))
-        holds(folder / "j", LINES + GATE)
-        goes_on(made(folder / "other", LINES + tail))
-        threads, script = made(folder / "threads", LINES + tail), made(folder / "script", MORE)
+        holds(folder / "j", BEGUN + GATE)
+        goes_on(made(folder / "other", BEGUN + tail))
+        threads, script = made(folder / "threads", BEGUN + tail), made(folder / "script", MORE)
         words = ["threads", "--numeric", TRIED.table, "--journal", str(threads), str(script)]
         done = subprocess.run([TRIED.program, *words], capture_output=True, timeout=PATIENCE)
         expect("the warning of threads", done.stderr, kept(threads, tail))
         # A review in threads takes no lock, and so is no entry.
-        holds(threads, LINES + GATE)
+        holds(threads, BEGUN + GATE)
 
 
 @case("what is cut off is kept under the first name that is free, where a link leads; nothing is written over")
@@ -211,7 +279,7 @@ def _(folder):
     (folder / "link").symlink_to("sub/j")
     tail = TAILS["a staged batch"]
     made(folder / "sub" / "j.cut-1", b"other")
-    run = Run(made(folder / "sub" / "j", LINES + tail) and folder / "link")
+    run = Run(made(folder / "sub" / "j", BEGUN + tail) and folder / "link")
     run.ends()
     expect("the warning", run.warned, kept((folder / "sub").resolve() / "j", tail, 2))
     holds(folder / "sub" / "j.cut-1", b"other")
@@ -224,13 +292,16 @@ def _(folder):
     if not IS_ROOT:
         raise PassedOver("it wants root")
     (folder / "sub").mkdir()
-    journal = made(folder / "sub" / "j", LINES + TAILS["a staged batch"], 0o666)
+    journal = made(folder / "sub" / "j", BEGUN + TAILS["a staged batch"], 0o666)
     (folder / "sub").chmod(0o555)
     Run(journal, **AS_NOBODY).ends(1, b"", WRITE_FAULT)
-    holds(journal, LINES + TAILS["a staged batch"])
+    holds(journal, BEGUN + TAILS["a staged batch"])
 
 
 DAMAGE = {
+    "two staged batches": GATE + journal_of(LINES, MORE_LINES, MORE_LINES)[len(BEGUN) + 1 :] + GATE,
+    "entries without their mark": MORE_LINES,
+    "entries without their mark, and a gate": MORE_LINES + GATE,
     "further lines behind the gate": GATE + MORE_LINES,
     "further lines and gates": GATE + MORE_LINES + GATE + GATE,
     "an object behind the gate": GATE + b"{}\n",
@@ -249,7 +320,8 @@ for _name, _tail in DAMAGE.items():
 
     @case(f"what no put left behind the lines is damage: {_name}")
     def _(folder, tail=_tail):
-        refused(made(folder / "j", LINES + tail), LINES.count(b"\n") + 1)
+        begins = journals.recovered(BEGUN + tail)
+        refused(made(folder / "j", BEGUN + tail), at_line(begins.count(b"\n") + 1))
         alone(folder, "j")
 
 
@@ -267,7 +339,7 @@ def _(folder):
             deep = b"filing: line %d nests too deep for the journal\n" % (3 if name == "added" else 1)
             expect("how it ends", (run.status, run.told) in ((0, b""), (1, deep)), True)
             Run(path).ends()
-            judged(path.read_bytes(), folder)
+            judged(path)
 
 
 @case("the journal has the entries of all lines that are answered before a line that nests too deep")
@@ -289,8 +361,8 @@ def _(folder):
             path, lines = folder / f"{name}-{len(words)}", script.count("\n")
             told = b"filing: line %d nests too deep for the journal\n" % (lines + 1)
             Run(path, (script + deep + opened).encode(), words).ends(1, replies, told)
-            expect("the entries and the gate", content(path).count(b"\n"), lines + 1)
-            judged(content(path), folder)
+            expect("the entries", counted(content(path))[0].count(b"\n"), lines)
+            judged(path)
             Run(path).ends()
 
 
@@ -306,45 +378,30 @@ def _(folder):
     done = subprocess.run([TRIED.program, *words], capture_output=True, timeout=PATIENCE)
     told = b"filing: in %s:\nfiling: line 4 nests too deep for the journal\n" % bytes(first)
     replies = b'["loaded",1]\n["opened"]\n["opened"]\n["closed"]\n'
-    expect("how it ends", (done.returncode, done.stdout, done.stderr), (1, replies, told))
-    expect("the entries and the gate", content(folder / "j").count(b"\n"), 5)
-    judged(content(folder / "j"), folder)
+    expect("how it ends", (done.returncode, done.stdout, without_warning(done.stderr)), (1, replies, told))
+    expect("the entries", counted(content(folder / "j"))[0].count(b"\n"), 4)
+    judged(folder / "j")
     Run(folder / "j").ends()
 
 
 @case("a batch that is staged and opened counts")
 def _(folder):
-    made(folder / "j", LINES + MORE_LINES)
+    made(folder / "j", WHOLE)
     Run(folder / "j").ends()
-    holds(folder / "j", LINES + MORE_LINES + GATE)
-
-
-@case("an empty file, a gate or a zero, a first batch that was not acknowledged: no line counts")
-def _(folder):
-    for number, data in enumerate([b"", b"\n", b"\0", GATE + b"hello\n", GATE + LINES[1:]]):
-        begins_anew(made(folder / f"j{number}", data))
+    holds(folder / "j", WHOLE + GATE)
 
 
 # ---- what is refused, and left as it is
 
 
-@case("a foreign file is refused at line 1")
+FOREIGN = [b"hello\n", b"h", b"\xef\xbb\xbf" + BEGUN, b" " + BEGUN, GATE + BEGUN, b"{}\n", b"[half", BEGUN[:20]]
+
+
+@case("what does not begin as a journal is none: an empty file, a gate, a zero, a foreign file")
 def _(folder):
-    for number, data in enumerate(
-        [
-            b"hello\n",
-            b"h",
-            b"\xef\xbb\xbf" + LINES,
-            b" " + LINES,
-            GATE + LINES,
-            b"{}\n",
-            b"\0\0",
-            b"[half",
-            b"[" * 5_000,
-            GATE * 5_000,
-        ]
-    ):
-        refused(made(folder / f"j{number}", data), 1)
+    others = [b"", b"\n", b"\0", b"\0\0", GATE + b"hello\n", GATE + LINES[1:], b"[" * 5_000, GATE * 5_000]
+    for number, data in enumerate(FOREIGN + others):
+        refused(made(folder / f"j{number}", data), NO_JOURNAL)
 
 
 def lines_with(number, old, new):
@@ -370,55 +427,75 @@ CHANGES = {
     "an escape for a letter": (3, b'"f1"', b'"f\\u0031"'),
     "a further part": (3, b'["staged"]]', b'["staged"],1]'),
     "two lines in one": (2, b'["opened"]]\n', b'["opened"]][1,["close"],["closed"]]\n'),
-    "a line that is no entry": (3, b"[1,", b"[[1,"),
     "a bad line of a script": (2, b'[1,["open","amend"],["opened"]]', b'["open","s","amend"]'),
 }
 
 for _name, (_number, _old, _new) in CHANGES.items():
 
-    @case(f"it is refused at its line: {_name}")
+    @case(f"it is refused at its entry where the marks are of that, and else at the mark behind it: {_name}")
     def _(folder, number=_number, old=_old, new=_new):
-        refused(made(folder / "j", lines_with(number, old, new) + GATE), number)
-        refused(made(folder / "torn", lines_with(number, old, new) + GATE + b"torn"), number)
+        entries = lines_with(number, old, new)
+        refused(made(folder / "j", journal_of(entries) + GATE), at_entry(number))
+        refused(made(folder / "torn", journal_of(entries) + GATE + b"torn"), at_entry(number))
+        changed = BEGUN.replace(LINES, entries)
+        refused(made(folder / "changed", changed + GATE), at_line(changed.count(b"\n")))
 
 
-@case("a line that is left out, or stands twice, is refused where the history departs")
+@case("an entry that is left out, or stands twice, is refused where the history departs")
 def _(folder):
     one, two, three, four = LINES.splitlines(True)
     for number, lines in enumerate([[one, three, four], [two, three, four], [one, two, three, four, four], [one, one]]):
-        refused(made(folder / f"j{number}", b"".join(lines) + GATE), [2, 2, 5, 2][number])
+        refused(made(folder / f"j{number}", journal_of(b"".join(lines)) + GATE), at_entry([2, 2, 5, 2][number]))
 
 
-@case("by another numeric table it is refused, and by the right one it goes on")
+@case("with another numeric table it is refused, and with its own or none it goes on")
 def _(folder):
     decimals = LINES.replace(b'{"dimensions"', b'{"decimals":0,"dimensions"')
-    made(folder / "j", decimals + GATE)
-    done = subprocess.run(
-        [TRIED.program, "run", "--journal", str(folder / "j")], input=b"", capture_output=True, timeout=PATIENCE
-    )
-    expect("what came", (done.returncode, done.stdout, done.stderr), (4, b"", at_line(3)))
-    holds(folder / "j", decimals + GATE)
+    data = content(made(folder / "j", journal_of(decimals) + GATE))
+    made(folder / "table", b"http://e.org/t Assets\nhttp://e.org/t Other\n")
+    told = (2, b"", b"filing: the journal has another numeric table\n")
+    expect("another", said("run", "--numeric", folder / "table", "--journal", folder / "j", input=b""), told)
+    holds(folder / "j", data)
+    expect("none", said("run", "--journal", folder / "j", input=b""), (0, b"", b""))
     Run(folder / "j").ends()
+    made(folder / "k", journals.text_of([], [decimals]) + GATE)
+    expect("by its own it departs", said("run", "--journal", folder / "k", input=b""), (4, b"", at_entry(3)))
 
 
-@case(
-    "a line whose first letter is another, an empty line and one with a bracket more are refused, and nothing is cut off"
-)
+@case("an entry whose first letter is another, an empty line and one with a bracket more are refused")
 def _(folder):
     for number, new in enumerate([b"(1,", b"\n[1,", b"[[1,", b"[{1,", b"1,"]):
-        refused(made(folder / f"j{number}", lines_with(3, b"[1,", new) + GATE), 3)
+        refused(made(folder / f"j{number}", BEGUN.replace(LINES, lines_with(3, b"[1,", new)) + GATE), at_line(6))
 
 
-@case("cut off by hand before the line that it names, it goes on")
+@case("repaired behind a batch, it goes on from there, and what stood behind is kept beside it")
 def _(folder):
-    made(folder / "j", lines_with(3, b'"staged"', b'"stagee"') + GATE + b"torn")
-    refused(folder / "j", 3)
-    count = subprocess.run("sed '/^\\[[^[{]/!Q' j | wc -l", shell=True, cwd=folder, capture_output=True, check=True)
-    expect("the lines that count", int(count.stdout), 4)
-    by_hand = "head -n 2 j > j.new; echo >> j.new; sync j.new; mv j.new j; sync ."
-    subprocess.run(["sh", "-e", "-c", by_hand], cwd=folder, check=True)
-    Run(folder / "j").ends()
-    holds(folder / "j", b"".join(LINES.splitlines(True)[:2]) + GATE)
+    damaged = WHOLE.replace(b'["closed"]', b'["close"]') + GATE + b"torn"
+    refused(made(folder / "j", damaged), at_line(WHOLE.count(b"\n")))
+    expect("too many", said("repair", "--keep", 2, folder / "j")[:2], (4, b""))
+    expect("more than there are", said("repair", "--keep", 3, folder / "j")[:2], (2, b""))
+    holds(folder / "j", damaged)
+    alone(folder, "j")
+    expect("the first batch", said("repair", "--keep", 1, folder / "j")[:2], (0, b""))
+    holds(folder / "j", BEGUN + GATE)
+    holds(folder / "j.cut-1", damaged[len(BEGUN) :])
+    goes_on(folder / "j")
+    expect("none", said("repair", "--keep", 0, folder / "j")[:2], (0, b""))
+    begins_anew(folder / "j")
+
+
+@case("a journal is read up to its gate by the views, as a history to go on from, and written out")
+def _(folder):
+    for number, tail in enumerate([b"", GATE, *TAILS.values()]):
+        path = made(folder / f"j{number}", BEGUN + tail)
+        expect("history", said("history", path), (0, LINES, b""))
+        expect("show", said("show", path), (0, b'["version",2]\n["report","r1",1,"all"]\n', b""))
+        logged = b'[null,"load","r1",["loaded",1],null]\n[1,"amend",1,["committed",2],1,null,null,null]\n'
+        expect("log", said("log", path), (0, logged, b""))
+        expect("diff", said("diff", path, 0, 1)[:2], (0, b'["report","r1"]\n'))
+        expect("from", said("run", "--from", path, input=MORE), (0, MORE_REPLIES, b""))
+        holds(path, BEGUN + tail)
+    expect("check", said("check", folder / "j0")[:2], (4, b'["departs",0]\n'))
 
 
 # ---- paths that will not do
@@ -471,7 +548,7 @@ def _(folder):
         subprocess.run(["mount", "-o", "remount,ro", str(disk)], check=True)
         cannot_be_written(disk / "j")
         cannot_be_written(disk / "new")
-        holds(disk / "j", LINES + GATE)
+        keeps(disk / "j", LINES)
         subprocess.run(["mount", "-o", "remount,rw", str(disk)], check=True)
         goes_on(disk / "j")
 

@@ -9,12 +9,30 @@ from collections import Counter
 from concurrent.futures import ThreadPoolExecutor
 from pathlib import Path
 
+from model import journals
 from trials.lines import Clerk
-from trials.starts import GATE, PATIENCE, TRIED, Differs, Start, content, expect, judged, openings
+from trials.starts import (
+    GATE,
+    PATIENCE,
+    TRIED,
+    Differs,
+    Start,
+    content,
+    counted,
+    expect,
+    journal_of,
+    judged,
+    openings,
+)
 
 # So many kills are of one journal, and so many journals go on at once.
 KILLS_OF_ONE = 100
 JOBS = 2
+
+
+def without_marks(rubbish):
+    """Bytes with no line that begins as a mark does: where two do, what stands behind the gate is no put's."""
+    return rubbish.replace(b"\n{", b"\n(")
 
 
 class Life:
@@ -64,29 +82,30 @@ class Life:
         data = content(self.journal)
         lines, kept = self.start.left(self.lines, data)
         if len(lines) > len(self.lines):
-            judged(lines, self.folder)
+            judged(self.journal)
         self.lines, self.kept = lines, self.kept + kept
         self.clerk.start_again(openings(lines))
-        behind = data[len(lines) :]
+        _, behind = counted(data)
         # What was there when the program was started, and is there still, counts once.
         if (kept, behind) != ([], self.behind):
             self.counts["torn batches"] += len(behind) > 1
-            self.counts["without a gate"] += not behind
+            self.counts["without a gate"] += data != b"" and not behind
         self.behind = behind
         self.counts["entries found"] += len(kept)
         self.counts["replies told"] += self.start.told
         for line in self.start.sent:
             if line.told is not None:
                 self.counts[line.told[2:].split(b'"')[0].decode()] += 1
-        if self.draw.random() < 0.15:
-            self.spoil(lines)
+        if data and self.draw.random() < 0.15:
+            self.spoil(journals.recovered(data))
 
     def spoil(self, lines):
         """Puts behind the lines what a power cut could leave there: behind the gate a zero or what goes on an entry."""
-        rubbish = self.draw.randbytes(self.draw.choice([0, 1, 40, 5_000]))
-        entries = b"".join(self.draw.choices(lines.splitlines(True) or [b"[1]\n"], k=3))
-        tails = [GATE, GATE + b"\0" + rubbish, GATE + entries[1:] + GATE, GATE + entries[1:2] + rubbish]
-        self.behind = self.draw.choice([*tails, GATE + bytes(4096), b"", b"\0"])
+        rubbish = without_marks(self.draw.randbytes(self.draw.choice([0, 1, 40, 5_000])))
+        entries = b"".join(self.draw.choices(self.lines.splitlines(True) or [b"[1]\n"], k=3))
+        batch = journal_of(entries)[len(journal_of()) :]
+        tails = [GATE, GATE + b"\0" + rubbish, GATE + batch[1:] + GATE, GATE + batch[1:2] + rubbish]
+        self.behind = self.draw.choice([*tails, GATE + batch[1:-9], GATE + bytes(4096), b"", b"\0"])
         self.journal.write_bytes(lines + self.behind)
         self.counts["tails spoiled"] += 1
 
@@ -100,7 +119,7 @@ class Life:
     def compare_whole(self):
         data = content(self.journal)
         lines, kept = self.start.left(self.lines, data)
-        expect("what stands behind the lines", data[len(lines) :], GATE)
+        expect("what stands behind the lines", counted(data)[1], GATE)
         expect("entries of the last start", len(kept), sum(line.start is not None for line in self.start.sent))
         self.counts["entries found"] += len(kept)
         self.counts["replies told"] += self.start.told
@@ -109,7 +128,7 @@ class Life:
         subprocess.run(words, input=script, stdout=subprocess.DEVNULL, timeout=PATIENCE, check=True)
         if content(self.folder / "history") != lines:
             raise Differs("the history of its lines is another")
-        judged(data, self.folder)
+        judged(self.journal)
 
     def keep(self):
         """A folder with what there is of a journal that is otherwise."""

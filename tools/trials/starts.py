@@ -7,6 +7,8 @@ import threading
 import time
 
 from common import IS_ROOT, NOBODY, Differs, PassedOver, expect, shortened
+from model import journals
+from model.journals import GATE
 from trials.lines import INFO
 
 
@@ -24,8 +26,10 @@ WRITE_FAULT = b"filing: write fault\n"
 READ_FAULT = b"filing: read fault\n"
 NO_MEMORY = b"filing: no memory\n"
 IN_USE = b"filing: journal in use\n"
+NO_JOURNAL = b"filing: not a journal\n"
 FACT = '{"dimensions":{"concept":"ex:Assets"},"value":"1"}'
-GATE = b"\n"
+# The numeric table of all runs but those of stored scripts.
+ROWS = ["http://e.org/t Assets"]
 # An amendment, and a review that comes after it, each with its replies and its entries.
 SCRIPT = f'["load","r1",{{{INFO}}}]\n["open","s","amend"]\n["add","s","r1","f1",{FACT}]\n["commit","s"]\n'.encode()
 REPLIES = b'["loaded",1]\n["opened"]\n["staged"]\n["committed",2]\n'
@@ -43,23 +47,32 @@ NONE_REPLIES = b'["opened"]\n["no-report"]\n["closed"]\n'
 NONE_LINES = b'[1,["open","review"],["opened"]]\n[1,["get","r1","f1"],["no-report"]]\n[1,["close"],["closed"]]\n'
 
 
+def journal_of(*batches):
+    """The lines of a journal with these batches of entries."""
+    return journals.text_of(ROWS, batches)
+
+
+# Journals of the amendment, and of it with the review behind it.
+BEGUN, WHOLE = journal_of(LINES), journal_of(LINES, MORE_LINES)
+
+
 def at_line(number):
     return f"filing: journal, line {number}\n".encode()
 
 
+def at_entry(number):
+    return f"filing: journal, entry {number}\n".encode()
+
+
 def counted(data):
-    """The lines that a file stands for, and what stands behind them."""
-    end = 0
-    while data[end : end + 1] == b"[" and data[end + 1 : end + 2] not in (b"[", b"{"):
-        if (feed := data.find(b"\n", end)) < 0:
-            break
-        end = feed + 1
-    return data[:end], data[end:]
-
-
-def is_torn(tail):
-    """Whether a put or an opening that was cut short may leave this behind the lines."""
-    return tail in (b"", b"\0") or tail.startswith(GATE) and not tail.startswith((b"\n[", b"\n{"))
+    """The entries of a journal, and what stands behind its lines; nothing where there is no file yet."""
+    if not data:
+        return b"", b""
+    try:
+        found = journals.read(data)
+    except journals.Damaged as damaged:
+        raise Differs(f"the journal is damaged at its {damaged}") from None
+    return found.entries, found.tail
 
 
 def content(path):
@@ -85,12 +98,13 @@ def words_of(journal, every_reply=False, table=None):
 
 
 WARNING = re.compile(
-    rb"\Afiling: warning: journal, line \d+: \d+ bytes of a put that was under way were cut off, and kept in \".*\.cut-\d+\"\n"
+    rb"\Afiling: warning: journal: \d+ bytes of a put that was under way after \d+ entries were cut off, "
+    rb'and kept in ".*\.cut-\d+"\n|\Afiling: a new journal ".*"\n'
 )
 
 
 def without_warning(told):
-    """What was told on standard error, but for the line that tells what was cut off."""
+    """What was told on standard error, but for the line that tells what was cut off, or that a journal is new."""
     return WARNING.sub(b"", told)
 
 
@@ -179,10 +193,10 @@ class Start:
         return due
 
     def left(self, before, data):
-        """The lines that a journal with these lines before now has, compared with what was sent and told."""
+        """The entries that a journal with these entries before now has, compared with what was sent and told."""
         lines, _ = counted(data)
         if not lines.startswith(before):
-            raise Differs("lines that were there are not there any more")
+            raise Differs("entries that were there are not there any more")
         found = lines[len(before) :].split(b"\n")[:-1]
         wanted = [line for line in self.sent if line.start is not None]
         if len(found) > len(wanted):
@@ -196,13 +210,9 @@ class Start:
         return lines, wanted[: len(found)]
 
 
-def judged(data, folder):
-    """These lines are a lawful history."""
-    path = made(folder / "judged", data)
-    done = subprocess.run(
-        [TRIED.program, "check", "--numeric", TRIED.table, str(path)], capture_output=True, timeout=PATIENCE
-    )
-    path.unlink()
+def judged(journal):
+    """Its marks are as they must be, and its entries are a lawful history."""
+    done = subprocess.run([TRIED.program, "verify", str(journal)], capture_output=True, timeout=PATIENCE)
     expect("the verdict", (done.returncode, done.stdout, done.stderr), (0, b'["lawful"]\n', b""))
 
 
@@ -240,6 +250,11 @@ def holds(path, data):
     expect(path.name, path.read_bytes(), data)
 
 
+def keeps(path, entries):
+    """A journal is there, at rest, with these entries."""
+    expect(f"the entries of {path.name}, and what stands behind them", counted(path.read_bytes()), (entries, GATE))
+
+
 def alone(folder, *names):
     """Nothing else is in the folder."""
     expect("the folder", sorted(it.name for it in folder.iterdir()), sorted(names))
@@ -248,27 +263,28 @@ def alone(folder, *names):
 def begun(journal):
     """A new journal with the amendment."""
     Run(journal, SCRIPT).ends(0, REPLIES)
-    holds(journal, LINES + GATE)
+    keeps(journal, LINES)
     return journal
 
 
 def goes_on(journal):
     """The journal of the amendment takes the review that comes after it, and is at rest then."""
     Run(journal, MORE).ends(0, MORE_REPLIES)
-    expect("the journal", journal.read_bytes(), LINES + MORE_LINES + GATE)
+    keeps(journal, LINES + MORE_LINES)
 
 
 def begins_anew(journal):
-    """A journal in which nothing counts takes the review."""
+    """A journal without an entry, or a new one, takes the review."""
     Run(journal, MORE).ends(0, NONE_REPLIES)
-    expect("the journal", journal.read_bytes(), NONE_LINES + GATE)
+    keeps(journal, NONE_LINES)
 
 
-def refused(journal, number):
-    """The file is told to depart at this line, whatever the script, and stays as it is."""
+def refused(journal, told):
+    """The file is refused in these words, whatever the script, and stays as it is."""
     before, found = journal.read_bytes(), os.lstat(journal)
     for script in (b"", MORE):
-        Run(journal, script).ends(4, b"", at_line(number))
+        run = Run(journal, script)
+        expect("how it ends", (run.status, run.written, run.told.splitlines(True)[-1:]), (4, b"", [told]))
         expect("the journal", journal.read_bytes(), before)
     expect("its time", os.lstat(journal).st_mtime_ns, found.st_mtime_ns)
 
